@@ -1,0 +1,46 @@
+//! Reads a dump and a script, and answers each line of the script.
+#![tactic(auto)]
+
+use plan_base::{NoMemory, Steps, Text};
+use plan_io::{HostSink, HostStore};
+use planner_cli::{Status, run};
+use std::alloc::Global;
+use std::process::ExitCode;
+use std::rt::Env;
+use std::{env, io};
+
+// Marks the counter of the program.
+#[derive(Drop)]
+struct Program;
+
+// The program's words, or none at all where one is not UTF-8.
+fn program_words<R: Env + AllocGlobal>(rt: &R, alloc: Global) -> Result<Vec<Text>, NoMemory> {
+    let mut words = Vec::new(alloc);
+    match env::args(rt) {
+        Ok(arguments) => {
+            for argument in arguments {
+                words.push(Text::copy(alloc, argument.as_str())?)?;
+            }
+        }
+        Err(error) => {
+            if error.kind() == io::ErrorKind::OutOfMemory {
+                return Err(NoMemory);
+            }
+        }
+    }
+    Ok(words)
+}
+
+fn main(rt: HostRuntime) -> ExitCode {
+    let alloc = rt.alloc();
+    let status = match program_words(&rt, alloc) {
+        Ok(words) => {
+            let mut store = HostStore::make(&rt);
+            let mut out = HostSink::make(&rt);
+            let mut steps = Steps::new(Program);
+            run(alloc, &words, &mut store, &mut out, &mut steps).status
+        }
+        Err(NoMemory) => Status::NoMemory,
+    };
+    ExitCode::from(status.exit())
+}

@@ -1,0 +1,102 @@
+-- Well formed linear forms, their plans, and prices that show a plan to be cheapest or that there is none.
+use Rattle.std.specs.Prelude.{◌≡◌, ℕ, suc, ◌+◌, ◌<◌, ◌≤◌, List, [], ◌∷◌, ◌++◌, map, length, Option, Some, None, slice_get, slice_index_or, if◌then◌else◌, ◌==◌}
+use Rattle.fractions.specs.Fraction.{Fraction, zero_fraction, one_fraction, negated, ◌*ʳ◌, ◌≤ʳ◌, ◌<ʳ◌}
+use Rattle.linear_table.specs.System.{sum_below, AllDiffer}
+use Rattle.linear_table.specs.Trail.{count_up}
+use Rattle.plan_base.specs.declared.ids.GoodId.{GoodId}
+use Rattle.linear_table.specs.declared.Column.TheVariants.{Line, Import, Surplus}
+use Rattle.linear_table.specs.declared.Linear.{Linear}
+use Rattle.linear_table.specs.declared.LinearColumn.{LinearColumn}
+
+-- ---- the numbers of a linear form
+abbrev pub good_count : Linear → ℕ
+good_count l = length l.goods.items
+
+abbrev pub column_count : Linear → ℕ
+column_count l = length l.columns.items
+
+-- the part at a good's place, 0 where there is none
+abbrev pub part_at : List (ℕ × Fraction) → ℕ → Fraction
+part_at [] g = zero_fraction
+part_at (p ∷ ps) g = if p.0 == g then p.1 else part_at ps g
+
+abbrev pub parts_of : Option LinearColumn → List (ℕ × Fraction)
+parts_of (Some c) = c.parts.items
+parts_of None = []
+
+abbrev pub price_of : Option LinearColumn → Fraction
+price_of (Some c) = c.price
+price_of None = zero_fraction
+
+-- what one unit of the column at j adds to the good at g
+abbrev pub column_part : Linear → ℕ → ℕ → Fraction
+column_part l j g = part_at (parts_of (slice_get l.columns.items j)) g
+
+abbrev pub column_price : Linear → ℕ → Fraction
+column_price l j = price_of (slice_get l.columns.items j)
+
+-- the number at a place, 0 past the end
+abbrev pub number_at : List Fraction → ℕ → Fraction
+number_at xs k = slice_index_or xs k zero_fraction
+
+abbrev pub want_at : Linear → ℕ → Fraction
+want_at l g = number_at l.wants.items g
+
+-- ---- well formed
+-- strictly increasing places from k on below n
+abbrev pub Rises : ℕ → ℕ → List (ℕ × Fraction) → Type 0
+Rises k n [] = Unit {0}
+Rises k n (p ∷ ps) = (k ≤ p.0) × (p.0 < n) × Rises (suc p.0) n ps
+
+-- the only part of the column at j is x, at the place of the good
+pub record HasOnePart (l : Linear) (j : ℕ) (good : GoodId) (x : Fraction) : Type 0 where
+  pub place : ℕ
+  pub place_of : slice_get l.goods.items place ≡ Some good
+  pub parts_are : parts_of (slice_get l.columns.items j) ≡ (place, x) ∷ []
+
+abbrev pub numbers_of : List GoodId → List ℕ
+numbers_of goods = map (λ g. g.0) goods
+
+pub record IsWellFormed (l : Linear) : Type 0 where
+  pub wants_fit : length l.wants.items ≡ length l.goods.items
+  pub goods_differ : AllDiffer (numbers_of l.goods.items)
+  pub parts_rise : (j : ℕ) → Rises 0 (length l.goods.items) (parts_of (slice_get l.columns.items j))
+  pub line_count : ℕ
+  pub imports : List GoodId
+  pub surpluses : List GoodId
+  pub names_are : map (λ c. c.column) l.columns.items ≡ map (λ i. Line i) (count_up 0 line_count) ++ (map (λ g. Import g) imports ++ map (λ g. Surplus g) surpluses)
+  pub imports_differ : AllDiffer (numbers_of imports)
+  pub surpluses_differ : AllDiffer (numbers_of surpluses)
+  pub import_parts : (k : ℕ) (g : GoodId) → slice_get imports k ≡ Some g → HasOnePart l (line_count + k) g one_fraction
+  pub surplus_parts : (k : ℕ) (g : GoodId) → slice_get surpluses k ≡ Some g → HasOnePart l (line_count + length imports + k) g (negated one_fraction)
+  pub prices : (j : ℕ) → zero_fraction ≤ʳ column_price l j
+  pub wants : (g : ℕ) → zero_fraction ≤ʳ want_at l g
+
+-- ---- plans
+-- one rate per column, none negative, which add what is wanted to each good
+pub record IsPlan (l : Linear) (rates : List Fraction) : Type 0 where
+  pub length_is : length rates ≡ column_count l
+  pub nonneg : (j : ℕ) → zero_fraction ≤ʳ number_at rates j
+  pub balances : (g : ℕ) → g < good_count l → sum_below (column_count l) (λ j. column_part l j g *ʳ number_at rates j) ≡ want_at l g
+
+abbrev pub cost_of : Linear → List Fraction → Fraction
+cost_of l rates = sum_below (column_count l) (λ j. number_at rates j *ʳ column_price l j)
+
+-- what one unit of a column is worth at one price per good, and what the wants are worth
+abbrev pub value_of : Linear → List Fraction → ℕ → Fraction
+value_of l prices j = sum_below (good_count l) (λ g. column_part l j g *ʳ number_at prices g)
+
+abbrev pub wants_value : Linear → List Fraction → Fraction
+wants_value l prices = sum_below (good_count l) (λ g. want_at l g *ʳ number_at prices g)
+
+-- no column is worth more than its own price, and the wants are worth the cost
+pub record AreLeastCostPrices (l : Linear) (prices : List Fraction) (cost : Fraction) : Type 0 where
+  pub length_is : length prices ≡ good_count l
+  pub no_gain : (j : ℕ) → j < column_count l → value_of l prices j ≤ʳ column_price l j
+  pub same_value : wants_value l prices ≡ cost
+
+-- no column is worth more than 0, and the wants are
+pub record AreInfeasibilityPrices (l : Linear) (prices : List Fraction) : Type 0 where
+  pub length_is : length prices ≡ good_count l
+  pub no_gain : (j : ℕ) → j < column_count l → value_of l prices j ≤ʳ zero_fraction
+  pub above : zero_fraction <ʳ wants_value l prices
