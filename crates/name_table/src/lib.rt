@@ -1,0 +1,132 @@
+//! Names and their numbers, in the order in which they were first seen.
+#![tactic(auto)]
+
+#[cfg(test)]
+mod tests;
+
+ghost use Rattle.std.specs.Prelude.{◌≡◌, ◌+◌, ◌<◌, ◌≤◌, ◌∷◌, ◌++◌, [], None, Some, Err, IfOk, OnErr, IfSome, IfNone, length, map, slice_get, string_bytes};
+ghost use Rattle.indexmap.specs.IndexSet.{index_set_len};
+ghost use Rattle.name_table.specs.Names.{AreDifferent, place_of, with_name};
+
+use indexmap::IndexSet;
+use plan_base::NoMemory;
+use std::alloc::{AllocError, AllocFailed, Global};
+use std::marker::Model;
+
+/// The most names that a table holds.
+pub const NAME_LIMIT: usize = 131_072;
+
+/// Why a name gets no number.
+#[derive(Clone, Copy, Debug, PartialEq, Eq)]
+pub enum NameFault {
+    /// The name is new, and the table holds `NAME_LIMIT` names.
+    Full,
+    /// Memory could not be had.
+    NoMemory,
+}
+
+/// Different names in the order in which they were first seen. The number of a name is its place.
+#[derive(Drop)]
+pub struct Names {
+    alloc: Global,
+    set: IndexSet<String>,
+}
+
+impl Model for Names {
+    ghost use Rattle.std.specs.Prelude.{List, ℕ, ◌≤◌, map, string_bytes};
+    ghost use Rattle.indexmap.specs.IndexSet.{index_set_len};
+
+    ghost Value = { List (List ℕ) };
+
+    ghost view = { λ n. map string_bytes n.set.keys };
+
+    ghost invariant = { λ n. index_set_len n.set ≤ 131072 };
+}
+
+// The place of a name.
+fn place_in(set: &IndexSet<String>, name: &str) -> Option<usize>
+    ensures place { result ≡ place_of (map string_bytes set.now.keys) name.now }
+    ensures within { IfSome result (λ place. place < index_set_len set.now) }
+{
+    set.get_index_of(name)
+}
+
+// Puts a new name at the end, or answers None where memory could not be had.
+fn append(set: &mut IndexSet<String>, name: String) -> Option<usize>
+    requires { place_of (map string_bytes set.old.keys) (string_bytes name) ≡ None }
+    ensures place { IfSome result (λ place. place ≡ index_set_len set.old) }
+    ensures names { IfSome result (λ place. map string_bytes set.new.keys ≡ map string_bytes set.old.keys ++ string_bytes name ∷ []) }
+    ensures len { IfSome result (λ place. index_set_len set.new ≡ index_set_len set.old + 1) }
+    ensures same { IfNone result (map string_bytes set.new.keys ≡ map string_bytes set.old.keys) }
+{
+    let Ok((place, _)) = set.insert_full(name) else {
+        return None;
+    };
+    Some(place)
+}
+
+impl Names {
+    /// No names. It takes no memory.
+    pub fn make(alloc: Global) -> Names
+        ensures { result ≡ [] }
+    {
+        Names {
+            alloc,
+            set: IndexSet::new(alloc),
+        }
+    }
+
+    /// The number of a name, which is appended where it is new.
+    ///
+    /// # Errors
+    ///
+    /// `Full` where the name is new and there are `NAME_LIMIT` names. After an error the names are as before.
+    pub fn intern(&mut self, name: &str) -> Result<u32, NameFault>
+        ensures place { IfOk result (λ id. place_of self.new name.now ≡ Some id) }
+        ensures names { IfOk result (λ id. self.new ≡ with_name self.old name.now) }
+        ensures full { result ≡ Err NameFault.Full → (place_of self.old name.now ≡ None) × (length self.old ≡ NAME_LIMIT) }
+        ensures room { IfOk result (λ id. id < NAME_LIMIT) }
+        ensures err { OnErr result (self.new ≡ self.old) }
+    {
+        if let Some(place) = place_in(&self.set, name) {
+            return Ok(place as u32);
+        }
+        if self.set.len() >= NAME_LIMIT {
+            return Err(NameFault::Full);
+        }
+        let Ok(owned) = String::from_str(self.alloc, name) else {
+            return Err(NameFault::NoMemory);
+        };
+        let Some(place) = append(&mut self.set, owned) else {
+            return Err(NameFault::NoMemory);
+        };
+        Ok(place as u32)
+    }
+
+    /// The number of a name, where it is there.
+    pub fn find(&self, name: &str) -> Option<u32>
+        ensures { result ≡ place_of self.now name.now }
+    {
+        match place_in(&self.set, name) {
+            Some(place) => Some(place as u32),
+            None => None,
+        }
+    }
+
+    /// The name of a number.
+    pub fn name_of(&self, id: u32) -> &str
+        requires { id < length self.now }
+        ensures { slice_get self.now id ≡ Some result.now }
+    {
+        self.set[id as usize].as_str()
+    }
+
+    /// How many names there are.
+    pub fn len(&self) -> u32
+        ensures length { result ≡ length self.now }
+        ensures limit { length self.now ≤ NAME_LIMIT }
+        ensures different { AreDifferent self.now }
+    {
+        self.set.len() as u32
+    }
+}
