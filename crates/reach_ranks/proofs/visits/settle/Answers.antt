@@ -1,0 +1,30 @@
+-- With no key left the ranks are right.
+use Rattle.std.proofs.Common.{arith, length}
+use Rattle.reach_ranks.specs.Rounds.{world}
+use Rattle.reach_ranks.proofs.GivenLemmas.{ranks-from_none}
+use Rattle.reach_ranks.proofs.RepairLemmas.{none-everywhere, empty-from_none}
+use Rattle.reach_ranks.proofs.visits.settle.Goals as goal
+
+pub returns-clause-ranks : goal.returns-clause-ranks
+returns-clause-ranks g c =
+    ranks-from_none
+    (world (g.R.Rows.rows c.args.rows.now) c.args.barred.now c.args.granted.now c.args.extra)
+    c.requires.marks
+    4294967295
+    c.visit_least.new.ranks
+    c.visit_least.new.heap
+    (omega arith)
+    c.visit_least.ensures.keys
+    (none-everywhere
+    c.visit_least.new.heap
+    (length (g.R.Rows.rows c.args.rows.now))
+    c.visit_least.ensures.keys.heap_long
+    (c.visit_least.ensures.none c.visits-test.false))
+
+pub returns-clause-heap : goal.returns-clause-heap
+returns-clause-heap g c =
+    empty-from_none
+    c.visit_least.new.heap
+    (length (g.R.Rows.rows c.args.rows.now))
+    c.visit_least.ensures.keys.heap_long
+    (c.visit_least.ensures.none c.visits-test.false)
