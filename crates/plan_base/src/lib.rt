@@ -6,10 +6,12 @@ mod ids;
 mod items;
 mod shape;
 mod steps;
+#[cfg(test)]
+mod tests;
 mod text;
 
 pub use ids::{EntityId, GoodId, NodeId, RecipeId, SourceId, TableId, TechId, World};
 pub use items::Items;
 pub use shape::{Kind, Shape};
 pub use steps::Steps;
-pub use text::{NoMemory, Text};
+pub use text::{NoMemory, Text, text_of};

@@ -88,7 +88,12 @@ impl Shape {
             Kind::Recipe => 3 + self.items + self.fluids,
             Kind::Source => 3 + self.items + self.fluids + self.recipes,
             Kind::Machine => 3 + self.items + self.fluids + self.recipes + self.sources,
-            Kind::Tech => 3 + self.items + self.fluids + self.recipes + self.sources + self.machines,
+            Kind::Tech => 3
+                + self.items
+                + self.fluids
+                + self.recipes
+                + self.sources
+                + self.machines,
         };
         NodeId(first + index)
     }

@@ -1,8 +1,10 @@
 ghost use Rattle.std.specs.Prelude.{◌≡◌, ℕ, List, IfOk, string_bytes};
+ghost use Rattle.std.specs.Str.{IsUtf8};
 
 use std::alloc::{AllocError, AllocFailed, Global};
 use std::convert::AsStr;
 use std::marker::Model;
+use std::str::from_utf8;
 
 /// Memory could not be had.
 #[derive(Clone, Copy, Debug, PartialEq, Eq)]
@@ -65,5 +67,16 @@ impl AsStr for Text {
 
     fn as_str(&self) -> &str {
         Text::as_str(self)
+    }
+}
+
+/// Bytes of UTF-8 as a text. It takes no memory.
+pub fn text_of(bytes: &[u8]) -> &str
+    requires { IsUtf8 bytes.now }
+    ensures { result.now ≡ bytes.now }
+{
+    match from_utf8(bytes) {
+        Ok(text) => text,
+        Err(_) => unreachable!(),
     }
 }
