@@ -1,5 +1,5 @@
 -- The users of every node, kept beside the rows.
-use Rattle.std.specs.Prelude.{ℕ, ◌-◌, ◌^◌, ◌<◌, ◌≡◌, ◌==◌, Bool, false, List, [], ◌∷◌, ◌++◌, Option, Some, None, Vec, if◌then◌else◌, length, slice_get}
+use Rattle.std.specs.Prelude.{ℕ, ◌-◌, ◌^◌, ◌<◌, ◌≡◌, ◌==◌, Bool, false, List, [], ◌∷◌, ◌++◌, Option, Some, None, Vec, if◌then◌else◌, length, slice_get, slice_index_or}
 use Rattle.std.specs.Global.{Global}
 use Rattle.plan_base.specs.declared.NodeId.{NodeId}
 use Rattle.graph_store.specs.declared.Row.{Row}
@@ -14,12 +14,18 @@ nodes_of (Some nodes) = nodes.items
 abbrev pub users_at : List (Vec NodeId Global) → ℕ → List NodeId
 users_at users node = nodes_of (slice_get users node)
 
--- the lists hold the users of each node
-pub record IsGraph (rows : List Row) (users : List (Vec NodeId Global)) : Type 0 where
+-- no node is marked
+abbrev pub AreClear : List Bool → Type 0
+AreClear marks = (n : ℕ) → slice_index_or marks n false ≡ false
+
+-- the lists hold the users of each node, and no node is marked
+pub record IsGraph (rows : List Row) (users : List (Vec NodeId Global)) (marks : List Bool) : Type 0 where
   pub few : length rows < 2 ^ 32 - 1
   pub members : AreMembersBelow (length rows) rows
   pub as_long : length users ≡ length rows
   pub each : (node : ℕ) → node < length rows → AreUsers rows node (users_at users node)
+  pub marks_long : length marks ≡ length rows
+  pub clear : AreClear marks
 
 -- whether there is a node and it is this one
 abbrev pub is_the_node : Option NodeId → ℕ → Bool

@@ -1,8 +1,8 @@
-// A queue of nodes by key, as a tree of the least entries.
+//! A queue of nodes by key, as a tree of the least entries.
 #![tactic(auto)]
 
-ghost use Rattle.std.specs.Prelude.{◌≡◌, ℕ, ◌+◌, ◌*◌, ◌<◌, ◌≤◌, None, Some, length, slice_set, replicate, IfOk, IfSome, IfNone};
-ghost use Rattle.index_heap.specs.Keys.{key_at, IsLeastAt};
+ghost use Rattle.std.specs.Prelude.{◌≡◌, ℕ, ◌+◌, ◌*◌, ◌<◌, ◌≤◌, ◌↔◌, None, Some, length, slice_set, replicate, IfOk, IfSome, IfNone, IsTrue};
+ghost use Rattle.index_heap.specs.Keys.{key_at, IsLeastAt, HasNoKeys};
 ghost use Rattle.index_heap.specs.Tree.{entry_at, lesser_entry, with_node, AreLesser, IsTree};
 
 use plan_base::{NoMemory, NodeId};
@@ -74,7 +74,7 @@ fn write(keys: &mut [Option<u32>], tree: &mut [Option<(u32, u32)>], node: u32, k
 fn least(keys: &[Option<u32>], tree: &[Option<(u32, u32)>]) -> Option<(u32, u32)>
     requires { IsTree (length keys.now) keys.now tree.now }
     ensures some { IfSome result (λ pair. IsLeastAt keys.now (length keys.now) pair.1 pair.0) }
-    ensures none { IfNone result ((v : ℕ) → v < length keys.now → key_at keys.now v ≡ None) }
+    ensures none { IfNone result (HasNoKeys keys.now) }
 {
     if keys.len() == 0 {
         return None;
@@ -101,7 +101,13 @@ impl Model for Heap {
 }
 
 impl Heap {
-    /// No node has a key.
+    /// A queue for the nodes below `n`, in which no node has a key.
+    ///
+    /// It is the only call that takes memory.
+    ///
+    /// # Errors
+    ///
+    /// `NoMemory` where memory could not be had.
     pub fn make(alloc: Global, n: u32) -> Result<Heap, NoMemory>
         ensures { IfOk result (λ heap. heap ≡ replicate n None) }
     {
@@ -128,10 +134,25 @@ impl Heap {
         write(&mut self.keys, &mut self.tree, node.0, None);
     }
 
+    /// Whether no node has a key.
+    pub fn is_empty(&self) -> bool
+        ensures { IsTrue result ↔ HasNoKeys self.now }
+    {
+        least(&self.keys, &self.tree).is_none()
+    }
+
+    /// The key of the node, where it has one.
+    pub fn key_of(&self, node: NodeId) -> Option<u32>
+        requires { node.0 < length self.now }
+        ensures { result ≡ key_at self.now node.0 }
+    {
+        self.keys[node.0 as usize]
+    }
+
     /// Takes out the node of the least key, the lower node among equals.
     pub fn take_least(&mut self) -> Option<(NodeId, u32)>
         ensures none { IfNone result (self.new ≡ self.old) }
-        ensures empty { IfNone result ((n : ℕ) → n < length self.old → key_at self.old n ≡ None) }
+        ensures empty { IfNone result (HasNoKeys self.old) }
         ensures some { IfSome result (λ pair. self.new ≡ slice_set self.old pair.0.0 None) }
         ensures least { IfSome result (λ pair. IsLeastAt self.old (length self.old) pair.0.0 pair.1) }
     {
@@ -142,5 +163,41 @@ impl Heap {
                 Some((NodeId(node), key))
             }
         }
+    }
+}
+
+#[cfg(test)]
+mod tests {
+    use super::*;
+    use std::test::Fail;
+
+    // Keys by node, and the order in which the nodes are taken out.
+    #[test]
+    fn takes_the_least_first_and_the_lower_node_among_equals(rt: HostRuntime) -> Result<(), Fail> {
+        let mut heap = Heap::make(rt.alloc(), 5)?;
+        assert!(rt; heap.is_empty());
+        heap.set(NodeId(3), 7);
+        heap.set(NodeId(0), 9);
+        heap.set(NodeId(4), 2);
+        heap.set(NodeId(1), 7);
+        heap.set(NodeId(2), 1);
+        heap.set(NodeId(4), 8);
+        heap.drop_key(NodeId(2));
+        assert_eq!(rt; heap.key_of(NodeId(4)), Some(8));
+        assert_eq!(rt; heap.key_of(NodeId(2)), None);
+        for want in [Some((1, 7)), Some((3, 7)), Some((4, 8)), Some((0, 9)), None] {
+            let taken = heap.take_least().map(|pair| (pair.0.0, pair.1));
+            assert_eq!(rt; taken, want);
+        }
+        assert!(rt; heap.is_empty());
+        Ok(())
+    }
+
+    #[test]
+    fn a_queue_for_no_nodes_is_empty(rt: HostRuntime) -> Result<(), Fail> {
+        let mut heap = Heap::make(rt.alloc(), 0)?;
+        assert!(rt; heap.is_empty());
+        assert!(rt; heap.take_least().is_none());
+        Ok(())
     }
 }
