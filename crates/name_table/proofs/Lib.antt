@@ -1,1 +1,1 @@
-mod NamesLemmas
+pub mod NamesLemmas

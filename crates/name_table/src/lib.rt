@@ -105,7 +105,8 @@ impl Names {
 
     /// The number of a name, where it is there.
     pub fn find(&self, name: &str) -> Option<u32>
-        ensures { result ≡ place_of self.now name.now }
+        ensures place { result ≡ place_of self.now name.now }
+        ensures within { IfSome result (λ id. id < length self.now) }
     {
         match place_in(&self.set, name) {
             Some(place) => Some(place as u32),

@@ -27,141 +27,155 @@ fn files(alloc: Global, dump: &str, script: &str) -> Result<Vec<(Text, Vec<u8>)>
 fn check(
     rt: &(impl Abort + AllocGlobal),
     words: &[&str],
+    dump: &str,
     script: &str,
     read_fails: u32,
     write_fails: u32,
     status: Status,
-    taken: u64,
     written: &str,
 ) -> Result<(), Fail> {
     let alloc = rt.alloc();
     let words = texts(alloc, words)?;
     let mut store = MemStore::make(
         alloc,
-        files(alloc, "{}", script)?,
+        files(alloc, dump, script)?,
         vec![in alloc; read_fails]?,
     )?;
     let mut out = MemSink::make(alloc, 1000, vec![in alloc; write_fails]?)?;
     let mut steps = Steps::new(Test);
     let outcome = run(alloc, &words, &mut store, &mut out, &mut steps);
     assert_eq!(rt; outcome.status, status);
-    assert_eq!(rt; outcome.taken, taken);
     assert_eq!(rt; out.written(), written.as_bytes());
     Ok(())
 }
 
-const SCRIPT: &str = "a\nbb\r\n\nccc";
+const WORDS: [&str; 4] = ["p", "run", "d", "s"];
 
-const REPORT: &str = "1 line 1 of 2\n2 line 2 of 2\n3 line 0 of 2\n4 line 3 of 2\n";
+const DUMP: &str =
+    "{\"character\":{\"character\":{\"crafting_categories\":[\"crafting\"]}},\"item\":{\"a\":{},\"b\":{}},\"recipe\":{\"f\":{\"ingredients\":{},\"result\":\"a\"},\"g\":{\"ingredients\":[[\"a\",2]],\"result\":\"b\"}}}";
+
+const SCRIPT: &str = "reach item:b\nreach recipe:g";
+
+const REPORT: &str = "1 reach item:b rank 5\n2 reach recipe:g rank 4\n";
 
 #[test]
-fn a_report_is_written(rt: HostRuntime) -> Result<(), Fail> {
+fn ranks_are_reported(rt: HostRuntime) -> Result<(), Fail> {
+    let words = WORDS.as_slice();
+    check(&rt, words, DUMP, SCRIPT, 0, 0, Status::Done, REPORT)?;
     check(
         &rt,
-        &["p", "run", "d", "s"],
-        SCRIPT,
+        words,
+        DUMP,
+        "reach item:b\r\nreach recipe:g\r\n",
         0,
         0,
         Status::Done,
-        4,
         REPORT,
+    )?;
+    check(&rt, words, "{}", "", 0, 0, Status::Done, "")?;
+    check(&rt, words, "[]", "", 0, 0, Status::Done, "")?;
+    check(
+        &rt,
+        words,
+        "{\"item\":{\"a\":{\"name\":\"a\"}}}",
+        "reach item:b\nreach item:a\n",
+        0,
+        0,
+        Status::SomeRefused,
+        "1 refused X1 item:b\n2 reach item:a no\n",
+    )
+}
+
+#[test]
+fn later_forms_are_not_yet_answered(rt: HostRuntime) -> Result<(), Fail> {
+    let words = WORDS.as_slice();
+    let not_yet = "not yet\n";
+    check(&rt, words, "{} {}", "", 0, 0, Status::NotYet, not_yet)?;
+    check(
+        &rt,
+        words,
+        "{\"fluid\":{}}",
+        "",
+        0,
+        0,
+        Status::NotYet,
+        not_yet,
     )?;
     check(
         &rt,
-        &["p", "--", "run", "d", "s"],
-        SCRIPT,
+        words,
+        "{\"recipe\":{\"r\":{\"ingredients\":[],\"result\":\"x\"}}}",
+        "",
         0,
         0,
-        Status::Done,
-        4,
-        REPORT,
+        Status::NotYet,
+        not_yet,
     )?;
     check(
         &rt,
-        &["p", "run", "d", "s", "--"],
-        SCRIPT,
+        words,
+        DUMP,
+        "reach item:b\nundo\n",
         0,
         0,
-        Status::Done,
-        4,
-        REPORT,
-    )?;
-    check(&rt, &["p", "run", "d", "s"], "", 0, 0, Status::Done, 0, "")
+        Status::NotYet,
+        not_yet,
+    )
 }
 
 #[test]
 fn undefined_words(rt: HostRuntime) -> Result<(), Fail> {
     let bad = "bad words\n";
-    check(&rt, &[], SCRIPT, 0, 0, Status::BadWords, 0, bad)?;
+    check(&rt, &[], DUMP, SCRIPT, 0, 0, Status::BadWords, bad)?;
     check(
         &rt,
         &["p", "run", "d"],
+        DUMP,
         SCRIPT,
         0,
         0,
         Status::BadWords,
-        0,
-        bad,
-    )?;
-    check(
-        &rt,
-        &["p", "-v", "run", "d", "s"],
-        SCRIPT,
-        0,
-        0,
-        Status::BadWords,
-        0,
         bad,
     )?;
     check(
         &rt,
         &["p", "go", "d", "s"],
+        DUMP,
         SCRIPT,
         0,
         0,
         Status::BadWords,
-        0,
-        bad,
-    )?;
-    check(
-        &rt,
-        &["p", "--", "--", "d", "s"],
-        SCRIPT,
-        0,
-        0,
-        Status::BadWords,
-        0,
         bad,
     )
 }
 
 #[test]
 fn faults(rt: HostRuntime) -> Result<(), Fail> {
-    let words = &["p", "run", "d", "s"];
+    let words = WORDS.as_slice();
     check(
         &rt,
         &["p", "run", "d", "t"],
+        DUMP,
         SCRIPT,
         0,
         0,
         Status::ReadFault,
-        0,
         "",
     )?;
-    check(&rt, words, SCRIPT, 1, 0, Status::ReadFault, 0, "")?;
-    check(&rt, words, SCRIPT, 5, 0, Status::ReadFault, 0, "")?;
+    check(&rt, words, DUMP, SCRIPT, 1, 0, Status::ReadFault, "")?;
+    check(&rt, words, DUMP, SCRIPT, 6, 0, Status::ReadFault, "")?;
 
-    // The second line is not answered before the first reply is written.
-    check(&rt, words, SCRIPT, 0, 1, Status::WriteFault, 1, "")?;
+    // Each reply is written before the next line is answered.
+    check(&rt, words, DUMP, SCRIPT, 0, 1, Status::WriteFault, "")?;
     check(
         &rt,
         words,
+        DUMP,
         SCRIPT,
         0,
         2,
         Status::WriteFault,
-        2,
-        "1 line 1 of 2\n",
+        "1 reach item:b rank 5\n",
     )
 }
 
