@@ -1,2 +1,3 @@
 pub mod WorldLemmas
 pub mod RepairedLemmas
+pub mod LawLemmas

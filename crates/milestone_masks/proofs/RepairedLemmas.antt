@@ -58,8 +58,8 @@ sizes-more rows changed old new k m before lt long e =
     let inside : k < length new = omega arith in
     let was : ranks_of (slice_get old k) ≡ before = ap (λ (o : Option Milestone). ranks_of o) (slice_get-get_or old k m lt) ∙ sym e in
     let is : ranks_of (slice_get (set new k m) k) ≡ m.ranks =
-      ap (λ (o : Option Milestone). ranks_of o) (slice_get-get_or (set new k m) k m (omega (arith, length-set new k m)))
-      ∙ ap (λ (x : Milestone). x.ranks) (get_or-set_same new k m m inside) in
+    ap (λ (o : Option Milestone). ranks_of o) (slice_get-get_or (set new k m) k m (omega (arith, length-set new k m)))
+    ∙ ap (λ (x : Milestone). x.ranks) (get_or-set_same new k m m inside) in
     rw (add-one k) (omega (
       arith,
       ap (λ (xs : List ℕ). size_of rows changed xs (ranks_of (slice_get (set new k m) k))) was,

@@ -1,13 +1,14 @@
 //! The worlds of all milestones.
-ghost use Rattle.std.specs.Prelude.{◌≡◌, ℕ, ◌+◌, ◌*◌, ◌-◌, ◌^◌, ◌<◌, ◌≤◌, ◌↔◌, ◌∷◌, List, None, Some, [], not, All, filter, insert, length, map, remove, replicate, slice_get, slice_index, IfErr, IfOk, IsTrue, OnErr, OnOk};
+ghost use Rattle.std.specs.Prelude.{◌≡◌, ℕ, ◌+◌, ◌*◌, ◌-◌, ◌^◌, ◌<◌, ◌≤◌, ◌↔◌, ◌∷◌, List, None, Some, [], not, All, filter, insert, length, map, min, remove, replicate, slice_get, slice_index, IfErr, IfOk, IsTrue, OnErr, OnOk};
 ghost use Rattle.reach_ranks.specs.Rounds.{world, IsWhole};
 ghost use Rattle.reach_ranks.specs.Ranks.{AreRanks};
 ghost use Rattle.reach_ranks.specs.Given.{size_of, sum_below};
-ghost use Rattle.milestone_masks.specs.Worlds.{mask_of, milestones_of, place_of, ranked, size_in_world, size_of_all, AddAnswer, AddsWorld, AgreeBut, AgreeInWorlds, AreWorlds};
+ghost use Rattle.milestone_masks.specs.Worlds.{mask_of, milestones_of, missing_in, place_of, ranked, size_in_world, size_of_all, AddAnswer, AddsWorld, AgreeBut, AgreeInWorlds, AreWorlds};
 ghost use Rattle.milestone_masks.specs.Kept.{IsKept};
 
+use crate::missing::missing_of;
 use crate::ranks::WorldRanks;
-use graph_store::Rows;
+use graph_store::{Group, Rows};
 use index_heap::Heap;
 use plan_base::{NoMemory, NodeId, Steps};
 use reach_ranks::Ranks;
@@ -219,6 +220,30 @@ impl Worlds {
             changed,
             steps,
         );
+    }
+
+    /// What a node lacks: the groups of its row that the nodes that are reached don't satisfy, in order, each with its
+    /// members that aren't reached. It takes one step.
+    ///
+    /// # Errors
+    ///
+    /// `NoMemory` where memory could not be had.
+    pub fn missing<R: Rows<L>, L>(
+        &self,
+        alloc: Global,
+        rows: &R,
+        node: NodeId,
+        steps: &mut Steps<L>,
+    ) -> Result<Vec<Group>, NoMemory>
+        requires node { node.0 < length (R.rows rows.now) }
+        requires ranks { length self.now.base ≡ length (R.rows rows.now) }
+        ensures missing { IfOk result (λ groups. groups.items ≡ missing_in (ranked self.now.base) (slice_get (R.rows rows.now) node.0)) }
+        ensures step { steps.new ≡ min (steps.old + 1) (2 ^ 64 - 1) }
+    {
+        let _count = rows.len();
+        let row = rows.row(node, steps);
+        let groups = missing_of(alloc, &self.base, row)?;
+        Ok(groups)
     }
 }
 

@@ -25,9 +25,9 @@ returns-clause-added g c =
 pub returns-clause-worlds : goal.returns-clause-worlds
 returns-clause-worlds g c =
     let are : AreWorlds (g.R.Rows.rows c.args.rows.now) c.args.barred.now c.args.granted.now (record { base = c.self.inside.base; milestones = c.self.inside.milestones.items }) =
-      subst (λ (kept : Kept). AreWorlds (g.R.Rows.rows c.args.rows.now) c.args.barred.now c.args.granted.now kept) (sym c.self.view_is) c.requires.worlds in
+    subst (λ (kept : Kept). AreWorlds (g.R.Rows.rows c.args.rows.now) c.args.barred.now c.args.granted.now kept) (sym c.self.view_is) c.requires.worlds in
     let le : c.args.place ≤ length c.self.inside.milestones.items =
-      subst (λ (kept : Kept). c.args.place ≤ length kept.milestones) (sym c.self.view_is) c.requires.place in
+    subst (λ (kept : Kept). c.args.place ≤ length kept.milestones) (sym c.self.view_is) c.requires.place in
     either-way
     c.add.result
     (AddsWorld (world (g.R.Rows.rows c.args.rows.now) c.args.barred.now c.args.granted.now (Some c.args.node)) c.args.node c.args.place c.self.inside.milestones.items c.add.new.milestones.items)
