@@ -1,3 +1,4 @@
 pub mod WorldLemmas
 pub mod RepairedLemmas
 pub mod LawLemmas
+pub mod ChangeLemmas
