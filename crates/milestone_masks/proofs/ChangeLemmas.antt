@@ -1,16 +1,15 @@
 -- After a change of rows and marks, the worlds agree but for the changed nodes.
 use Rattle.std.specs.Prelude.{◌==◌}
-use Rattle.std.proofs.Common.{◌≡◌, ◌≢◌, ◌||◌, ℕ, ◌+◌, ◌<◌, Bool, true, false, List, [], ◌∷◌, Option, None, Some, length, slice_get, get_or, refl, sym, ◌∙◌, ap, subst, arith, All}
+use Rattle.std.proofs.Common.{◌≡◌, ◌||◌, ℕ, Bool, false, List, [], ◌∷◌, Option, None, Some, length, slice_get, get_or, refl, sym, ◌∙◌, ap, subst}
 use Rattle.std.proofs.lemmas.Bool.{eqb-false, or_parts}
-use Rattle.std.proofs.lemmas.List.{get_or-set_other, length-set}
+use Rattle.std.proofs.lemmas.List.{get_or-set_other}
 use Rattle.std.proofs.Math.ListN.{set}
 use Rattle.plan_base.specs.declared.NodeId.{NodeId}
 use Rattle.graph_store.specs.declared.Row.{Row}
 use Rattle.graph_store.specs.Rows.{has_node}
-use Rattle.reach_ranks.specs.Rounds.{World, world, is_barred, is_granted, is_node, has_groups, IsWhole}
+use Rattle.reach_ranks.specs.Rounds.{world, is_barred, is_granted, is_node, has_groups, IsWhole}
 use Rattle.reach_ranks.specs.Ranks.{within, AreRanks, Agrees, IsOneAboveLeast}
 use Rattle.reach_ranks.proofs.RankLemmas.{Agrees-from_ranks}
-use Rattle.milestone_masks.specs.declared.worlds.Milestone.{Milestone}
 use Rattle.milestone_masks.specs.Worlds.{Kept, AgreeBut, AgreeInWorlds, AreWorlds}
 
 -- the rows and marks of a node, as before

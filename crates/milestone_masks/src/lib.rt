@@ -4,6 +4,7 @@
 mod laws;
 mod missing;
 mod ranks;
+mod why;
 mod worlds;
 
 pub use laws::{masks_are_of_the_worlds, missing_is_of_the_reached, ranked_are_reached};

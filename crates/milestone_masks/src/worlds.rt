@@ -5,9 +5,11 @@ ghost use Rattle.reach_ranks.specs.Ranks.{AreRanks};
 ghost use Rattle.reach_ranks.specs.Given.{size_of, sum_below};
 ghost use Rattle.milestone_masks.specs.Worlds.{mask_of, milestones_of, missing_in, place_of, ranked, size_in_world, size_of_all, AddAnswer, AddsWorld, AgreeBut, AgreeInWorlds, AreWorlds};
 ghost use Rattle.milestone_masks.specs.Kept.{IsKept};
+ghost use Rattle.milestone_masks.specs.Why.{IsWhy};
 
 use crate::missing::missing_of;
 use crate::ranks::WorldRanks;
+use crate::why::why_of;
 use graph_store::{Group, Rows};
 use index_heap::Heap;
 use plan_base::{NoMemory, NodeId, Steps};
@@ -52,6 +54,7 @@ impl Model for Worlds {
     ghost Value = { Kept };
 
     ghost use Rattle.milestone_masks.specs.Kept.{IsKept};
+    ghost use Rattle.milestone_masks.specs.Why.{IsWhy};
 
     ghost view = { λ w. record { base = w.base; milestones = w.milestones.items } };
 
@@ -220,6 +223,31 @@ impl Worlds {
             changed,
             steps,
         );
+    }
+
+    /// Why a node is reached: the least set that holds the node and, for each of its nodes that isn't granted, all
+    /// members of each All group of that node's row, and of each Any group the reached member of least rank, the lower
+    /// node among equals. The nodes stand by rank, then by node. It takes at most one step for each of them.
+    ///
+    /// # Errors
+    ///
+    /// `NoMemory` where memory could not be had.
+    pub fn why<R: Rows<L>, L>(
+        &self,
+        alloc: Global,
+        rows: &R,
+        granted: &[bool],
+        node: NodeId,
+        steps: &mut Steps<L>,
+    ) -> Result<Vec<NodeId>, NoMemory>
+        requires ranks { length self.now.base ≡ length (R.rows rows.now) }
+        requires granted { length granted.now ≡ length (R.rows rows.now) }
+        requires node { node.0 < length (R.rows rows.now) }
+        ensures why { IfOk result (λ nodes. IsWhy (R.rows rows.now) granted.now self.now.base node.0 nodes.items) }
+        ensures steps { IfOk result (λ nodes. steps.new ≤ steps.old + length nodes.items) }
+    {
+        let nodes = why_of(alloc, &self.base, rows, granted, node, steps)?;
+        Ok(nodes)
     }
 
     /// What a node lacks: the groups of its row that the nodes that are reached don't satisfy, in order, each with its

@@ -70,12 +70,12 @@ fn main(rt: HostRuntime) -> io::Result<()> {
     for word in env::args(&rt)? {
         words.push(word)?;
     }
-    let mode = match words.first() {
+    let mode = match words.get(1) {
         Some(word) => word.as_str(),
         None => "graph",
     };
-    let count = number(&words, 1, 100);
-    let size = number(&words, 2, 4);
+    let count = number(&words, 2, 100);
+    let size = number(&words, 3, 4);
     let mut numbers = Numbers::of_seed(7);
     let Some(graph) = graph_of(alloc, &mut numbers, count, size) else {
         return Err(no_memory());
@@ -87,8 +87,8 @@ fn main(rt: HostRuntime) -> io::Result<()> {
         println!(rt; "{mode}: {steps} steps, {reached} reached, digest {sum}")?;
     }
     if mode == "repair" || mode == "anew" {
-        let wanted = number(&words, 3, 4);
-        let pairs = number(&words, 4, 4);
+        let wanted = number(&words, 4, 4);
+        let pairs = number(&words, 5, 4);
         let Some((kept, steps)) = steps_of_pairs(
             alloc,
             &graph,
