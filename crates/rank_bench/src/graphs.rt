@@ -83,8 +83,8 @@ fn group(
     })
 }
 
-/// The row of a node: none of the first sixty-fourth needs anything; each other needs all of two nodes before it, and
-/// any of `size` nodes, of which most come before it.
+/// The row of a node: none of the first sixty-fourth needs anything; each other needs one node before it, and any
+/// of `size` nodes, of which most come before it.
 fn row(
     alloc: Global,
     numbers: &mut Numbers,
@@ -96,7 +96,7 @@ fn row(
 {
     let mut groups = Vec::new(alloc);
     if node > count / 64 {
-        groups.push(group(alloc, numbers, true, 2, node)?)?;
+        groups.push(group(alloc, numbers, true, 1, node)?)?;
         let bound = if numbers.below(8) == 0 { count } else { node };
         groups.push(group(alloc, numbers, false, size, bound)?)?;
     }
@@ -105,7 +105,7 @@ fn row(
     })
 }
 
-/// The rows of a graph with `count` nodes and about `size + 2` members a node.
+/// The rows of a graph with `count` nodes and about `size + 1` members a node.
 pub fn rows(
     alloc: Global,
     numbers: &mut Numbers,
