@@ -1,0 +1,5 @@
+pub mod Worlds
+pub mod Kept
+pub mod Laws
+pub mod Why
+pub mod Found

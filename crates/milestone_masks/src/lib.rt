@@ -1,0 +1,11 @@
+//! One world for each milestone: the game with that milestone barred, and the ranks in it.
+#![tactic(auto)]
+
+mod laws;
+mod missing;
+mod ranks;
+mod why;
+mod worlds;
+
+pub use laws::{masks_are_of_the_worlds, missing_is_of_the_reached, ranked_are_reached};
+pub use worlds::{MILESTONE_LIMIT, Milestone, MilestoneFault, Worlds};

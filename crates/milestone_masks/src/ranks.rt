@@ -1,0 +1,95 @@
+//! The ranks of one world.
+ghost use Rattle.std.specs.Prelude.{◌≡◌, ℕ, ◌+◌, ◌*◌, ◌<◌, ◌≤◌, None, false, All, length, replicate, slice_index, IfOk};
+ghost use Rattle.graph_store.specs.Rows.{has_node};
+ghost use Rattle.reach_ranks.specs.Rounds.{world, IsWhole};
+ghost use Rattle.reach_ranks.specs.Ranks.{AreRanks, Agrees};
+ghost use Rattle.reach_ranks.specs.Given.{size_of};
+
+use graph_store::Rows;
+use index_heap::Heap;
+use plan_base::{NodeId, Steps};
+use reach_incremental::repair;
+use reach_ranks::Ranks;
+use std::alloc::{AllocError, Global};
+use std::marker::Model;
+
+/// The ranks of one world, seen as the list of them.
+#[derive(Drop)]
+pub struct WorldRanks {
+    ranks: Ranks,
+}
+
+impl Model for WorldRanks {
+    ghost use Rattle.std.specs.Prelude.{List, ℕ};
+
+    ghost Value = { List ℕ };
+
+    ghost view = { λ w. w.ranks.of.items };
+}
+
+impl WorldRanks {
+    /// These ranks.
+    pub fn from_ranks(ranks: Ranks) -> WorldRanks
+        ensures { result ≡ ranks.of.items }
+    {
+        WorldRanks { ranks }
+    }
+
+    /// How many nodes there are.
+    pub fn len(&self) -> usize
+        ensures { result ≡ length self.now }
+    {
+        self.ranks.of.len()
+    }
+
+    /// The rank of a node.
+    pub fn rank(&self, node: NodeId) -> u32
+        requires { node.0 < length self.now }
+        ensures { result ≡ slice_index self.now node.0 }
+    {
+        self.ranks.of[node.0 as usize]
+    }
+
+    /// The same ranks again.
+    pub fn copy(&self, alloc: Global) -> Result<WorldRanks, AllocError>
+        ensures { IfOk result (λ copy. copy ≡ self.now) }
+    {
+        let mut of = Vec::new(alloc);
+        of.extend_from_slice(&self.ranks.of)?;
+        let ranks = Ranks { of };
+        Ok(WorldRanks { ranks })
+    }
+
+    /// Leaves the ranks of the rows and marks as they are now, after a change of the nodes' rows and marks.
+    pub fn repair<R: Rows<L>, L>(
+        &mut self,
+        rows: &R,
+        barred: &[bool],
+        granted: &[bool],
+        extra: Option<NodeId>,
+        heap: &mut Heap,
+        changed: &[NodeId],
+        steps: &mut Steps<L>,
+    )
+        requires marks { IsWhole (world (R.rows rows.now) barred.now granted.now extra) }
+        requires ranks { length self.old ≡ length (R.rows rows.now) }
+        requires heap { heap.old ≡ replicate (length (R.rows rows.now)) None }
+        requires changed { All (λ n. n.0 < length (R.rows rows.now)) changed.now }
+        requires agree { let w = world (R.rows rows.now) barred.now granted.now extra in
+            (n : ℕ) → n < length w.rows → has_node changed.now n ≡ false → Agrees w self.old n }
+        ensures ranks { AreRanks (world (R.rows rows.now) barred.now granted.now extra) self.new }
+        ensures heap { heap.new ≡ heap.old }
+        ensures steps { steps.new ≤ steps.old + 6 * size_of (R.rows rows.now) changed.now self.old self.new }
+    {
+        repair(
+            &mut self.ranks,
+            rows,
+            barred,
+            granted,
+            extra,
+            heap,
+            changed,
+            steps,
+        );
+    }
+}

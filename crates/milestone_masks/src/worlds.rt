@@ -1,0 +1,366 @@
+//! The worlds of all milestones.
+ghost use Rattle.std.specs.Prelude.{◌≡◌, ℕ, ◌+◌, ◌*◌, ◌-◌, ◌^◌, ◌<◌, ◌≤◌, ◌↔◌, ◌∷◌, List, None, Some, [], not, All, filter, insert, length, map, min, remove, replicate, slice_get, slice_index, IfErr, IfOk, IsTrue, OnErr, OnOk};
+ghost use Rattle.reach_ranks.specs.Rounds.{world, IsWhole};
+ghost use Rattle.reach_ranks.specs.Ranks.{AreRanks};
+ghost use Rattle.reach_ranks.specs.Given.{size_of, sum_below};
+ghost use Rattle.milestone_masks.specs.Worlds.{mask_of, milestones_of, missing_in, place_of, ranked, size_in_world, size_of_all, AddAnswer, AddsWorld, AgreeBut, AgreeInWorlds, AreWorlds};
+ghost use Rattle.milestone_masks.specs.Kept.{IsKept};
+ghost use Rattle.milestone_masks.specs.Why.{IsWhy};
+
+use crate::missing::missing_of;
+use crate::ranks::WorldRanks;
+use crate::why::why_of;
+use graph_store::{Group, Rows};
+use index_heap::Heap;
+use plan_base::{NoMemory, NodeId, Steps};
+use reach_ranks::Ranks;
+use std::alloc::{AllocError, AllocFailed, Global};
+use std::marker::Model;
+
+/// The most milestones that there can be.
+pub const MILESTONE_LIMIT: usize = 64;
+
+/// A milestone, with the ranks of the world in which it is barred.
+#[derive(Drop)]
+pub struct Milestone {
+    pub node: NodeId,
+    pub ranks: WorldRanks,
+}
+
+/// Why a milestone was not added or dropped.
+#[derive(Clone, Copy, Debug, PartialEq, Eq)]
+pub enum MilestoneFault {
+    /// Memory could not be had.
+    NoMemory,
+    /// There are as many milestones as there can be.
+    Full,
+    /// The node is a milestone already.
+    Already,
+    /// The node is no milestone.
+    NotOne,
+}
+
+/// The ranks of the base world and of each milestone's world.
+#[derive(Drop)]
+pub struct Worlds {
+    heap: Heap,
+    base: WorldRanks,
+    milestones: Vec<Milestone>,
+}
+
+impl Model for Worlds {
+    ghost use Rattle.milestone_masks.specs.Worlds.{Kept};
+
+    ghost Value = { Kept };
+
+    ghost use Rattle.milestone_masks.specs.Kept.{IsKept};
+    ghost use Rattle.milestone_masks.specs.Why.{IsWhy};
+
+    ghost view = { λ w. record { base = w.base; milestones = w.milestones.items } };
+
+    ghost invariant = { λ w. IsKept w.heap w.base w.milestones.items };
+}
+
+impl Worlds {
+    /// The base world alone.
+    ///
+    /// # Errors
+    ///
+    /// `NoMemory` where memory could not be had.
+    pub fn make(alloc: Global, base: Ranks) -> Result<Worlds, NoMemory>
+        requires { length base.of.items < 2 ^ 32 - 1 }
+        ensures base { IfOk result (λ worlds. worlds.base ≡ base.of.items) }
+        ensures none { IfOk result (λ worlds. worlds.milestones ≡ []) }
+    {
+        let base = WorldRanks::from_ranks(base);
+        let heap = Heap::make(alloc, base.len() as u32)?;
+        Ok(Worlds {
+            heap,
+            base,
+            milestones: Vec::new(alloc),
+        })
+    }
+
+    /// The rank of a node in the base world.
+    pub fn rank(&self, node: NodeId) -> u32
+        requires { node.0 < length self.now.base }
+        ensures { result ≡ slice_index self.now.base node.0 }
+    {
+        self.base.rank(node)
+    }
+
+    /// How many milestones there are.
+    pub fn count(&self) -> u32
+        ensures count { result ≡ length self.now.milestones }
+        ensures few { result ≤ MILESTONE_LIMIT }
+    {
+        self.milestones.len() as u32
+    }
+
+    /// The milestone at a place in their order.
+    pub fn milestone(&self, k: u32) -> NodeId
+        requires { k < length self.now.milestones }
+        ensures { slice_get (milestones_of self.now) k ≡ Some result }
+    {
+        let milestone = &self.milestones[k as usize];
+        milestone.node
+    }
+
+    /// Whether the node isn't reached in the world of the milestone at a place.
+    pub fn in_mask(&self, node: NodeId, k: u32) -> bool
+        requires node { node.0 < length self.now.base }
+        requires place { k < length self.now.milestones }
+        ensures { (m : Milestone) → slice_get self.now.milestones k ≡ Some m → (IsTrue result ↔ (slice_index m.ranks node.0 ≡ 0)) }
+    {
+        let milestone = &self.milestones[k as usize];
+        milestone.ranks.rank(node) == 0
+    }
+
+    /// The milestones in whose world the node isn't reached, in order.
+    ///
+    /// # Errors
+    ///
+    /// `NoMemory` where memory could not be had.
+    pub fn mask(&self, alloc: Global, node: NodeId) -> Result<Vec<NodeId>, NoMemory>
+        requires { node.0 < length self.now.base }
+        ensures { IfOk result (λ nodes. nodes.items ≡ mask_of self.now node.0) }
+    {
+        let _base = &self.base;
+        let nodes = mask_in(alloc, &self.milestones, node)?;
+        Ok(nodes)
+    }
+
+    /// Makes the node a milestone at a place in their order, with the ranks of its world.
+    ///
+    /// The ranks of the base world are copied and repaired, so that it takes at most six times the size of barring
+    /// this node in steps.
+    ///
+    /// # Errors
+    ///
+    /// `Already` where the node is a milestone, else `Full` where there are as many as there can be; `NoMemory`
+    /// where memory could not be had. Then nothing changes.
+    pub fn add_world<R: Rows<L>, L>(
+        &mut self,
+        alloc: Global,
+        rows: &R,
+        barred: &[bool],
+        granted: &[bool],
+        node: NodeId,
+        place: u32,
+        steps: &mut Steps<L>,
+    ) -> Result<(), MilestoneFault>
+        requires marks { IsWhole (world (R.rows rows.now) barred.now granted.now None) }
+        requires worlds { AreWorlds (R.rows rows.now) barred.now granted.now self.old }
+        requires node { node.0 < length (R.rows rows.now) }
+        requires place { place ≤ length self.old.milestones }
+        ensures answer { AddAnswer result self.old.milestones node.0 }
+        ensures added { OnOk result (milestones_of self.new ≡ insert (milestones_of self.old) place node) }
+        ensures worlds { AreWorlds (R.rows rows.now) barred.now granted.now self.new }
+        ensures err { OnErr result (self.new ≡ self.old) }
+        ensures steps { (ranks : List ℕ) → AreRanks (world (R.rows rows.now) barred.now granted.now (Some node)) ranks
+            → steps.new ≤ steps.old + 6 * size_of (R.rows rows.now) (node ∷ []) self.old.base ranks }
+    {
+        add(
+            &mut self.heap,
+            &self.base,
+            &mut self.milestones,
+            alloc,
+            rows,
+            barred,
+            granted,
+            node,
+            place as usize,
+            steps,
+        )
+    }
+
+    /// Makes the node no milestone any more, and tells its old place.
+    ///
+    /// # Errors
+    ///
+    /// `NotOne` where the node is no milestone. Then nothing changes.
+    pub fn drop_world(&mut self, node: NodeId) -> Result<u32, MilestoneFault>
+        ensures place { IfOk result (λ place. place_of self.old.milestones node.0 ≡ Some place) }
+        ensures dropped { IfOk result (λ place. self.new.milestones ≡ remove self.old.milestones place) }
+        ensures base { self.new.base ≡ self.old.base }
+        ensures fault { IfErr result (λ fault. fault ≡ MilestoneFault.NotOne) }
+        ensures none { OnErr result (place_of self.old.milestones node.0 ≡ None) }
+        ensures err { OnErr result (self.new ≡ self.old) }
+    {
+        match place_of(&self.milestones, node) {
+            None => Err(MilestoneFault::NotOne),
+            Some(place) => {
+                self.milestones.remove(place);
+                Ok(place as u32)
+            }
+        }
+    }
+
+    /// Leaves the ranks of each world as the rows and marks are now, after a change of the nodes' rows and marks.
+    pub fn repair_all<R: Rows<L>, L>(
+        &mut self,
+        rows: &R,
+        barred: &[bool],
+        granted: &[bool],
+        changed: &[NodeId],
+        steps: &mut Steps<L>,
+    )
+        requires marks { IsWhole (world (R.rows rows.now) barred.now granted.now None) }
+        requires changed { All (λ n. n.0 < length (R.rows rows.now)) changed.now }
+        requires agree { AgreeInWorlds (R.rows rows.now) barred.now granted.now changed.now self.old }
+        ensures worlds { AreWorlds (R.rows rows.now) barred.now granted.now self.new }
+        ensures milestones { milestones_of self.new ≡ milestones_of self.old }
+        ensures steps { steps.new ≤ steps.old + 6 * size_of_all (R.rows rows.now) changed.now self.old self.new }
+    {
+        let _count = rows.len();
+        self.base.repair(rows, barred, granted, None, &mut self.heap, changed, steps);
+        repair_each(
+            &mut self.milestones,
+            rows,
+            barred,
+            granted,
+            &mut self.heap,
+            changed,
+            steps,
+        );
+    }
+
+    /// Why a node is reached: the least set that holds the node and, for each of its nodes that isn't granted, all
+    /// members of each All group of that node's row, and of each Any group the reached member of least rank, the lower
+    /// node among equals. The nodes stand by rank, then by node. It takes at most one step for each of them.
+    ///
+    /// # Errors
+    ///
+    /// `NoMemory` where memory could not be had.
+    pub fn why<R: Rows<L>, L>(
+        &self,
+        alloc: Global,
+        rows: &R,
+        granted: &[bool],
+        node: NodeId,
+        steps: &mut Steps<L>,
+    ) -> Result<Vec<NodeId>, NoMemory>
+        requires ranks { length self.now.base ≡ length (R.rows rows.now) }
+        requires granted { length granted.now ≡ length (R.rows rows.now) }
+        requires node { node.0 < length (R.rows rows.now) }
+        ensures why { IfOk result (λ nodes. IsWhy (R.rows rows.now) granted.now self.now.base node.0 nodes.items) }
+        ensures steps { IfOk result (λ nodes. steps.new ≤ steps.old + length nodes.items) }
+    {
+        let nodes = why_of(alloc, &self.base, rows, granted, node, steps)?;
+        Ok(nodes)
+    }
+
+    /// What a node lacks: the groups of its row that the nodes that are reached don't satisfy, in order, each with its
+    /// members that aren't reached. It takes one step.
+    ///
+    /// # Errors
+    ///
+    /// `NoMemory` where memory could not be had.
+    pub fn missing<R: Rows<L>, L>(
+        &self,
+        alloc: Global,
+        rows: &R,
+        node: NodeId,
+        steps: &mut Steps<L>,
+    ) -> Result<Vec<Group>, NoMemory>
+        requires node { node.0 < length (R.rows rows.now) }
+        requires ranks { length self.now.base ≡ length (R.rows rows.now) }
+        ensures missing { IfOk result (λ groups. groups.items ≡ missing_in (ranked self.now.base) (slice_get (R.rows rows.now) node.0)) }
+        ensures step { steps.new ≡ min (steps.old + 1) (2 ^ 64 - 1) }
+    {
+        let _count = rows.len();
+        let row = rows.row(node, steps);
+        let groups = missing_of(alloc, &self.base, row)?;
+        Ok(groups)
+    }
+}
+
+/// The place of a milestone.
+fn place_of(milestones: &[Milestone], node: NodeId) -> Option<usize>
+    ensures { result ≡ place_of milestones.now node.0 }
+{
+    milestones.iter().position(|m| m.node.0 == node.0)
+}
+
+/// The milestones in whose world the node has no rank.
+fn mask_in(alloc: Global, milestones: &[Milestone], node: NodeId) -> Result<Vec<NodeId>, AllocError>
+    requires { All (λ m. node.0 < length m.ranks) milestones.now }
+    ensures { IfOk result (λ nodes. nodes.items ≡ map (λ m. m.node) (filter (λ m. not (ranked m.ranks node.0)) milestones.now)) }
+{
+    let mut nodes = Vec::new(alloc);
+    for m in milestones {
+        if m.ranks.rank(node) == 0 {
+            nodes.push(m.node)?;
+        }
+    }
+    Ok(nodes)
+}
+
+/// Adds a milestone with the ranks of its world.
+fn add<R: Rows<L>, L>(
+    heap: &mut Heap,
+    base: &WorldRanks,
+    milestones: &mut Vec<Milestone>,
+    alloc: Global,
+    rows: &R,
+    barred: &[bool],
+    granted: &[bool],
+    node: NodeId,
+    place: usize,
+    steps: &mut Steps<L>,
+) -> Result<(), MilestoneFault>
+    requires kept { IsKept heap.old base.now milestones.old.items }
+    requires marks { IsWhole (world (R.rows rows.now) barred.now granted.now None) }
+    requires base { AreRanks (world (R.rows rows.now) barred.now granted.now None) base.now }
+    requires node { node.0 < length (R.rows rows.now) }
+    requires place { place ≤ length milestones.old.items }
+    ensures answer { AddAnswer result milestones.old.items node.0 }
+    ensures added { OnOk result (AddsWorld (world (R.rows rows.now) barred.now granted.now (Some node)) node place milestones.old.items milestones.new.items) }
+    ensures heap { heap.new ≡ heap.old }
+    ensures err { OnErr result (milestones.new.items ≡ milestones.old.items) }
+    ensures steps { (ranks : List ℕ) → AreRanks (world (R.rows rows.now) barred.now granted.now (Some node)) ranks
+        → steps.new ≤ steps.old + 6 * size_of (R.rows rows.now) (node ∷ []) base.now ranks }
+{
+    if place_of(milestones, node).is_some() {
+        return Err(MilestoneFault::Already);
+    }
+    if milestones.len() >= MILESTONE_LIMIT {
+        return Err(MilestoneFault::Full);
+    }
+    let Ok(mut ranks) = base.copy(alloc) else {
+        return Err(MilestoneFault::NoMemory);
+    };
+    ranks.repair(rows, barred, granted, Some(node), heap, &[node], steps);
+    let Ok(()) = milestones.insert(place, Milestone { node, ranks }) else {
+        return Err(MilestoneFault::NoMemory);
+    };
+    Ok(())
+}
+
+/// Repairs the ranks of each milestone's world.
+fn repair_each<R: Rows<L>, L>(
+    milestones: &mut [Milestone],
+    rows: &R,
+    barred: &[bool],
+    granted: &[bool],
+    heap: &mut Heap,
+    changed: &[NodeId],
+    steps: &mut Steps<L>,
+)
+    requires marks { IsWhole (world (R.rows rows.now) barred.now granted.now None) }
+    requires heap { heap.old ≡ replicate (length (R.rows rows.now)) None }
+    requires changed { All (λ n. n.0 < length (R.rows rows.now)) changed.now }
+    requires agree { All (λ m. AgreeBut (world (R.rows rows.now) barred.now granted.now (Some m.node)) changed.now m.ranks) milestones.old }
+    ensures ranks { All (λ m. AreRanks (world (R.rows rows.now) barred.now granted.now (Some m.node)) m.ranks) milestones.new }
+    ensures milestones { map (λ m. m.node) milestones.new ≡ map (λ m. m.node) milestones.old }
+    ensures heap { heap.new ≡ heap.old }
+    ensures steps { steps.new ≤ steps.old
+        + 6 * sum_below (size_in_world (R.rows rows.now) changed.now milestones.old milestones.new) (length milestones.old) }
+{
+    for i in 0..milestones.len() {
+        let m = &mut milestones[i];
+        let extra = Some(m.node);
+        m.ranks
+            .repair(rows, barred, granted, extra, heap, changed, steps);
+    }
+}
