@@ -29,4 +29,4 @@ table_name None = None
 
 -- the name of the column at a place
 abbrev pub name_at : Linear → ℕ → Option Column
-name_at l k = if nat_lt k (good_count l) then unit_name (slice_get l.goods.items k) else table_name (slice_get l.columns.items (k - good_count l))
+name_at l k = if nat_lt k (good_count l) then unit_name (slice_get l.goods k) else table_name (slice_get l.columns (k - good_count l))

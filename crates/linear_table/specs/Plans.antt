@@ -10,10 +10,10 @@ use Rattle.linear_table.specs.declared.LinearColumn.{LinearColumn}
 
 -- ---- the numbers of a linear form
 abbrev pub good_count : Linear → ℕ
-good_count l = length l.goods.items
+good_count l = length l.goods
 
 abbrev pub column_count : Linear → ℕ
-column_count l = length l.columns.items
+column_count l = length l.columns
 
 -- the part at a good's place, 0 where there is none
 abbrev pub part_at : List (ℕ × Fraction) → ℕ → Fraction
@@ -21,7 +21,7 @@ part_at [] g = zero_fraction
 part_at (p ∷ ps) g = if p.0 == g then p.1 else part_at ps g
 
 abbrev pub parts_of : Option LinearColumn → List (ℕ × Fraction)
-parts_of (Some c) = c.parts.items
+parts_of (Some c) = c.parts
 parts_of None = []
 
 abbrev pub price_of : Option LinearColumn → Fraction
@@ -30,17 +30,17 @@ price_of None = zero_fraction
 
 -- what one unit of the column at j adds to the good at g
 abbrev pub column_part : Linear → ℕ → ℕ → Fraction
-column_part l j g = part_at (parts_of (slice_get l.columns.items j)) g
+column_part l j g = part_at (parts_of (slice_get l.columns j)) g
 
 abbrev pub column_price : Linear → ℕ → Fraction
-column_price l j = price_of (slice_get l.columns.items j)
+column_price l j = price_of (slice_get l.columns j)
 
 -- the number at a place, 0 past the end
 abbrev pub number_at : List Fraction → ℕ → Fraction
 number_at xs k = slice_index_or xs k zero_fraction
 
 abbrev pub want_at : Linear → ℕ → Fraction
-want_at l g = number_at l.wants.items g
+want_at l g = number_at l.wants g
 
 -- ---- well formed
 -- strictly increasing places from k on below n
@@ -51,20 +51,20 @@ Rises k n (p ∷ ps) = (k ≤ p.0) × (p.0 < n) × Rises (suc p.0) n ps
 -- the only part of the column at j is x, at the place of the good
 pub record HasOnePart (l : Linear) (j : ℕ) (good : GoodId) (x : Fraction) : Type 0 where
   pub place : ℕ
-  pub place_of : slice_get l.goods.items place ≡ Some good
-  pub parts_are : parts_of (slice_get l.columns.items j) ≡ (place, x) ∷ []
+  pub place_of : slice_get l.goods place ≡ Some good
+  pub parts_are : parts_of (slice_get l.columns j) ≡ (place, x) ∷ []
 
 abbrev pub numbers_of : List GoodId → List ℕ
 numbers_of goods = map (λ g. g.0) goods
 
 pub record IsWellFormed (l : Linear) : Type 0 where
-  pub wants_fit : length l.wants.items ≡ length l.goods.items
-  pub goods_differ : AllDiffer (numbers_of l.goods.items)
-  pub parts_rise : (j : ℕ) → Rises 0 (length l.goods.items) (parts_of (slice_get l.columns.items j))
+  pub wants_fit : length l.wants ≡ length l.goods
+  pub goods_differ : AllDiffer (numbers_of l.goods)
+  pub parts_rise : (j : ℕ) → Rises 0 (length l.goods) (parts_of (slice_get l.columns j))
   pub line_count : ℕ
   pub imports : List GoodId
   pub surpluses : List GoodId
-  pub names_are : map (λ c. c.column) l.columns.items ≡ map (λ i. Line i) (count_up 0 line_count) ++ (map (λ g. Import g) imports ++ map (λ g. Surplus g) surpluses)
+  pub names_are : map (λ c. c.column) l.columns ≡ map (λ i. Line i) (count_up 0 line_count) ++ (map (λ g. Import g) imports ++ map (λ g. Surplus g) surpluses)
   pub imports_differ : AllDiffer (numbers_of imports)
   pub surpluses_differ : AllDiffer (numbers_of surpluses)
   pub import_parts : (k : ℕ) (g : GoodId) → slice_get imports k ≡ Some g → HasOnePart l (line_count + k) g one_fraction
