@@ -3,6 +3,7 @@ use Rattle.std.specs.Prelude.{◌≡◌, ℕ, suc, ◌+◌, ◌<◌, ◌≤◌, 
 use Rattle.fractions.specs.Fraction.{Fraction, zero_fraction, one_fraction, negated, ◌*ʳ◌, ◌≤ʳ◌, ◌<ʳ◌}
 use Rattle.linear_table.specs.System.{sum_below, AllDiffer}
 use Rattle.linear_table.specs.Trail.{count_up}
+use Rattle.linear_table.specs.Parts.{part_at}
 use Rattle.plan_base.specs.declared.ids.GoodId.{GoodId}
 use Rattle.linear_table.specs.declared.Column.TheVariants.{Line, Import, Surplus}
 use Rattle.linear_table.specs.declared.Linear.{Linear}
@@ -14,11 +15,6 @@ good_count l = length l.goods
 
 abbrev pub column_count : Linear → ℕ
 column_count l = length l.columns
-
--- the part at a good's place, 0 where there is none
-abbrev pub part_at : List (ℕ × Fraction) → ℕ → Fraction
-part_at [] g = zero_fraction
-part_at (p ∷ ps) g = if p.0 == g then p.1 else part_at ps g
 
 abbrev pub parts_of : Option LinearColumn → List (ℕ × Fraction)
 parts_of (Some c) = c.parts

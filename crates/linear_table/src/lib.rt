@@ -5,6 +5,9 @@
 //! `Trail` (the pivot rule), `Wide` (entries past the limits), `Answer` (what the solver's answers say).
 #![tactic(auto)]
 
+ghost use Rattle.std.specs.Prelude.{◌≡◌, ◌<◌, ◌+◌, length, Some, slice_get};
+ghost use Rattle.linear_table.specs.Parts.{part_at};
+
 use fractions::Ratio;
 use plan_base::{GoodId, Items};
 
@@ -41,6 +44,84 @@ pub struct Linear {
     pub columns: Items<LinearColumn>,
     /// What is wanted of each good per second, one number per good.
     pub wants: Items<Ratio>,
+}
+
+// The part at a good's place, 0 where there is none.
+fn part_of(parts: &[(u32, Ratio)], good: usize) -> Ratio
+    ensures { result ≡ part_at parts.now good }
+{
+    let mut rest = parts;
+    while let [(place, amount), others @ ..] = rest {
+        if *place as usize == good {
+            return *amount;
+        }
+        rest = others;
+    }
+    Ratio::zero()
+}
+
+impl Linear {
+    ghost use Rattle.std.specs.Prelude.{◌≡◌, ◌<◌, ◌+◌, length, Some, slice_get};
+    ghost use Rattle.linear_table.specs.Plans.{good_count, column_count, column_part, column_price, want_at};
+    ghost use Rattle.linear_table.specs.Basis.{table_name, name_at};
+
+    /// The good at a place.
+    pub fn good(&self, place: usize) -> GoodId
+        requires { place < good_count self.now }
+        ensures { slice_get self.now.goods place ≡ Some result }
+    {
+        let goods = self.goods.as_slice();
+        goods[place]
+    }
+
+    /// The name of the column with this number.
+    pub fn name(&self, column: usize) -> Column
+        requires { column < column_count self.now }
+        ensures { table_name (slice_get self.now.columns column) ≡ Some result }
+    {
+        let columns = self.columns.as_slice();
+        columns[column].column
+    }
+
+    /// What one unit of a column adds to a good.
+    pub fn part(&self, column: usize, good: usize) -> Ratio
+        requires { column < column_count self.now }
+        ensures { result ≡ column_part self.now column good }
+    {
+        let columns = self.columns.as_slice();
+        part_of(columns[column].parts.as_slice(), good)
+    }
+
+    /// What one unit of a column costs.
+    pub fn price(&self, column: usize) -> Ratio
+        requires { column < column_count self.now }
+        ensures { result ≡ column_price self.now column }
+    {
+        let columns = self.columns.as_slice();
+        columns[column].price
+    }
+
+    /// What is wanted of a good.
+    pub fn want(&self, good: usize) -> Ratio
+        requires { good < length self.now.wants }
+        ensures { result ≡ want_at self.now good }
+    {
+        let wants = self.wants.as_slice();
+        wants[good]
+    }
+
+    /// The name at a place among all columns: the unit columns in the order of goods, then the table's in theirs.
+    pub fn name_of_place(&self, place: usize) -> Column
+        requires { place < good_count self.now + column_count self.now }
+        ensures { name_at self.now place ≡ Some result }
+    {
+        let goods = self.goods.len();
+        if place < goods {
+            Column::Unit(self.good(place))
+        } else {
+            self.name(place - goods)
+        }
+    }
 }
 
 /// A plan of a table with prices that show that no plan costs less.

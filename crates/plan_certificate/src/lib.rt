@@ -6,7 +6,7 @@ ghost use Rattle.std.specs.Prelude.{◌≡◌, ◌≢◌, ℕ, ◌<◌, ◌↔�
 ghost use Rattle.std.specs.Result.{OkIff};
 ghost use Rattle.std.specs.Bool.{OnTrue, OnFalse};
 ghost use Rattle.fractions.specs.Fraction.{Fraction, zero_fraction, ◌+ʳ◌, ◌*ʳ◌, ◌≤ʳ◌, ◌<ʳ◌};
-ghost use Rattle.linear_table.specs.Plans.{good_count, column_count, part_at, column_part, column_price, number_at, want_at, IsWellFormed, IsPlan, cost_of, value_of, wants_value, AreLeastCostPrices, AreInfeasibilityPrices};
+ghost use Rattle.linear_table.specs.Plans.{good_count, column_count, column_part, column_price, number_at, want_at, IsWellFormed, IsPlan, cost_of, value_of, wants_value, AreLeastCostPrices, AreInfeasibilityPrices};
 ghost use Rattle.linear_table.specs.Basis.{table_name};
 ghost use Rattle.plan_certificate.specs.Formed.{StepFits, IsFormed, sum_of_products};
 ghost use Rattle.plan_certificate.specs.Faults.{HasNoNegative, IsBalanceFormed, balance_of, IsBalanced, IsNegativeAt, IsCostFormed, IsBalanceFault, IsPlanFault, IsAcceptedPlan, limit_at, IsValueFormed, IsWithin, AreWantsFormed, IsGainFault, IsPriceFault, AreAcceptedPrices, AreAcceptedRefusals};
@@ -48,38 +48,6 @@ fn number(numbers: &[Ratio], place: usize) -> Ratio
     numbers[place]
 }
 
-// The part at a good's place, 0 where there is none.
-fn part(parts: &[(u32, Ratio)], good: usize) -> Ratio
-    ensures { result ≡ part_at parts.now good }
-{
-    let mut rest = parts;
-    while let [(place, amount), others @ ..] = rest {
-        if *place as usize == good {
-            return *amount;
-        }
-        rest = others;
-    }
-    Ratio::zero()
-}
-
-// What one unit of a column adds to a good.
-fn part_of(linear: &Linear, column: usize, good: usize) -> Ratio
-    requires { column < column_count linear.now }
-    ensures { result ≡ column_part linear.now column good }
-{
-    let columns = linear.columns.as_slice();
-    part(columns[column].parts.as_slice(), good)
-}
-
-// What one unit of a column costs.
-fn price_of(linear: &Linear, column: usize) -> Ratio
-    requires { column < column_count linear.now }
-    ensures { result ≡ column_price linear.now column }
-{
-    let columns = linear.columns.as_slice();
-    columns[column].price
-}
-
 // A sum with one more product.
 fn add_product(sum: &Ratio, left: &Ratio, right: &Ratio) -> Result<Ratio, Wide>
     ensures { OkIff result (StepFits sum.now left.now right.now) (sum.now +ʳ left.now *ʳ right.now) }
@@ -97,7 +65,7 @@ fn balance(linear: &Linear, rates: &[Ratio], good: usize) -> Result<Ratio, Wide>
 {
     let mut sum = Ratio::zero();
     for j in 0..rates.len() {
-        let amount = part_of(linear, j, good);
+        let amount = linear.part(j, good);
         let rate = number(rates, j);
         let Ok(next) = add_product(&sum, &amount, &rate) else {
             return Err(Wide);
@@ -115,7 +83,7 @@ fn cost(linear: &Linear, rates: &[Ratio]) -> Result<Ratio, Wide>
     let mut sum = Ratio::zero();
     for j in 0..rates.len() {
         let rate = number(rates, j);
-        let price = price_of(linear, j);
+        let price = linear.price(j);
         let Ok(next) = add_product(&sum, &rate, &price) else {
             return Err(Wide);
         };
@@ -132,7 +100,7 @@ fn column_value(linear: &Linear, prices: &[Ratio], column: usize) -> Result<Rati
 {
     let mut sum = Ratio::zero();
     for g in 0..prices.len() {
-        let amount = part_of(linear, column, g);
+        let amount = linear.part(column, g);
         let price = number(prices, g);
         let Ok(next) = add_product(&sum, &amount, &price) else {
             return Err(Wide);
@@ -140,15 +108,6 @@ fn column_value(linear: &Linear, prices: &[Ratio], column: usize) -> Result<Rati
         sum = next;
     }
     Ok(sum)
-}
-
-// What is wanted of a good.
-fn want_of(linear: &Linear, good: usize) -> Ratio
-    requires inside { good < good_count linear.now }
-    requires wants { length linear.now.wants ≡ good_count linear.now }
-    ensures { result ≡ want_at linear.now good }
-{
-    number(linear.wants.as_slice(), good)
 }
 
 // The sum of the wants times the prices, in the order of goods.
@@ -159,7 +118,7 @@ fn value_of_wants(linear: &Linear, prices: &[Ratio]) -> Result<Ratio, Wide>
 {
     let mut sum = Ratio::zero();
     for g in 0..prices.len() {
-        let want = want_of(linear, g);
+        let want = linear.want(g);
         let price = number(prices, g);
         let Ok(next) = add_product(&sum, &want, &price) else {
             return Err(Wide);
@@ -167,15 +126,6 @@ fn value_of_wants(linear: &Linear, prices: &[Ratio]) -> Result<Ratio, Wide>
         sum = next;
     }
     Ok(sum)
-}
-
-// The name of a column.
-fn name_of(linear: &Linear, column: usize) -> Column
-    requires { column < column_count linear.now }
-    ensures { table_name (slice_get linear.now.columns column) ≡ Some result }
-{
-    let columns = linear.columns.as_slice();
-    columns[column].column
 }
 
 // Whether no rate is below 0; else the first column whose rate is.
@@ -186,7 +136,7 @@ fn check_signs(linear: &Linear, rates: &[Ratio]) -> Result<(), Column>
     for j in 0..rates.len() {
         let rate = number(rates, j);
         if rate.is_neg() {
-            return Err(name_of(linear, j));
+            return Err(linear.name(j));
         }
     }
     Ok(())
@@ -216,15 +166,6 @@ fn is_positive(number: &Ratio) -> bool
     number.cmp(&Ratio::zero()) == Ordering::Greater
 }
 
-// The good at a place.
-fn good_at(linear: &Linear, place: usize) -> GoodId
-    requires { place < good_count linear.now }
-    ensures { slice_get linear.now.goods place ≡ Some result }
-{
-    let goods = linear.goods.as_slice();
-    goods[place]
-}
-
 // Whether each good is balanced; else what fails of the first that isn't.
 fn check_balance(linear: &Linear, rates: &[Ratio]) -> Result<(), CheckFault>
     requires length { length rates.now ≡ column_count linear.now }
@@ -235,9 +176,9 @@ fn check_balance(linear: &Linear, rates: &[Ratio]) -> Result<(), CheckFault>
         let Ok(sum) = balance(linear, rates, g) else {
             return Err(CheckFault::WideSum);
         };
-        let want = want_of(linear, g);
+        let want = linear.want(g);
         if !same(&sum, &want) {
-            return Err(CheckFault::Unbalanced(good_at(linear, g)));
+            return Err(CheckFault::Unbalanced(linear.good(g)));
         }
     }
     Ok(())
@@ -249,7 +190,7 @@ fn limit_of(linear: &Linear, limit: Limit, column: usize) -> Ratio
     ensures { result ≡ limit_at linear.now limit column }
 {
     match limit {
-        Limit::OwnPrice => price_of(linear, column),
+        Limit::OwnPrice => linear.price(column),
         Limit::Nothing => Ratio::zero(),
     }
 }
@@ -265,7 +206,7 @@ fn check_values(linear: &Linear, limit: Limit, prices: &[Ratio]) -> Result<(), C
         };
         let most = limit_of(linear, limit, j);
         if is_above(&value, &most) {
-            return Err(CheckFault::Gains(name_of(linear, j)));
+            return Err(CheckFault::Gains(linear.name(j)));
         }
     }
     Ok(())

@@ -12,12 +12,12 @@ returns-in_default c =
 
 pub returns-then-not-same : goal.returns-then-not-same
 returns-then-not-same c =
-    unbalanced_at c.args.linear.now c.args.rates.now c.loop-g.g c.in-Ok.sum c.want_of-want.result c.good_at.result (omega arith) c.loop-g.invariant c.in-Ok.ensures c.want_of-want.ensures c.if-not-same.ensures.not c.good_at.ensures
+    unbalanced_at c.args.linear.now c.args.rates.now c.loop-g.g c.in-Ok.sum c.want-want.result c.good.result (omega arith) c.loop-g.invariant c.in-Ok.ensures c.want-want.ensures c.if-not-same.ensures.not c.good.ensures
 
 pub loop-g-preserved : goal.loop-g-preserved
 loop-g-preserved c =
     below_more _ _ c.loop-g.invariant
-    (balanced_at c.args.linear.now c.args.rates.now c.loop-g.g c.in-Ok.sum c.want_of-want.result c.in-Ok.ensures c.want_of-want.ensures c.if-not-same.ensures.yes)
+    (balanced_at c.args.linear.now c.args.rates.now c.loop-g.g c.in-Ok.sum c.want-want.result c.in-Ok.ensures c.want-want.ensures c.if-not-same.ensures.yes)
 
 pub returns : goal.returns
 returns c = λ g h. c.loop-g.invariant g (omega arith)

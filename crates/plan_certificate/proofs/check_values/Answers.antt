@@ -12,8 +12,8 @@ returns-in_default c =
 
 pub returns-then-is_above : goal.returns-then-is_above
 returns-then-is_above c =
-    gains_at c.args.linear.now c.args.limit c.args.prices.now c.loop-j.j c.in-Ok.value c.limit_of-most.result c.name_of.result
-    (omega arith) c.loop-j.invariant c.in-Ok.ensures c.limit_of-most.ensures c.if-is_above.ensures.yes c.name_of.ensures
+    gains_at c.args.linear.now c.args.limit c.args.prices.now c.loop-j.j c.in-Ok.value c.limit_of-most.result c.name.result
+    (omega arith) c.loop-j.invariant c.in-Ok.ensures c.limit_of-most.ensures c.if-is_above.ensures.yes c.name.ensures
 
 pub loop-j-preserved : goal.loop-j-preserved
 loop-j-preserved c =

@@ -1,6 +1,6 @@
 use Rattle.std.proofs.Common.{◌≡◌, length}
-use Rattle.linear_table.specs.Plans.{part_at}
-use Rattle.plan_certificate.proofs.part.Given as goal
+use Rattle.linear_table.specs.Parts.{part_at}
+use Rattle.linear_table.proofs.part_of.Given as goal
 
 abbrev pub invariant-loop-rest : goal.invariant-loop-rest
 invariant-loop-rest l = part_at l.rest l.good ≡ part_at l.parts l.good
