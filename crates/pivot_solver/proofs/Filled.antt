@@ -11,12 +11,12 @@ use Rattle.linear_table.specs.declared.Linear.{Linear}
 use Rattle.pivot_solver.specs.Rows.{row_at, items_of}
 use Rattle.pivot_solver.specs.First.{width_of, first_number, ListsNumbers, ListsRows}
 
-number_at-append_old : (xs : List Fraction) (x : Fraction) (k : ℕ) → k < length xs → number_at (xs ++ x ∷ []) k ≡ number_at xs k
+pub number_at-append_old : (xs : List Fraction) (x : Fraction) (k : ℕ) → k < length xs → number_at (xs ++ x ∷ []) k ≡ number_at xs k
 number_at-append_old [] x k h = absurd (omega arith)
 number_at-append_old (y ∷ xs) x zero h = refl
 number_at-append_old (y ∷ xs) x (suc k) h = number_at-append_old xs x k (omega arith)
 
-number_at-append_new : (xs : List Fraction) (x : Fraction) → number_at (xs ++ x ∷ []) (length xs) ≡ x
+pub number_at-append_new : (xs : List Fraction) (x : Fraction) → number_at (xs ++ x ∷ []) (length xs) ≡ x
 number_at-append_new [] x = refl
 number_at-append_new (y ∷ xs) x = number_at-append_new xs x
 

@@ -27,7 +27,7 @@ use Rattle.pivot_solver.proofs.Kept.{set_exchanged, exchange_tableau}
 use Rattle.pivot_solver.proofs.Places.{wide_entry, wide_value, wide_reduced, wide_total, nothing_wide}
 
 -- the entries of one basis are one record
-same_entries : (s : System) (b : List ℕ) (e f : Entries) → IsBasis s b → AreEntries s b e → AreEntries s b f → e ≡ f
+pub same_entries : (s : System) (b : List ℕ) (e f : Entries) → IsBasis s b → AreEntries s b e → AreEntries s b f → e ≡ f
 same_entries s b e f basis he hf = entries_alone s b b e f basis he hf (λ c h. h)
 
 -- the next exchange, said of these entries

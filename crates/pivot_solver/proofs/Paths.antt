@@ -1,14 +1,16 @@
 -- Paths of the solver.
 use Rattle.std.specs.Prelude.{◌≡◌, ℕ, zero, suc, ◌+◌, ◌<◌, ◌≤◌, List, [], ◌∷◌, ◌++◌, length, Some}
 use Rattle.std.proofs.Common.{refl, sym, ap, subst, ◌∙◌, arith, set, get_or, Global}
-use Rattle.linear_table.specs.System.{System, IsBasis}
-use Rattle.linear_table.specs.Trail.{Move, IsNext, HasValues, first_basis, count_up}
+use Rattle.linear_table.specs.System.{System, IsBasis, Entries, AreEntries}
+use Rattle.linear_table.specs.Trail.{Move, IsNext, IsSettled, HasValues, first_basis, count_up}
 use Rattle.linear_table.specs.Basis.{system_of, name_at}
 use Rattle.linear_table.specs.Plans.{IsWellFormed, good_count}
 use Rattle.linear_table.specs.Answer.{Names, NamesAll, last_basis, GetsWide, RunsOut, IsAnswer, IsTooWide}
 use Rattle.linear_table.specs.declared.Linear.{Linear}
 use Rattle.linear_table.specs.declared.Exchange.{Exchange}
 use Rattle.linear_table.specs.declared.Place.{Place}
+use Rattle.linear_table.specs.declared.SolveAnswer.{SolveAnswer}
+use Rattle.linear_table.specs.declared.SolveAnswer.TheVariants.{Planned, Infeasible, TooWide, OutOfBudget}
 use Rattle.linear_table.proofs.Pivot.{CanExchange}
 use Rattle.linear_table.proofs.Extend.{names_more}
 use Rattle.linear_table.proofs.Settled.{system_sound}
@@ -22,7 +24,7 @@ use Rattle.pivot_solver.specs.Tableau.{IsTableau, IsPivoted}
 use Rattle.pivot_solver.specs.Choice.{NextAt}
 use Rattle.pivot_solver.specs.WideAt.{IsWideAt}
 use Rattle.pivot_solver.specs.Places.{IsPlaceOf}
-use Rattle.pivot_solver.specs.Path.{IsPath, IsProgress}
+use Rattle.pivot_solver.specs.Path.{IsPath, EndsWithin, IsDone, IsOutWith}
 use Rattle.pivot_solver.specs.declared.WideAt.{WideAt}
 use Rattle.pivot_solver.specs.declared.path.Path.{Path}
 use Rattle.pivot_solver.proofs.Kept.{exchange_tableau}
@@ -89,10 +91,10 @@ path_onward l p q row enter x h n done eb et name_enter name_leave =
       named = subst (λ (k : List Exchange). NamesAll l (h.moves ++ m ∷ []) k) (sym et) (names_more l h.moves p.trail.items m x h.named (record { enter_is = name_enter; leave_is = name_leave }));
       is_trail = trail_onward l p.basis.items h.moves m h.basis_is h.is_trail n.is_next;
       narrow = narrow_onward l p.basis.items h.moves m h.tableau.entries h.basis_is h.tableau.is_basis h.tableau.are_entries h.narrow
-      (nothing_wide l p.basis.items p.rows.items p.cost.items h.tableau row enter hr can q.rows.items q.cost.items done);
+          (nothing_wide l p.basis.items p.rows.items p.cost.items h.tableau row enter hr can q.rows.items q.cost.items done);
       basis_is = basis_onward l p.basis.items q.basis.items h.moves row enter h.basis_is h.tableau.is_basis n.inside eb;
       tableau = subst (λ (k : List ℕ). IsTableau (system_of l) k q.rows.items q.cost.items) (sym eb)
-      (exchange_tableau (system_of l) p.basis.items p.rows.items q.rows.items p.cost.items q.cost.items row enter h.tableau done hr can);
+          (exchange_tableau (system_of l) p.basis.items p.rows.items q.rows.items p.cost.items q.cost.items row enter h.tableau done hr can);
     }
 
 pub path_wide : (l : Linear) (budget : ℕ) (p : Path) (row enter : ℕ) (x : Exchange) (at : WideAt) (place : Place) (trail : List Exchange) → IsPath l p → NextAt (system_of l) p.basis.items row enter → IsWideAt p.rows.items p.cost.items row enter at → IsPlaceOf l at place →
@@ -107,10 +109,29 @@ path_wide l budget p row enter x at place trail h n wide there fewer et name_ent
       subst (λ (k : List Exchange). NamesAll l h.moves k) (sym et) h.named,
       record { enter_is = name_enter; leave_is = name_leave },
       gets_wide l budget p.basis.items h.moves m place h.basis_is h.tableau.is_basis h.is_trail h.narrow (omega arith)
-      (wide_next l p.basis.items m h.tableau.entries place h.tableau.is_basis h.tableau.are_entries n.is_next
-      (place_wide l p.basis.items p.rows.items p.cost.items h.tableau row enter hr can at place wide there)),
+          (wide_next l p.basis.items m h.tableau.entries place h.tableau.is_basis h.tableau.are_entries n.is_next
+          (place_wide l p.basis.items p.rows.items p.cost.items h.tableau row enter hr can at place wide there)),
     )
 
 pub path_out : (l : Linear) (budget : ℕ) (p : Path) (row enter : ℕ) (h : IsPath l p) → NextAt (system_of l) p.basis.items row enter → length p.trail.items ≡ budget → RunsOut l budget h.moves
 path_out l budget p row enter h n e =
     runs_out l budget p.basis.items h.moves (record { enter = enter; leave = get_or p.basis.items row 0 }) h.basis_is h.tableau.is_basis h.is_trail h.narrow (length-names l h.moves p.trail.items h.named ∙ e) n.is_next
+
+-- a path to a settled basis
+pub ends_within : (l : Linear) (budget : ℕ) (p : Path) (h : IsPath l p) → length p.trail.items ≤ budget → (e : Entries) → AreEntries (system_of l) p.basis.items e → IsSettled (system_of l) p.basis.items e → EndsWithin l budget h.moves
+ends_within l budget p h le e en done =
+    record {
+      trail = h.is_trail;
+      entries = e;
+      are_entries = subst (λ (b : List ℕ). AreEntries (system_of l) b e) h.basis_is en;
+      settled = subst (λ (b : List ℕ). IsSettled (system_of l) b e) h.basis_is done;
+      narrow = h.narrow;
+      within = omega (arith, length-names l h.moves p.trail.items h.named);
+    }
+
+pub out_done : (l : Linear) (budget : ℕ) (p : Path) (row enter : ℕ) → IsPath l p → NextAt (system_of l) p.basis.items row enter → length p.trail.items ≡ budget → (a : SolveAnswer) → IsOutWith p.trail.items a → IsDone l budget a
+out_done l budget p row enter h n e (Planned x) w = absurd w
+out_done l budget p row enter h n e (Infeasible x) w = absurd w
+out_done l budget p row enter h n e (TooWide x next place) w = absurd w
+out_done l budget p row enter h n e (OutOfBudget x) w =
+    ((h.moves, subst (λ (k : List Exchange). NamesAll l h.moves k) (sym w) h.named, path_out l budget p row enter h n e), tt)

@@ -44,3 +44,10 @@ IsDone l budget a = IsAnswer l budget a × SettlesWithin l budget a
 abbrev pub IsProgress : Linear → ℕ → ℕ → Progress → Type 0
 IsProgress l budget n (On p) = IsPath l p × (length p.trail.items ≡ suc n) × (n < budget)
 IsProgress l budget n (Done a) = IsDone l budget a
+
+-- the answer that the budget is used up, with this trail
+abbrev pub IsOutWith : List Exchange → SolveAnswer → Type 0
+IsOutWith trail (Planned p) = ⊥
+IsOutWith trail (Infeasible prices) = ⊥
+IsOutWith trail (TooWide moves next place) = ⊥
+IsOutWith trail (OutOfBudget moves) = moves ≡ trail

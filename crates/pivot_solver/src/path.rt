@@ -6,9 +6,10 @@ ghost use Rattle.linear_table.specs.Basis.{system_of};
 ghost use Rattle.linear_table.specs.declared.Linear.{Linear};
 ghost use Rattle.pivot_solver.specs.First.{width_of};
 ghost use Rattle.pivot_solver.specs.Choice.{IsChosen, NextAt};
-ghost use Rattle.pivot_solver.specs.Path.{IsPath, IsProgress};
+ghost use Rattle.pivot_solver.specs.Path.{IsPath, IsProgress, IsOutWith};
 ghost use Rattle.pivot_solver.specs.Places.{IsInTableau, IsPlaceOf};
 
+use crate::answers::{plan, refusal};
 use crate::first::{first_cost_row, first_rows, unit_columns};
 use crate::{Choice, WideAt, choose, pivot};
 use fractions::Ratio;
@@ -33,7 +34,12 @@ pub enum Progress {
 }
 
 // The first basis.
-pub fn first_path(alloc: Global, linear: &Linear, goods: usize, width: usize) -> Result<Path, NoMemory>
+pub fn first_path(
+    alloc: Global,
+    linear: &Linear,
+    goods: usize,
+    width: usize,
+) -> Result<Path, NoMemory>
     requires well_formed { IsWellFormed linear.now }
     requires goods_is { goods ≡ good_count linear.now }
     requires width_is { width ≡ width_of linear.now }
@@ -113,7 +119,12 @@ fn advance(
     requires is_next { NextAt (system_of linear.now) path.basis.items row enter }
     ensures { IfOk result (λ progress. (budget : ℕ) → length path.trail.items < budget → IsProgress linear.now budget (length path.trail.items) progress) }
 {
-    let Path { mut basis, mut rows, mut cost, mut trail } = path;
+    let Path {
+        mut basis,
+        mut rows,
+        mut cost,
+        mut trail,
+    } = path;
     let next = Exchange {
         enter: linear.name_of_place(enter),
         leave: linear.name_of_place(basis[row]),
@@ -122,12 +133,63 @@ fn advance(
         Ok(()) => {
             basis[row] = enter;
             trail.push(next)?;
-            Ok(Progress::On(Path { basis, rows, cost, trail }))
+            Ok(Progress::On(Path {
+                basis,
+                rows,
+                cost,
+                trail,
+            }))
         }
         Err(at) => Ok(Progress::Done(SolveAnswer::TooWide {
             trail: Items::from_vec(trail),
             next,
             place: place_of(linear, width, at),
         })),
+    }
+}
+
+// The next exchange of a path, or the answer of its basis.
+pub fn step(
+    alloc: Global,
+    linear: &Linear,
+    path: Path,
+    goods: usize,
+    width: usize,
+    budget: u32,
+) -> Result<Progress, NoMemory>
+    requires well_formed { IsWellFormed linear.now }
+    requires goods_is { goods ≡ good_count linear.now }
+    requires goods_few { goods < 2 ^ 32 }
+    requires width_is { width ≡ width_of linear.now }
+    requires is_path { IsPath linear.now path }
+    requires within { length path.trail.items ≤ budget }
+    ensures { IfOk result (IsProgress linear.now budget (length path.trail.items)) }
+{
+    match choice_on(linear, &path, goods, width) {
+        Choice::Planned => {
+            let plan = plan(alloc, linear, &path, goods, width)?;
+            Ok(Progress::Done(SolveAnswer::Planned(plan)))
+        }
+        Choice::Infeasible(row) => {
+            let prices = refusal(alloc, linear, &path, goods, row)?;
+            Ok(Progress::Done(SolveAnswer::Infeasible(prices)))
+        }
+        Choice::Pivot { row, enter } => {
+            if path.trail.len() < budget as usize {
+                advance(alloc, linear, path, goods, width, row, enter)
+            } else {
+                Ok(Progress::Done(out_of_budget(path)))
+            }
+        }
+    }
+}
+
+// The answer that the budget is used up.
+fn out_of_budget(path: Path) -> SolveAnswer
+    ensures { IsOutWith path.trail.items result }
+{
+    let Path { trail, .. } = path;
+    SolveAnswer::OutOfBudget {
+        trail: Items::from_vec(trail),
     }
 }

@@ -17,18 +17,18 @@ returns-in_ok-push-in-Ok c =
     let leave : c.index.result.now ≡ get_or c.args.path.basis.items c.args.row 0 = get_or_read c.args.path.basis.items c.args.row c.index.result.now row_known c.index.ensures 0 in
     λ budget fewer. (
       path_onward c.args.linear.now c.args.path
-      (record {
-        basis = with_item c.args.path.basis c.args.row c.args.enter;
-        rows = with_items c.args.path.rows c.pivot.new.rows;
-        cost = with_items c.args.path.cost c.pivot.new.cost;
-        trail = c.push.new.self;
-      })
-      c.args.row c.args.enter (record { enter = c.name_of_place.result; leave = c.name_of_place-2.result }) c.requires.is_path c.requires.is_next
-      (pivoted_at c.args.row c.args.enter c.deref_mut.ensures.value c.deref_mut-2.ensures.value
-      (sym (with_items_is c.args.path.rows c.pivot.new.rows (c.in-Ok.ensures.ok.row_count ∙ (ap length c.deref_mut.ensures.value ∙ sym c.args.path.rows.ok.0))))
-      (sym (with_items_is c.args.path.cost c.pivot.new.cost (c.in-Ok.ensures.ok.cost_row.length_is ∙ (ap (λ (x : List Fraction). length x) c.deref_mut-2.ensures.value ∙ sym c.args.path.cost.ok.0))))
-      c.in-Ok.ensures.ok)
-      refl c.in_ok-push-in-Ok.ensures.items c.name_of_place.ensures (ap (λ (k : ℕ). name_at c.args.linear.now k) (sym leave) ∙ c.name_of_place-2.ensures),
+          (record {
+            basis = with_item c.args.path.basis c.args.row c.args.enter;
+            rows = with_items c.args.path.rows c.pivot.new.rows;
+            cost = with_items c.args.path.cost c.pivot.new.cost;
+            trail = c.push.new.self;
+          })
+          c.args.row c.args.enter (record { enter = c.name_of_place.result; leave = c.name_of_place-2.result }) c.requires.is_path c.requires.is_next
+          (pivoted_at c.args.row c.args.enter c.deref_mut.ensures.value c.deref_mut-2.ensures.value
+          (sym (with_items_is c.args.path.rows c.pivot.new.rows (c.in-Ok.ensures.ok.row_count ∙ (ap length c.deref_mut.ensures.value ∙ sym c.args.path.rows.ok.0))))
+          (sym (with_items_is c.args.path.cost c.pivot.new.cost (c.in-Ok.ensures.ok.cost_row.length_is ∙ (ap (λ (x : List Fraction). length x) c.deref_mut-2.ensures.value ∙ sym c.args.path.cost.ok.0))))
+          c.in-Ok.ensures.ok)
+          refl c.in_ok-push-in-Ok.ensures.items c.name_of_place.ensures (ap (λ (k : ℕ). name_at c.args.linear.now k) (sym leave) ∙ c.name_of_place-2.ensures),
       omega (arith, ap (λ (x : List Exchange). length x) c.in_ok-push-in-Ok.ensures.items, length-append {A = Exchange}),
       fewer,
     )
@@ -39,8 +39,8 @@ returns-in-Err c =
     let leave : c.index.result.now ≡ get_or c.args.path.basis.items c.args.row 0 = get_or_read c.args.path.basis.items c.args.row c.index.result.now row_known c.index.ensures 0 in
     λ budget fewer. (
       path_wide c.args.linear.now budget c.args.path c.args.row c.args.enter (record { enter = c.name_of_place.result; leave = c.name_of_place-2.result }) c.in-Err.at c.place_of.result c.from_vec.result
-      c.requires.is_path c.requires.is_next
-      (wide_at c.args.row c.args.enter c.in-Err.at c.deref_mut.ensures.value c.deref_mut-2.ensures.value c.in-Err.ensures.err)
-      c.place_of.ensures fewer c.from_vec.ensures c.name_of_place.ensures (ap (λ (k : ℕ). name_at c.args.linear.now k) (sym leave) ∙ c.name_of_place-2.ensures),
+          c.requires.is_path c.requires.is_next
+          (wide_at c.args.row c.args.enter c.in-Err.at c.deref_mut.ensures.value c.deref_mut-2.ensures.value c.in-Err.ensures.err)
+          c.place_of.ensures fewer c.from_vec.ensures c.name_of_place.ensures (ap (λ (k : ℕ). name_at c.args.linear.now k) (sym leave) ∙ c.name_of_place-2.ensures),
       tt,
     )
