@@ -1,11 +1,11 @@
 -- Well formed linear forms, their plans, and prices that show a plan to be cheapest or that there is none.
-use Rattle.std.specs.Prelude.{◌≡◌, ℕ, suc, ◌+◌, ◌<◌, ◌≤◌, List, [], ◌∷◌, ◌++◌, map, length, Option, Some, None, slice_get, slice_index_or, if◌then◌else◌, ◌==◌}
+use Rattle.std.specs.Prelude.{◌≡◌, ◌≢◌, ℕ, suc, ◌+◌, ◌<◌, ◌≤◌, List, [], ◌∷◌, length, Option, Some, None, slice_get, slice_index_or, if◌then◌else◌, ◌==◌}
 use Rattle.fractions.specs.Fraction.{Fraction, zero_fraction, one_fraction, negated, ◌*ʳ◌, ◌≤ʳ◌, ◌<ʳ◌}
-use Rattle.linear_table.specs.System.{sum_below, AllDiffer}
-use Rattle.linear_table.specs.Trail.{count_up}
+use Rattle.linear_table.specs.System.{sum_below}
 use Rattle.linear_table.specs.Parts.{part_at}
 use Rattle.plan_base.specs.declared.ids.GoodId.{GoodId}
-use Rattle.linear_table.specs.declared.Column.TheVariants.{Line, Import, Surplus}
+use Rattle.linear_table.specs.declared.Column.{Column}
+use Rattle.linear_table.specs.declared.Column.TheVariants.{Line, Import, Surplus, Unit as UnitOf}
 use Rattle.linear_table.specs.declared.Linear.{Linear}
 use Rattle.linear_table.specs.declared.LinearColumn.{LinearColumn}
 
@@ -44,29 +44,38 @@ abbrev pub Rises : ℕ → ℕ → List (ℕ × Fraction) → Type 0
 Rises k n [] = Unit {0}
 Rises k n (p ∷ ps) = (k ≤ p.0) × (p.0 < n) × Rises (suc p.0) n ps
 
--- the only part of the column at j is x, at the place of the good
-pub record HasOnePart (l : Linear) (j : ℕ) (good : GoodId) (x : Fraction) : Type 0 where
+-- the only part is x, at the place of the good
+pub record HasOnePart (l : Linear) (good : GoodId) (x : Fraction) (parts : List (ℕ × Fraction)) : Type 0 where
   pub place : ℕ
   pub place_of : slice_get l.goods place ≡ Some good
-  pub parts_are : parts_of (slice_get l.columns j) ≡ (place, x) ∷ []
+  pub parts_are : parts ≡ (place, x) ∷ []
 
-abbrev pub numbers_of : List GoodId → List ℕ
-numbers_of goods = map (λ g. g.0) goods
+-- rows come first, then imports, then surpluses; a unit column is none of a table
+abbrev pub kind_rank : Column → ℕ
+kind_rank (Line n) = 0
+kind_rank (Import good) = 1
+kind_rank (Surplus good) = 2
+kind_rank (UnitOf good) = 3
+
+-- a row's name has the place of its column; an import is one of its good, and a surplus one less
+abbrev pub FitsName : Linear → ℕ → Column → List (ℕ × Fraction) → Type 0
+FitsName l j (Line n) parts = n ≡ j
+FitsName l j (Import good) parts = HasOnePart l good one_fraction parts
+FitsName l j (Surplus good) parts = HasOnePart l good (negated one_fraction) parts
+FitsName l j (UnitOf good) parts = ⊥
+
+pub record IsSoundColumn (l : Linear) (j : ℕ) (c : LinearColumn) : Type 0 where
+  pub parts_rise : Rises 0 (good_count l) c.parts
+  pub price : zero_fraction ≤ʳ c.price
+  pub name_fits : FitsName l j c.column c.parts
 
 pub record IsWellFormed (l : Linear) : Type 0 where
   pub wants_fit : length l.wants ≡ length l.goods
-  pub goods_differ : AllDiffer (numbers_of l.goods)
-  pub parts_rise : (j : ℕ) → Rises 0 (length l.goods) (parts_of (slice_get l.columns j))
-  pub line_count : ℕ
-  pub imports : List GoodId
-  pub surpluses : List GoodId
-  pub names_are : map (λ c. c.column) l.columns ≡ map (λ i. Line i) (count_up 0 line_count) ++ (map (λ g. Import g) imports ++ map (λ g. Surplus g) surpluses)
-  pub imports_differ : AllDiffer (numbers_of imports)
-  pub surpluses_differ : AllDiffer (numbers_of surpluses)
-  pub import_parts : (k : ℕ) (g : GoodId) → slice_get imports k ≡ Some g → HasOnePart l (line_count + k) g one_fraction
-  pub surplus_parts : (k : ℕ) (g : GoodId) → slice_get surpluses k ≡ Some g → HasOnePart l (line_count + length imports + k) g (negated one_fraction)
-  pub prices : (j : ℕ) → zero_fraction ≤ʳ column_price l j
   pub wants : (g : ℕ) → zero_fraction ≤ʳ want_at l g
+  pub goods_differ : (i j : ℕ) → i < j → j < good_count l → slice_get l.goods i ≢ slice_get l.goods j
+  pub columns : (j : ℕ) (c : LinearColumn) → slice_get l.columns j ≡ Some c → IsSoundColumn l j c
+  pub kinds_rise : (j : ℕ) (c d : LinearColumn) → slice_get l.columns j ≡ Some c → slice_get l.columns (suc j) ≡ Some d → kind_rank c.column ≤ kind_rank d.column
+  pub names_differ : (i j : ℕ) (c d : LinearColumn) → i < j → slice_get l.columns i ≡ Some c → slice_get l.columns j ≡ Some d → c.column ≢ d.column
 
 -- ---- plans
 -- one rate per column, none negative, which add what is wanted to each good

@@ -8,6 +8,8 @@
 ghost use Rattle.std.specs.Prelude.{◌≡◌, ◌<◌, ◌+◌, length, Some, slice_get};
 ghost use Rattle.linear_table.specs.Parts.{part_at};
 
+mod form;
+
 use fractions::Ratio;
 use plan_base::{GoodId, Items};
 
