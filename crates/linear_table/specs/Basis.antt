@@ -1,4 +1,5 @@
--- The columns of a linear form with a unit column per good, by places: first the units in the order of goods, then the table's columns in theirs.
+-- The columns of a linear form with a unit column per good, by places: first the units in the order of goods, then the table's
+-- columns in theirs. A unit column is one of its good, at no price.
 use Rattle.std.specs.Prelude.{ℕ, ◌-◌, if◌then◌else◌, nat_lt, Option, Some, None, slice_get}
 use Rattle.fractions.specs.Fraction.{zero_fraction}
 use Rattle.linear_table.specs.System.{System, one_at}

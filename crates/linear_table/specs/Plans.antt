@@ -1,4 +1,8 @@
 -- Well formed linear forms, their plans, and prices that show a plan to be cheapest or that there is none.
+--
+-- A plan is a vector of rates, none negative, that balances every good exactly: what is wanted, no less and no more. That
+-- least-cost prices show a plan to be cheapest is weak duality, and that infeasibility prices show that there is no plan is
+-- the easy half of Farkas's lemma (Schrijver, Theory of Linear and Integer Programming, chapter 7).
 use Rattle.std.specs.Prelude.{◌≡◌, ◌≢◌, ℕ, suc, ◌+◌, ◌<◌, ◌≤◌, List, [], ◌∷◌, length, Option, Some, None, slice_get, slice_index_or, if◌then◌else◌, ◌==◌}
 use Rattle.fractions.specs.Fraction.{Fraction, zero_fraction, one_fraction, negated, ◌*ʳ◌, ◌≤ʳ◌, ◌<ʳ◌}
 use Rattle.linear_table.specs.System.{sum_below}

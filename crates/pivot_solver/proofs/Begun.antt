@@ -1,21 +1,20 @@
 -- The first numbers are a tableau of the unit columns.
-use Rattle.std.specs.Prelude.{◌≡◌, ℕ, zero, suc, ◌+◌, ◌-◌, ◌<◌, ◌≤◌, List, [], ◌∷◌, length}
-use Rattle.std.proofs.Common.{refl, sym, ap, subst, ◌∙◌, arith, inl, inr, get_or, cond, ltb}
-use Rattle.std.proofs.lemmas.Bool.{cases_lt, lt-ltb, le-ltb}
+use Rattle.std.specs.Prelude.{◌≡◌, ℕ, zero, suc, ◌+◌, ◌<◌, List}
+use Rattle.std.proofs.Common.{sym, ap, subst, ◌∙◌, arith, inl, inr, get_or}
+use Rattle.std.proofs.lemmas.Bool.{cases_lt}
 use Rattle.std.specs.declared.vec.Vec.{Vec}
 use Rattle.fractions.specs.Fraction.{Fraction, zero_fraction, negated, ◌-ʳ◌, ◌*ʳ◌}
 use Rattle.fractions.specs.Fracs.{atom, nought, ◌⊟◌, opposite, same_amount}
 use Rattle.fractions.proofs.Laws.{*ʳ-zero, zero-*ʳ}
-use Rattle.linear_table.specs.System.{System, IsSound, IsBasis, IsCombination, Entries, AreEntries, sum_below, reduced, total}
+use Rattle.linear_table.specs.System.{System, IsSound, Entries, AreEntries, sum_below, reduced, total}
 use Rattle.linear_table.specs.Trail.{count_up, first_basis}
-use Rattle.linear_table.specs.Plans.{good_count, column_count, number_at, want_at, IsWellFormed}
+use Rattle.linear_table.specs.Plans.{good_count, want_at, IsWellFormed}
 use Rattle.linear_table.specs.Basis.{system_of}
 use Rattle.linear_table.specs.declared.Linear.{Linear}
 use Rattle.linear_table.proofs.Sums.{sum_zero}
-use Rattle.linear_table.proofs.First.{first_is_basis, unit_weights, unit_weights_at, unit_weights_past, units_comb, length-count_up}
+use Rattle.linear_table.proofs.First.{first_is_basis, unit_weights, unit_weights_at, unit_weights_past, units_comb}
 use Rattle.linear_table.proofs.Settled.{system_sound, at_unit, at_table}
-use Rattle.pivot_solver.specs.Rows.{row_at}
-use Rattle.pivot_solver.specs.First.{width_of, first_number, first_cost, ListsNumbers, ListsRows}
+use Rattle.pivot_solver.specs.First.{width_of, first_cost, ListsNumbers, ListsRows}
 use Rattle.pivot_solver.specs.Tableau.{IsTableau}
 
 get_or-count_up : (k n i : ℕ) → i < n → get_or (count_up k n) i 0 ≡ k + i

@@ -1,8 +1,8 @@
 -- Lists of numbers that grow by one, and what two of one length with the same numbers are.
-use Rattle.std.specs.Prelude.{◌≡◌, ℕ, zero, suc, ◌+◌, ◌<◌, List, [], ◌∷◌, ◌++◌, length}
+use Rattle.std.specs.Prelude.{◌≡◌, ℕ, suc, ◌+◌, ◌<◌, List, [], ◌∷◌, ◌++◌, length}
 use Rattle.std.proofs.Common.{refl, sym, ap, subst, ◌∙◌, arith, inl, inr, length-append}
 use Rattle.std.proofs.lemmas.Bool.{cases_eq}
-use Rattle.fractions.specs.Fraction.{Fraction, zero_fraction}
+use Rattle.fractions.specs.Fraction.{Fraction}
 use Rattle.linear_table.specs.Plans.{number_at}
 use Rattle.linear_table.proofs.Settled.{listed, length-listed, number_at-listed}
 use Rattle.pivot_solver.specs.Numbers.{ListsEach}

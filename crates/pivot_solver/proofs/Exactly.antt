@@ -1,14 +1,13 @@
 -- Each answer comes exactly where its cause is, and when a table is settled.
-use Rattle.std.specs.Prelude.{◌≡◌, ℕ, ◌+◌, ◌<◌, ◌≤◌, ◌↔◌, List, [], ◌∷◌, length}
-use Rattle.std.proofs.Common.{refl, sym, ap, subst, ◌∙◌, arith}
-use Rattle.linear_table.specs.System.{System, IsBasis, Entries, AreEntries}
+use Rattle.std.specs.Prelude.{◌≡◌, ℕ, ◌+◌, ◌≤◌, ◌↔◌, List, [], ◌∷◌}
+use Rattle.std.proofs.Common.{sym, subst}
+use Rattle.linear_table.specs.System.{IsBasis}
 use Rattle.linear_table.specs.Exchanged.{exchanged}
-use Rattle.linear_table.specs.Trail.{Move, IsTrail, IsTrailFrom, first_basis, count_up}
+use Rattle.linear_table.specs.Trail.{Move, IsTrailFrom, first_basis, count_up}
 use Rattle.linear_table.specs.Basis.{system_of}
 use Rattle.linear_table.specs.Plans.{good_count, column_count, IsWellFormed}
-use Rattle.linear_table.specs.Count.{ListsBases, choose}
 use Rattle.linear_table.specs.Moderate.{IsModerateTable, HasBudgetForBases, HasBudgetForChoices}
-use Rattle.linear_table.specs.Answer.{NoneWide, RunsOut, GetsWide, IsTooWideAnswer, IsOutOfBudgetAnswer, IsInfeasibleAnswer, SettlesTable, SomeGetsWide, SomeRunsOut, HasNoPlan, IsTrailOf, HasNoBasisTwice, NeverFormsWide}
+use Rattle.linear_table.specs.Answer.{NoneWide, IsTooWideAnswer, IsOutOfBudgetAnswer, IsInfeasibleAnswer, SettlesTable, SomeGetsWide, SomeRunsOut, HasNoPlan, IsTrailOf, HasNoBasisTwice, NeverFormsWide}
 use Rattle.linear_table.specs.declared.Linear.{Linear}
 use Rattle.linear_table.specs.declared.SolveAnswer.{SolveAnswer}
 use Rattle.linear_table.specs.declared.SolveAnswer.TheVariants.{Planned, Infeasible, TooWide, OutOfBudget}

@@ -1,14 +1,14 @@
 -- Lists that grow by one number, and rows that grow by one row.
-use Rattle.std.specs.Prelude.{◌≡◌, ℕ, zero, suc, ◌+◌, ◌<◌, List, [], ◌∷◌, ◌++◌, length, Option, Some, None, slice_get}
-use Rattle.std.proofs.Common.{refl, sym, ap, subst, ◌∙◌, arith, inl, inr, add-one, length-append, get_or}
+use Rattle.std.specs.Prelude.{◌≡◌, ℕ, zero, suc, ◌+◌, ◌<◌, List, [], ◌∷◌, ◌++◌, length}
+use Rattle.std.proofs.Common.{refl, sym, ap, subst, ◌∙◌, arith, inl, inr, length-append}
 use Rattle.std.proofs.lemmas.Bool.{cases_eq}
 use Rattle.std.specs.declared.vec.Vec.{Vec}
-use Rattle.fractions.specs.Fraction.{Fraction, zero_fraction}
+use Rattle.fractions.specs.Fraction.{Fraction}
 use Rattle.fractions.specs.Limits.{IsNarrow}
 use Rattle.linear_table.specs.Plans.{number_at}
 use Rattle.linear_table.specs.Trail.{count_up}
 use Rattle.linear_table.specs.declared.Linear.{Linear}
-use Rattle.pivot_solver.specs.Rows.{row_at, items_of}
+use Rattle.pivot_solver.specs.Rows.{row_at}
 use Rattle.pivot_solver.specs.First.{width_of, first_number, ListsNumbers, ListsRows}
 
 pub number_at-append_old : (xs : List Fraction) (x : Fraction) (k : ℕ) → k < length xs → number_at (xs ++ x ∷ []) k ≡ number_at xs k

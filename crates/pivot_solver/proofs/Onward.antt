@@ -1,30 +1,28 @@
 -- A path with one exchange more, and what an exchange that forms a wide number shows.
-use Rattle.std.specs.Prelude.{◌≡◌, ℕ, zero, suc, ◌+◌, ◌<◌, ◌≤◌, List, [], ◌∷◌, ◌++◌, length, Some}
-use Rattle.std.proofs.Common.{refl, sym, ap, subst, ◌∙◌, arith, inl, inr, set, get_or}
+use Rattle.std.specs.Prelude.{◌≡◌, ℕ, suc, ◌<◌, List, [], ◌∷◌, ◌++◌, length}
+use Rattle.std.proofs.Common.{refl, sym, ap, subst, ◌∙◌, set, get_or}
 use Rattle.std.specs.declared.vec.Vec.{Vec}
 use Rattle.fractions.specs.Fraction.{Fraction}
 use Rattle.linear_table.specs.System.{System, IsBasis, Entries, AreEntries}
 use Rattle.linear_table.specs.Exchanged.{exchanged}
-use Rattle.linear_table.specs.Trail.{Move, IsChoice, IsNext, IsTrail, IsSettled, first_basis, basis_after}
-use Rattle.linear_table.specs.Basis.{system_of, name_at}
-use Rattle.linear_table.specs.Plans.{IsWellFormed}
+use Rattle.linear_table.specs.Trail.{Move, IsChoice, IsNext, IsTrail, IsSettled, first_basis}
+use Rattle.linear_table.specs.Basis.{system_of}
 use Rattle.linear_table.specs.Wide.{FormsWide}
-use Rattle.linear_table.specs.Answer.{Names, NamesAll, NoneWide, last_basis, IsOpenTrail, RunsOut, GetsWide}
+use Rattle.linear_table.specs.Answer.{NamesAll, NoneWide, last_basis, RunsOut, GetsWide}
 use Rattle.linear_table.specs.declared.Linear.{Linear}
 use Rattle.linear_table.specs.declared.Exchange.{Exchange}
 use Rattle.linear_table.specs.declared.Place.{Place}
 use Rattle.linear_table.specs.declared.Place.TheVariants.{Entry, Value, Reduced, Total}
 use Rattle.linear_table.proofs.Pivot.{CanExchange}
 use Rattle.linear_table.proofs.Steps.{entries_alone, choice_can}
-use Rattle.linear_table.proofs.Extend.{trail_more, last_more, narrow_more, names_more}
-use Rattle.pivot_solver.specs.Tableau.{IsTableau, IsPivoted}
-use Rattle.pivot_solver.specs.Choice.{NextAt}
+use Rattle.linear_table.proofs.Extend.{trail_more, last_more, narrow_more}
+use Rattle.pivot_solver.specs.Tableau.{IsTableau}
 use Rattle.pivot_solver.specs.WideAt.{IsWideInRow, IsWideInCost, IsWideAt}
 use Rattle.pivot_solver.specs.Places.{IsPlaceOf}
 use Rattle.pivot_solver.specs.declared.WideAt.{WideAt}
 use Rattle.pivot_solver.specs.declared.WideAt.TheVariants.{Row, Cost}
-use Rattle.pivot_solver.proofs.Kept.{set_exchanged, exchange_tableau}
-use Rattle.pivot_solver.proofs.Places.{wide_entry, wide_value, wide_reduced, wide_total, nothing_wide}
+use Rattle.pivot_solver.proofs.Kept.{set_exchanged}
+use Rattle.pivot_solver.proofs.Places.{wide_entry, wide_value, wide_reduced, wide_total}
 
 -- the entries of one basis are one record
 pub same_entries : (s : System) (b : List ℕ) (e f : Entries) → IsBasis s b → AreEntries s b e → AreEntries s b f → e ≡ f

@@ -1,11 +1,11 @@
 -- Paths of the solver.
-use Rattle.std.specs.Prelude.{◌≡◌, ℕ, zero, suc, ◌+◌, ◌<◌, ◌≤◌, List, [], ◌∷◌, ◌++◌, length, Some}
-use Rattle.std.proofs.Common.{refl, sym, ap, subst, ◌∙◌, arith, set, get_or, Global}
-use Rattle.linear_table.specs.System.{System, IsBasis, Entries, AreEntries}
-use Rattle.linear_table.specs.Trail.{Move, IsNext, IsSettled, HasValues, first_basis, count_up}
+use Rattle.std.specs.Prelude.{◌≡◌, ℕ, suc, ◌<◌, ◌≤◌, List, [], ◌∷◌, ◌++◌, length, Some}
+use Rattle.std.proofs.Common.{sym, ap, subst, ◌∙◌, arith, set, get_or, Global}
+use Rattle.linear_table.specs.System.{System, Entries, AreEntries}
+use Rattle.linear_table.specs.Trail.{Move, IsSettled, HasValues, count_up}
 use Rattle.linear_table.specs.Basis.{system_of, name_at}
 use Rattle.linear_table.specs.Plans.{IsWellFormed, good_count}
-use Rattle.linear_table.specs.Answer.{Names, NamesAll, last_basis, GetsWide, RunsOut, IsAnswer, IsTooWide}
+use Rattle.linear_table.specs.Answer.{NamesAll, RunsOut, IsTooWide}
 use Rattle.linear_table.specs.declared.Linear.{Linear}
 use Rattle.linear_table.specs.declared.Exchange.{Exchange}
 use Rattle.linear_table.specs.declared.Place.{Place}
@@ -30,7 +30,7 @@ use Rattle.pivot_solver.specs.declared.path.Path.{Path}
 use Rattle.pivot_solver.proofs.Kept.{exchange_tableau}
 use Rattle.pivot_solver.proofs.Places.{nothing_wide}
 use Rattle.pivot_solver.proofs.Begun.{first_tableau}
-use Rattle.pivot_solver.proofs.Onward.{wide_next, can_next, trail_onward, basis_onward, narrow_onward, place_wide, WideNext, gets_wide, runs_out, length-names}
+use Rattle.pivot_solver.proofs.Onward.{wide_next, can_next, trail_onward, basis_onward, narrow_onward, place_wide, gets_wide, runs_out, length-names}
 
 pub tableau_at : {Y : Type 0} {basis basis0 : List ℕ} {rows rows0 : List (Vec Fraction Y)} {cost cost0 : List Fraction} (s : System) → basis0 ≡ basis → rows0 ≡ rows → cost0 ≡ cost → IsTableau s basis rows cost → IsTableau s basis0 rows0 cost0
 tableau_at {Y = Y} {basis0 = basis0} {rows = rows} {rows0 = rows0} {cost = cost} s eb er ec h =

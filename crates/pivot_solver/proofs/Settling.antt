@@ -1,17 +1,17 @@
 -- The plan, and the prices, of a settled basis.
-use Rattle.std.specs.Prelude.{◌≡◌, ◌≢◌, ℕ, suc, ◌+◌, ◌<◌, ◌⊎◌, List, length, slice_index}
-use Rattle.std.proofs.Common.{refl, sym, ap, subst, ◌∙◌, arith, inl, inr, get_or, Global}
+use Rattle.std.specs.Prelude.{◌≡◌, ℕ, ◌+◌, ◌<◌, List, length}
+use Rattle.std.proofs.Common.{sym, ap, subst, ◌∙◌, arith, inl, inr, get_or}
 use Rattle.std.specs.declared.vec.Vec.{Vec}
 use Rattle.fractions.specs.Fraction.{Fraction, zero_fraction, negated, ◌-ʳ◌}
 use Rattle.fractions.specs.Fracs.{atom, nought, ◌⊟◌, opposite, same_amount}
 use Rattle.fractions.proofs.Laws.{negated-negated}
-use Rattle.linear_table.specs.System.{System, IsBasis, Entries, AreEntries, Has, one_at, reduced, total}
-use Rattle.linear_table.specs.Trail.{HasValues, ShowsPlan, ShowsNone}
+use Rattle.linear_table.specs.System.{System, Entries, one_at, total}
+use Rattle.linear_table.specs.Trail.{HasValues, ShowsPlan}
 use Rattle.linear_table.specs.Basis.{system_of}
 use Rattle.linear_table.specs.Plans.{good_count, column_count, number_at, IsWellFormed, IsPlan, cost_of, AreLeastCostPrices, AreInfeasibilityPrices}
 use Rattle.linear_table.specs.declared.Linear.{Linear}
 use Rattle.linear_table.proofs.Combos.{worth}
-use Rattle.linear_table.proofs.Settled.{listed, good_prices, rates_of, shows_plan, shows_prices, shows_none, cost_of_rates, weight_at, at_unit}
+use Rattle.linear_table.proofs.Settled.{good_prices, rates_of, shows_plan, shows_prices, shows_none, cost_of_rates, weight_at, at_unit}
 use Rattle.pivot_solver.specs.Rows.{row_at}
 use Rattle.pivot_solver.specs.First.{width_of}
 use Rattle.pivot_solver.specs.Tableau.{IsTableau}

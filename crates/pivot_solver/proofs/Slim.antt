@@ -1,5 +1,5 @@
 -- Numbers within the limits stay so, and a product with 0 is never wide.
-use Rattle.std.specs.Prelude.{◌≡◌, ℕ, ◌+◌, ◌*◌, ◌/◌, ◌<◌, ◌≤◌, ◌^◌, ℤ, pos, ◌+ℤ◌, ◌*ℤ◌}
+use Rattle.std.specs.Prelude.{◌≡◌, ℕ, ◌*◌, ◌/◌, ◌<◌, ◌≤◌, ◌^◌, ℤ, pos, ◌+ℤ◌, ◌*ℤ◌}
 use Rattle.std.proofs.Common.{refl, sym, ap, subst, ◌∙◌, arith, lit<}
 use Rattle.std.proofs.lemmas.Int.{ints}
 use Rattle.std.proofs.lemmas.Nat.Gcd.{le_of_dvd}
@@ -7,8 +7,8 @@ use Rattle.std.proofs.Math.IntN.{nat_abs}
 use Rattle.std.proofs.Math.Nat.{div_self}
 use Rattle.fractions.specs.Gcd.{gcd, gcd_is, gcd_pos}
 use Rattle.fractions.specs.Fraction.{Fraction, frac, zero_fraction, negated, ◌+ʳ◌, ◌-ʳ◌, ◌*ʳ◌}
-use Rattle.fractions.specs.Fracs.{atom, nought, ◌⊞◌, ◌⊟◌, ◌⊠◌, opposite, same_amount}
-use Rattle.fractions.specs.Limits.{IsNarrow, SumFits, DifferenceFits, lcm, num_over}
+use Rattle.fractions.specs.Fracs.{atom, nought, ◌⊟◌, opposite, same_amount}
+use Rattle.fractions.specs.Limits.{IsNarrow, SumFits, lcm, num_over}
 use Rattle.fractions.proofs.Laws.{*ʳ-zero, zero-*ʳ}
 use Rattle.fractions.proofs.Bounds.{num-frac-le, den-frac-le}
 use Rattle.fractions.proofs.Sum.{IsCommon, common_parts}

@@ -1,9 +1,9 @@
 -- How far the solver has come: a trail from the first basis, and the tableau of the basis that it leads to.
-use Rattle.std.specs.Prelude.{◌≡◌, ℕ, suc, ◌<◌, ◌≤◌, ◌⊎◌, List, length, Some, slice_index}
+use Rattle.std.specs.Prelude.{◌≡◌, ℕ, suc, ◌<◌, ◌≤◌, List, length}
 use Rattle.linear_table.specs.System.{Entries, AreEntries}
 use Rattle.linear_table.specs.Trail.{Move, IsTrail, IsSettled, first_basis}
-use Rattle.linear_table.specs.Basis.{system_of, name_at}
-use Rattle.linear_table.specs.Answer.{NamesAll, NoneWide, last_basis, RunsOut, GetsWide, IsAnswer}
+use Rattle.linear_table.specs.Basis.{system_of}
+use Rattle.linear_table.specs.Answer.{NamesAll, NoneWide, last_basis, IsAnswer}
 use Rattle.linear_table.specs.declared.Linear.{Linear}
 use Rattle.linear_table.specs.declared.Exchange.{Exchange}
 use Rattle.linear_table.specs.declared.SolveAnswer.{SolveAnswer}

@@ -1,6 +1,5 @@
 -- Which entry of the new basis a number of the tableau is.
-use Rattle.std.specs.Prelude.{◌≡◌, ℕ, ◌<◌, ◌≤◌, ◌⊎◌, Some}
-use Rattle.linear_table.specs.Plans.{good_count}
+use Rattle.std.specs.Prelude.{◌≡◌, ◌<◌, ◌≤◌, Some}
 use Rattle.linear_table.specs.Basis.{name_at}
 use Rattle.linear_table.specs.declared.Linear.{Linear}
 use Rattle.linear_table.specs.declared.Place.{Place}
