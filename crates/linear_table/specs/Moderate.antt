@@ -1,5 +1,5 @@
 -- Tables of moderate numbers: on them no exchange forms an entry wide.
-use Rattle.std.specs.Prelude.{ℕ, ◌+◌, ◌<◌, ◌≤◌, ◌^◌, List, length}
+use Rattle.std.specs.Prelude.{ℕ, ◌+◌, ◌<◌, ◌≤◌, ◌^◌, ◌⊎◌, List, length}
 use Rattle.std.proofs.Math.IntN.{nat_abs}
 use Rattle.fractions.specs.Fraction.{Fraction}
 use Rattle.linear_table.specs.System.{System, IsBasis, Entries, AreEntries, Has, reduced, total}
@@ -23,10 +23,14 @@ pub record HasModerateEntries (s : System) (b : List ℕ) (e : Entries) : Type 0
 abbrev pub IsModerateTable : Linear → Type 0
 IsModerateTable l = (b : List ℕ) (e : Entries) → IsBasis (system_of l) b → AreEntries (system_of l) b e → HasModerateEntries (system_of l) b e
 
--- the budget is at least the number of bases, counted as sets of columns
-abbrev pub HasBudgetForBases : Linear → ℕ → Type 0
-HasBudgetForBases l budget = (all : List (List ℕ)) × ListsBases (system_of l) all × (length all ≤ budget)
+-- ---- enough budget
+-- at least the number of bases, counted as sets of columns
+abbrev pub CountsBases : Linear → ℕ → Type 0
+CountsBases l budget = (all : List (List ℕ)) × ListsBases (system_of l) all × (length all ≤ budget)
 
--- the budget is at least the number of ways to choose a basis's columns from all
-abbrev pub HasBudgetForChoices : Linear → ℕ → Type 0
-HasBudgetForChoices l budget = choose (good_count l + column_count l) (good_count l) ≤ budget
+-- at least the number of ways to choose as many columns as there are goods, units and the table's
+abbrev pub CountsChoices : Linear → ℕ → Type 0
+CountsChoices l budget = choose (good_count l + column_count l) (good_count l) ≤ budget
+
+abbrev pub HasEnoughBudget : Linear → ℕ → Type 0
+HasEnoughBudget l budget = CountsBases l budget ⊎ CountsChoices l budget

@@ -1,12 +1,12 @@
 -- Each answer comes exactly where its cause is, and when a table is settled.
 use Rattle.std.specs.Prelude.{◌≡◌, ℕ, ◌+◌, ◌≤◌, ◌↔◌, List, [], ◌∷◌}
-use Rattle.std.proofs.Common.{sym, subst}
+use Rattle.std.proofs.Common.{sym, subst, inl, inr}
 use Rattle.linear_table.specs.System.{IsBasis}
 use Rattle.linear_table.specs.Exchanged.{exchanged}
 use Rattle.linear_table.specs.Trail.{Move, IsTrailFrom, first_basis, count_up}
 use Rattle.linear_table.specs.Basis.{system_of}
 use Rattle.linear_table.specs.Plans.{good_count, column_count, IsWellFormed}
-use Rattle.linear_table.specs.Moderate.{IsModerateTable, HasBudgetForBases, HasBudgetForChoices}
+use Rattle.linear_table.specs.Moderate.{IsModerateTable, CountsBases, CountsChoices, HasEnoughBudget}
 use Rattle.linear_table.specs.Answer.{NoneWide, IsTooWideAnswer, IsOutOfBudgetAnswer, IsInfeasibleAnswer, SettlesTable, SomeGetsWide, SomeRunsOut, HasNoPlan, IsTrailOf, HasNoBasisTwice, NeverFormsWide}
 use Rattle.linear_table.specs.declared.Linear.{Linear}
 use Rattle.linear_table.specs.declared.SolveAnswer.{SolveAnswer}
@@ -52,11 +52,11 @@ infeasible_exactly l budget (Infeasible prices) well d =
 infeasible_exactly l budget (TooWide trail next place) well d = (λ h. absurd h, λ h. h.1 (d.0.0, d.0.1, place, d.0.4))
 infeasible_exactly l budget (OutOfBudget trail) well d = (λ h. absurd h, λ h. h.2 (d.0.0, d.0.2))
 
-pub settles : (l : Linear) (budget : ℕ) (a : SolveAnswer) → IsWellFormed l → IsDone l budget a → NeverFormsWide l → HasBudgetForBases l budget → SettlesTable a
-settles l budget (Planned p) well d narrow bases = tt
-settles l budget (Infeasible prices) well d narrow bases = tt
-settles l budget (TooWide trail next place) well d narrow bases = never_gets_wide l budget d.0.0 d.0.1 place narrow d.0.4
-settles l budget (OutOfBudget trail) well d narrow bases = never_runs_out l budget d.0.0 bases.0 well bases.1 bases.2 d.0.2
+settles_counted : (l : Linear) (budget : ℕ) (a : SolveAnswer) → IsWellFormed l → IsDone l budget a → NeverFormsWide l → CountsBases l budget → SettlesTable a
+settles_counted l budget (Planned p) well d narrow bases = tt
+settles_counted l budget (Infeasible prices) well d narrow bases = tt
+settles_counted l budget (TooWide trail next place) well d narrow bases = never_gets_wide l budget d.0.0 d.0.1 place narrow d.0.4
+settles_counted l budget (OutOfBudget trail) well d narrow bases = never_runs_out l budget d.0.0 bases.0 well bases.1 bases.2 d.0.2
 
 none_wide_from : (l : Linear) (b : List ℕ) (ms : List Move) → IsWellFormed l → IsModerateTable l → IsBasis (system_of l) b → IsTrailFrom (system_of l) b ms → NoneWide l b ms
 none_wide_from l b [] well below basis t = tt
@@ -68,9 +68,16 @@ none_wide_from l b (m ∷ ms) well below basis t = (
 pub moderate_never_wide : (l : Linear) → IsWellFormed l → IsModerateTable l → NeverFormsWide l
 moderate_never_wide l well below ms t = none_wide_from l (first_basis (system_of l)) ms well below (first_is_basis (system_of l) (system_sound l well)) t
 
-pub budget_for_bases : (l : Linear) (budget : ℕ) → HasBudgetForChoices l budget → HasBudgetForBases l budget
+budget_for_bases : (l : Linear) (budget : ℕ) → CountsChoices l budget → CountsBases l budget
 budget_for_bases l budget h =
     (sublists (good_count l) (count_up 0 (good_count l + column_count l)), all_choices (system_of l), subst (λ (k : ℕ). k ≤ budget) (sym (length-all_choices (system_of l))) h)
+
+pub settles : (l : Linear) (budget : ℕ) (a : SolveAnswer) → IsWellFormed l → IsDone l budget a → NeverFormsWide l → HasEnoughBudget l budget → SettlesTable a
+settles l budget a well d narrow enough =
+    elim enough [
+      | inl bases ↦ settles_counted l budget a well d narrow bases
+      | inr choices ↦ settles_counted l budget a well d narrow (budget_for_bases l budget choices)
+    ]
 
 pub no_basis_twice : (l : Linear) (a : SolveAnswer) → IsWellFormed l → (ms : List Move) → IsTrailOf l a ms → HasNoBasisTwice l ms
 no_basis_twice l (Planned p) well ms t = absurd t

@@ -1,4 +1,4 @@
-use Rattle.pivot_solver.proofs.Exactly.{done_of, wide_exactly, out_exactly, infeasible_exactly, no_basis_twice, settles, moderate_never_wide, budget_for_bases}
+use Rattle.pivot_solver.proofs.Exactly.{done_of, wide_exactly, out_exactly, infeasible_exactly, no_basis_twice, settles, moderate_never_wide}
 use Rattle.pivot_solver.proofs.solve.Goals as goal
 
 pub returns-in-Done-clause-too_wide : goal.returns-in-Done-clause-too_wide
@@ -17,4 +17,4 @@ pub returns-in-Done-clause-settled : goal.returns-in-Done-clause-settled
 returns-in-Done-clause-settled c = settles c.args.linear.now c.args.budget c.in-Done.answer c.requires (done_of c.args.linear.now c.args.budget _ c.in_ok-progress.progress c.in-Done.answer c.in-Done.is c.in_ok-progress.ensures)
 
 pub returns-in-Done-clause-moderate : goal.returns-in-Done-clause-moderate
-returns-in-Done-clause-moderate c = λ below choices. settles c.args.linear.now c.args.budget c.in-Done.answer c.requires (done_of c.args.linear.now c.args.budget _ c.in_ok-progress.progress c.in-Done.answer c.in-Done.is c.in_ok-progress.ensures) (moderate_never_wide c.args.linear.now c.requires below) (budget_for_bases c.args.linear.now c.args.budget choices)
+returns-in-Done-clause-moderate c = λ below. settles c.args.linear.now c.args.budget c.in-Done.answer c.requires (done_of c.args.linear.now c.args.budget _ c.in_ok-progress.progress c.in-Done.answer c.in-Done.is c.in_ok-progress.ensures) (moderate_never_wide c.args.linear.now c.requires below)
