@@ -1,4 +1,5 @@
--- The columns of a linear form with a unit column per good, by places: first the units in the order of goods, then the table's columns in theirs.
+-- The columns of a linear form with a unit column per good, by places: first the units in the order of goods, then the table's
+-- columns in theirs. A unit column is one of its good, at no price.
 use Rattle.std.specs.Prelude.{ℕ, ◌-◌, if◌then◌else◌, nat_lt, Option, Some, None, slice_get}
 use Rattle.fractions.specs.Fraction.{zero_fraction}
 use Rattle.linear_table.specs.System.{System, one_at}
@@ -29,4 +30,4 @@ table_name None = None
 
 -- the name of the column at a place
 abbrev pub name_at : Linear → ℕ → Option Column
-name_at l k = if nat_lt k (good_count l) then unit_name (slice_get l.goods.items k) else table_name (slice_get l.columns.items (k - good_count l))
+name_at l k = if nat_lt k (good_count l) then unit_name (slice_get l.goods k) else table_name (slice_get l.columns (k - good_count l))

@@ -1,0 +1,7 @@
+use Rattle.std.proofs.Common.{◌≡◌}
+use Rattle.linear_table.specs.Plans.{number_at}
+use Rattle.pivot_solver.specs.Numbers.{ListsEach}
+use Rattle.pivot_solver.proofs.answers.front.Given as goal
+
+abbrev pub invariant-loop-g : goal.invariant-loop-g
+invariant-loop-g l = ListsEach l.g (λ g x. x ≡ number_at l.row g) l.prices.items
