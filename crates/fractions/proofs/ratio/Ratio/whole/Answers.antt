@@ -1,0 +1,8 @@
+use Rattle.std.proofs.Common.{◌∙◌, ap, arith}
+use Rattle.std.proofs.lemmas.Int.{ints}
+use Rattle.fractions.specs.Fraction.{whole_fraction, frac}
+use Rattle.fractions.proofs.ratio.Ratio.whole.Goals as goal
+
+pub returns : goal.returns
+unfolding whole_fraction
+returns c = c.reduced.ensures ∙ ap (λ a. frac a 1) (omega (arith, ints))

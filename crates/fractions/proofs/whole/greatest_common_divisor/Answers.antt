@@ -1,0 +1,16 @@
+use Rattle.std.proofs.Common.{◌≡◌, ◌∙◌, ap, sym, arith}
+use Rattle.fractions.specs.Gcd.{gcd, gcd-mod, gcd-zero, gcd_pos, gcd-le_right}
+use Rattle.fractions.proofs.whole.greatest_common_divisor.Goals as goal
+
+pub loop-b-preserved : goal.loop-b-preserved
+loop-b-preserved c = gcd-mod c.loop-b.a c.loop-b.b ∙ c.loop-b.invariant
+
+pub returns : goal.returns
+returns c =
+    let done : c.loop-b.b ≡ 0 = omega (arith, c.loop-b-test.false) in
+    let same : c.loop-b.a ≡ gcd c.args.first c.args.second = sym (gcd-zero c.loop-b.a) ∙ (ap (gcd c.loop-b.a) (sym done) ∙ c.loop-b.invariant) in
+    record {
+      exact = same;
+      positive = λ p. rw same (gcd_pos _ _ p);
+      at_most = λ p. rw same (gcd-le_right _ _ p);
+    }

@@ -1,0 +1,287 @@
+//! Fractions in lowest terms: arithmetic, order, text.
+
+ghost use Rattle.std.specs.Prelude.{◌≡◌, ℕ, ◌+◌, ◌*◌, ◌/◌, ◌<◌, ◌≤◌, ◌^◌, ℤ, pos, ◌+ℤ◌, ◌*ℤ◌, neg_ℤ, ◌≤ℤ◌, ◌<ℤ◌, int_div, unsigned_abs, IsTrue, ◌↔◌, ◌≢◌, IfOk, string_bytes, length, slice_index};
+ghost use Rattle.std.specs.Result.{OkIff};
+ghost use Rattle.std.specs.Option.{SomeIff};
+ghost use Rattle.std.specs.Int.{IsInRange};
+ghost use Rattle.std.specs.Str.Parse.{AllDigits, digits_value};
+ghost use Rattle.fractions.specs.Gcd.{gcd};
+ghost use Rattle.std.specs.Ordering.{nat_cmp, MatchOrdering};
+ghost use Rattle.fractions.specs.Fraction.{frac, ◌*ʳ◌, ◌+ʳ◌, ◌-ʳ◌, ◌/ʳ◌, ◌<ʳ◌, ◌≤ʳ◌, whole_fraction, negated, inverse, zero_fraction, one_fraction};
+ghost use Rattle.fractions.specs.Limits.{IsNarrow, SumFits, DifferenceFits};
+ghost use Rattle.fractions.specs.Print.{printed};
+ghost use Rattle.fractions.specs.Stored.{IsStored};
+
+use crate::whole::{
+    compare_parts, divided, greatest_common_divisor, natural_product, rounded_up, whole_product,
+    whole_sum,
+};
+use plan_base::{NoMemory, Text};
+use std::alloc::Global;
+use std::cmp::Ordering;
+use std::marker::Model;
+
+/// A result past the limits.
+#[derive(Clone, Copy, Debug, PartialEq, Eq)]
+pub struct Wide;
+
+/// A fraction in lowest terms. The numerator's magnitude and the denominator are below 2^127.
+#[derive(Clone, Copy)]
+pub struct Ratio {
+    numerator: i128,
+    denominator: u128,
+}
+
+impl Model for Ratio {
+    ghost use Rattle.fractions.specs.Fraction.{Fraction, frac};
+    ghost use Rattle.fractions.specs.Stored.{fraction_code, IsStored};
+    ghost use Rattle.fractions.specs.Stored.{stored_back};
+
+    ghost Value = { Fraction };
+
+    ghost coded = { fraction_code };
+
+    ghost view = { λ r. frac r.numerator r.denominator };
+
+    ghost invariant = { λ r. IsStored r.numerator r.denominator };
+
+    ghost inverse = { λ x. record { numerator = x.num; denominator = x.den } };
+
+    ghost inverse_ok = { λ r h. stored_back r.numerator r.denominator h (λ n d. record { numerator = n; denominator = d }) };
+}
+
+impl Ratio {
+    // The fraction of two numbers that are in lowest terms.
+    fn stored(numerator: i128, denominator: u128) -> Ratio
+        requires { IsStored numerator denominator }
+        ensures { result ≡ frac numerator denominator }
+    {
+        Ratio {
+            numerator,
+            denominator,
+        }
+    }
+
+    // The denominator as an unsigned number.
+    fn natural_denominator(&self) -> u128
+        ensures value { result ≡ self.now.den }
+        ensures narrow { result < 2 ^ 127 }
+    {
+        self.denominator
+    }
+
+    pub fn numerator(&self) -> i128
+        ensures value { result ≡ self.now.num }
+        ensures narrow { unsigned_abs result < 2 ^ 127 }
+    {
+        self.numerator
+    }
+
+    pub fn denominator(&self) -> i128
+        ensures value { result ≡ pos self.now.den }
+        ensures narrow { unsigned_abs result < 2 ^ 127 }
+    {
+        self.natural_denominator() as i128
+    }
+
+    pub fn zero() -> Ratio
+        ensures { result ≡ zero_fraction }
+    {
+        Ratio::stored(0, 1)
+    }
+
+    pub fn one() -> Ratio
+        ensures { result ≡ one_fraction }
+    {
+        Ratio::stored(1, 1)
+    }
+
+    pub fn whole(n: i64) -> Ratio
+        ensures { result ≡ whole_fraction n }
+    {
+        reduced(n as i128, 1)
+    }
+
+    pub fn part(n: i64, d: i64) -> Ratio
+        requires { pos 0 <ℤ d }
+        ensures { result ≡ frac n (unsigned_abs d) }
+    {
+        reduced(n as i128, d.unsigned_abs() as u128)
+    }
+
+    pub fn is_neg(&self) -> bool
+        ensures { IsTrue result ↔ (self.now <ʳ zero_fraction) }
+    {
+        self.numerator() < 0
+    }
+
+    pub fn is_zero(&self) -> bool
+        ensures { IsTrue result ↔ (self.now ≡ zero_fraction) }
+    {
+        self.numerator() == 0
+    }
+
+    pub fn neg(&self) -> Ratio
+        ensures { result ≡ negated self.now }
+    {
+        Ratio::stored(-self.numerator(), self.natural_denominator())
+    }
+
+    pub fn cmp(&self, other: &Ratio) -> Ordering
+        ensures { MatchOrdering result (self.now <ʳ other.now) (self.now ≡ other.now) (other.now <ʳ self.now) }
+    {
+        let a = self.numerator();
+        let b = self.natural_denominator();
+        let c = other.numerator();
+        let d = other.natural_denominator();
+        if a < 0 {
+            if c < 0 {
+                compare_parts(c.unsigned_abs(), d, a.unsigned_abs(), b)
+            } else {
+                Ordering::Less
+            }
+        } else if c < 0 {
+            Ordering::Greater
+        } else {
+            compare_parts(a.unsigned_abs(), b, c.unsigned_abs(), d)
+        }
+    }
+
+    pub fn mul(&self, other: &Ratio) -> Result<Ratio, Wide>
+        ensures { OkIff result (IsNarrow (self.now *ʳ other.now)) (self.now *ʳ other.now) }
+    {
+        let a = self.numerator();
+        let b = self.natural_denominator();
+        let c = other.numerator();
+        let d = other.natural_denominator();
+        let left = greatest_common_divisor(a.unsigned_abs(), d);
+        let right = greatest_common_divisor(c.unsigned_abs(), b);
+        let Ok(top) = whole_product(divided(a, left), divided(c, right)) else {
+            return Err(Wide);
+        };
+        let Ok(bottom) = natural_product(b / right, d / left) else {
+            return Err(Wide);
+        };
+        Ok(Ratio::stored(top, bottom))
+    }
+
+    /// The least whole number that is not below.
+    pub fn ceil(&self) -> Ratio
+        ensures whole { result.den ≡ 1 }
+        ensures not_below { self.now ≤ʳ result }
+        ensures least { (n : ℤ) → self.now ≤ʳ whole_fraction n → result ≤ʳ whole_fraction n }
+    {
+        reduced(rounded_up(self.numerator(), self.natural_denominator()), 1)
+    }
+
+    /// The text `n` where the denominator is 1, else `n/d`, with `-` before a negative one.
+    ///
+    /// # Errors
+    ///
+    /// `NoMemory` where memory could not be had.
+    pub fn print(&self, alloc: Global) -> Result<Text, NoMemory>
+        ensures { IfOk result (λ text. text ≡ printed self.now) }
+    {
+        let n = self.numerator();
+        let d = self.natural_denominator();
+        let text = if d == 1 {
+            format!(in alloc; "{n}")?
+        } else {
+            format!(in alloc; "{n}/{d}")?
+        };
+        Ok(Text::from_string(text))
+    }
+
+    // One over a fraction that is not 0.
+    fn inverse(&self) -> Ratio
+        requires { self.now ≢ zero_fraction }
+        ensures { result ≡ inverse self.now }
+    {
+        let n = self.numerator();
+        let d = self.natural_denominator() as i128;
+        if n < 0 {
+            Ratio::stored(-d, n.unsigned_abs())
+        } else {
+            Ratio::stored(d, n.unsigned_abs())
+        }
+    }
+
+    pub fn div(&self, other: &Ratio) -> Result<Ratio, Wide>
+        requires { other.now ≢ zero_fraction }
+        ensures { OkIff result (IsNarrow (self.now /ʳ other.now)) (self.now /ʳ other.now) }
+    {
+        self.mul(&other.inverse())
+    }
+
+    pub fn add(&self, other: &Ratio) -> Result<Ratio, Wide>
+        ensures { OkIff result (SumFits self.now other.now) (self.now +ʳ other.now) }
+    {
+        let b = self.natural_denominator();
+        let d = other.natural_denominator();
+        let common = greatest_common_divisor(b, d);
+        let b_factor = d / common;
+        let d_factor = b / common;
+        let Ok(bottom) = natural_product(b, b_factor) else {
+            return Err(Wide);
+        };
+        let Ok(first) = whole_product(self.numerator(), b_factor as i128) else {
+            return Err(Wide);
+        };
+        let Ok(second) = whole_product(other.numerator(), d_factor as i128) else {
+            return Err(Wide);
+        };
+        let Ok(top) = whole_sum(first, second) else {
+            return Err(Wide);
+        };
+        Ok(reduced(top, bottom))
+    }
+
+    pub fn sub(&self, other: &Ratio) -> Result<Ratio, Wide>
+        ensures { OkIff result (DifferenceFits self.now other.now) (self.now -ʳ other.now) }
+    {
+        self.add(&other.neg())
+    }
+
+    /// The value of `t - u*v`.
+    pub fn sub_mul(t: &Ratio, u: &Ratio, v: &Ratio) -> Result<Ratio, Wide>
+        ensures { OkIff result (IsNarrow (u.now *ʳ v.now) × DifferenceFits t.now (u.now *ʳ v.now)) (t.now -ʳ u.now *ʳ v.now) }
+    {
+        let Ok(product) = u.mul(v) else {
+            return Err(Wide);
+        };
+        t.sub(&product)
+    }
+}
+
+// A fraction of any two numbers below the limit, brought to lowest terms.
+fn reduced(top: i128, bottom: u128) -> Ratio
+    requires positive { 0 < bottom }
+    requires narrow_top { unsigned_abs top < 2 ^ 127 }
+    requires narrow_bottom { bottom < 2 ^ 127 }
+    ensures { result ≡ frac top bottom }
+{
+    let common = greatest_common_divisor(top.unsigned_abs(), bottom);
+    Ratio::stored(divided(top, common), bottom / common)
+}
+
+#[cfg(test)]
+mod tests {
+    use super::*;
+    use std::test::Fail;
+
+    #[test]
+    fn sums_and_products(rt: HostRuntime) -> Result<(), Fail> {
+        let third = Ratio::part(1, 3);
+        let sixth = Ratio::part(-2, 12);
+        let Ok(sum) = third.add(&sixth) else {
+            panic!(rt; "wide");
+        };
+        let text = sum.print(rt.alloc())?;
+        assert_eq!(rt; text.as_str(), "1/6");
+        assert!(rt; sixth.is_neg());
+        assert!(rt; sixth.cmp(&third) == Ordering::Less);
+        let minus = Ratio::part(-7, 2).ceil().print(rt.alloc())?;
+        assert_eq!(rt; minus.as_str(), "-3");
+        Ok(())
+    }
+}

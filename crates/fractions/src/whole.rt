@@ -1,0 +1,102 @@
+//! Arithmetic on the whole numbers that fractions are made of.
+ghost use Rattle.std.specs.Prelude.{◌≡◌, ℕ, ◌+◌, ◌*◌, ◌<◌, ◌≤◌, ◌^◌, ℤ, pos, ◌+ℤ◌, ◌*ℤ◌, ◌≤ℤ◌, ◌<ℤ◌, int_div, unsigned_abs};
+ghost use Rattle.std.specs.Result.{OkIff};
+ghost use Rattle.std.specs.Ordering.{nat_cmp};
+ghost use Rattle.fractions.specs.Gcd.{gcd};
+
+use crate::ratio::Wide;
+use std::cmp::Ordering;
+
+// How the fractions a/b and c/d compare, by Euclid's steps on both at once.
+pub fn compare_parts(a: u128, b: u128, c: u128, d: u128) -> Ordering
+    requires first { 0 < b }
+    requires second { 0 < d }
+    ensures { result ≡ nat_cmp (a * d) (c * b) }
+{
+    let whole = a / b;
+    let other_whole = c / d;
+    if whole != other_whole {
+        return whole.cmp(&other_whole);
+    }
+    let rest = a % b;
+    let other_rest = c % d;
+    if rest == 0 || other_rest == 0 {
+        return rest.cmp(&other_rest);
+    }
+    compare_parts(d, other_rest, b, rest)
+}
+
+// The greatest common divisor, by Euclid's steps.
+pub fn greatest_common_divisor(first: u128, second: u128) -> u128
+    ensures exact { result ≡ gcd first second }
+    ensures positive { 0 < second → 0 < result }
+    ensures at_most { 0 < second → result ≤ second }
+{
+    let mut a = first;
+    let mut b = second;
+    while b != 0 {
+        let rest = a % b;
+        a = b;
+        b = rest;
+    }
+    a
+}
+
+// The product of two naturals, where it is below the limit.
+pub fn natural_product(a: u128, b: u128) -> Result<u128, Wide>
+    ensures { OkIff result (a * b < 2 ^ 127) (a * b) }
+{
+    match a.checked_mul(b) {
+        Some(product) if product < 1 << 127 => Ok(product),
+        _ => Err(Wide),
+    }
+}
+
+// The product of two whole numbers, where its magnitude is below the limit.
+pub fn whole_product(a: i128, b: i128) -> Result<i128, Wide>
+    ensures { OkIff result (unsigned_abs (a *ℤ b) < 2 ^ 127) (a *ℤ b) }
+{
+    match a.checked_mul(b) {
+        Some(product) if product > i128::MIN => Ok(product),
+        _ => Err(Wide),
+    }
+}
+
+// The sum of two whole numbers, where its magnitude is below the limit.
+pub fn whole_sum(a: i128, b: i128) -> Result<i128, Wide>
+    ensures { OkIff result (unsigned_abs (a +ℤ b) < 2 ^ 127) (a +ℤ b) }
+{
+    match a.checked_add(b) {
+        Some(sum) if sum > i128::MIN => Ok(sum),
+        _ => Err(Wide),
+    }
+}
+
+// The least whole number that, times d, is not below n.
+pub fn rounded_up(n: i128, d: u128) -> i128
+    requires positive { 0 < d }
+    requires narrow { unsigned_abs n < 2 ^ 127 }
+    requires narrow_divisor { d < 2 ^ 127 }
+    ensures not_below { n ≤ℤ (result *ℤ pos d) }
+    ensures next { (result *ℤ pos d) <ℤ (n +ℤ pos d) }
+    ensures narrow { unsigned_abs result < 2 ^ 127 }
+{
+    let size = n.unsigned_abs();
+    let whole = (size / d) as i128;
+    if n < 0 {
+        -whole
+    } else if size % d == 0 {
+        whole
+    } else {
+        whole + 1
+    }
+}
+
+// A whole number divided by a natural below the limit, toward zero.
+pub fn divided(a: i128, divisor: u128) -> i128
+    requires positive { 0 < divisor }
+    requires narrow { divisor < 2 ^ 127 }
+    ensures { result ≡ int_div a (pos divisor) }
+{
+    a / divisor as i128
+}
