@@ -254,3 +254,6 @@ numeral_found text n w =
     ap numeral_of w.text_is
     ∙ (ap (λ b. unsigned_of b (behind_minus (sign_text n.negative ++ (n.whole ++ (part_text n.part ++ w.power_text))))) m.0
     ∙ (ap (unsigned_of n.negative) m.1 ∙ unsigned_found n w.power_text w.whole_is w.part_is w.power_is))
+
+pub power_digits : (text : List ℕ) (negative : Bool) (ds : List ℕ) → IsPowerText text negative ds → AllDigits 10 ds
+power_digits text negative ds h = ⊎_elim (λ k. subst (AllDigits 10) (sym k.2) tt) (λ k. k.digits) h

@@ -6,6 +6,12 @@ use Rattle.fractions.specs.declared.numeral.NumeralFault.TheVariants.{NotNumeral
 use Rattle.fractions.specs.Fraction.{Fraction, frac, ◌≤ʳ◌, ◌<ʳ◌}
 use Rattle.fractions.specs.Numeral.{Numeral, Writes, IsWholePart, sign_text, signed, magnitude, numeral_value, limit}
 
+-- what a magnitude is read as
+abbrev pub GivesMagnitude : Result Fraction NumeralFault → Fraction → Type 0
+GivesMagnitude (Ok x) m = (x <ʳ limit) × (x ≡ m)
+GivesMagnitude (Err TooLarge) m = limit ≤ʳ m
+GivesMagnitude (Err NotNumeral) m = ⊥
+
 -- what a numeral is read as: its value, or a fault where that is too large
 abbrev pub Gives : Result Fraction NumeralFault → Numeral → Type 0
 Gives (Ok x) n = (magnitude n <ʳ limit) × (x ≡ numeral_value n)

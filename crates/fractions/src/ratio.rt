@@ -96,10 +96,19 @@ impl Ratio {
         Ratio::stored(1, 1)
     }
 
+    // A whole number.
+    pub fn whole_number(n: i128) -> Ratio
+        requires { unsigned_abs n < 2 ^ 127 }
+        ensures { result ≡ whole_fraction n }
+    {
+        Ratio::stored(n, 1)
+    }
+
+    /// A whole number.
     pub fn whole(n: i64) -> Ratio
         ensures { result ≡ whole_fraction n }
     {
-        reduced(n as i128, 1)
+        Ratio::whole_number(n as i128)
     }
 
     pub fn part(n: i64, d: i64) -> Ratio
@@ -171,7 +180,7 @@ impl Ratio {
         ensures not_below { self.now ≤ʳ result }
         ensures least { (n : ℤ) → self.now ≤ʳ whole_fraction n → result ≤ʳ whole_fraction n }
     {
-        reduced(rounded_up(self.numerator(), self.natural_denominator()), 1)
+        Ratio::whole_number(rounded_up(self.numerator(), self.natural_denominator()))
     }
 
     /// The text `n` where the denominator is 1, else `n/d`, with `-` before a negative one.
@@ -253,8 +262,8 @@ impl Ratio {
     }
 }
 
-// A fraction of any two numbers below the limit, brought to lowest terms.
-fn reduced(top: i128, bottom: u128) -> Ratio
+/// A fraction of any two numbers below the limit, brought to lowest terms.
+pub fn reduced(top: i128, bottom: u128) -> Ratio
     requires positive { 0 < bottom }
     requires narrow_top { unsigned_abs top < 2 ^ 127 }
     requires narrow_bottom { bottom < 2 ^ 127 }

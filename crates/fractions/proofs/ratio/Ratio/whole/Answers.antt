@@ -5,4 +5,4 @@ use Rattle.fractions.proofs.ratio.Ratio.whole.Goals as goal
 
 pub returns : goal.returns
 unfolding whole_fraction
-returns c = c.reduced.ensures ∙ ap (λ a. frac a 1) (omega (arith, ints))
+returns c = c.whole_number.ensures ∙ ap whole_fraction (omega (arith, ints))
