@@ -1,14 +1,17 @@
 -- The readers take a text apart as the grammar of numerals says: `numeral_of` is the one numeral that it writes.
-use Rattle.std.specs.Prelude.{◌≡◌, ◌≢◌, ℕ, suc, ◌<◌, Bool, true, false, not, cond, ◌||◌, ◌==◌, List, [], ◌∷◌, ◌++◌, length, Option, Some, None, ◌⊎◌}
+use Rattle.std.specs.Prelude.{◌≡◌, ◌≢◌, ℕ, suc, ◌<◌, Bool, true, false, not, cond, ◌||◌, ◌&&◌, ◌==◌, List, [], ◌∷◌, ◌++◌, length, Option, Some, None, ◌⊎◌}
 use Rattle.std.specs.Char.{is_ascii_digit}
 use Rattle.std.specs.Int.{IsInRange}
-use Rattle.std.specs.Str.Parse.{AllDigits, starts_with_minus}
+use Rattle.std.specs.Str.Parse.{AllDigits, digits_value, starts_with_minus}
 use Rattle.std.proofs.Common.{refl, sym, ap, subst, ◌∙◌, arith, inl, inr, ⊎_elim, eqb-true, append_assoc}
+use Rattle.std.proofs.Math.Nat.{one-le-pow}
 use Rattle.std.proofs.lemmas.Bool.Decides.{nat_tests}
 use Rattle.std.proofs.lemmas.Str.Parse.{digit_from_value}
 use Rattle.fractions.specs.Digits.{front_digits, behind_digits}
 use Rattle.fractions.specs.Numeral.{Numeral, Writes, IsWholePart, IsPowerSign, IsPowerText, HasPower, sign_text, part_text}
-use Rattle.fractions.specs.Split.{behind_minus, behind_sign, is_whole, at_least_one, part_of, only_digits, signed_digits, power_of, with_power, with_part, unsigned_of, numeral_of}
+use Rattle.fractions.specs.Split.{behind_minus, behind_sign, is_whole, at_least_one, part_of, only_digits, signed_digits, power_of, with_power, with_part, unsigned_of, numeral_of, is_nothing, is_denominator, with_slash, quotient_of}
+use Rattle.fractions.specs.Quotient.{Quotient, WritesQuotient}
+use Rattle.fractions.proofs.Significant.{value-ge}
 use Rattle.fractions.proofs.Run.{front-behind, front_all_digits, front-append, NoDigitFirst, digit_false}
 
 -- ---- what is taken apart makes up the text
@@ -257,3 +260,88 @@ numeral_found text n w =
 
 pub power_digits : (text : List ℕ) (negative : Bool) (ds : List ℕ) → IsPowerText text negative ds → AllDigits 10 ds
 power_digits text negative ds h = ⊎_elim (λ k. subst (AllDigits 10) (sym k.2) tt) (λ k. k.digits) h
+
+-- ---- quotients
+denominator_by : (c : ℕ) (cs : List ℕ) (a : Bool) (rest : List ℕ) → (c == 48) ≡ a → (not a && is_nothing rest) ≡ true → (c ≢ 48) × (rest ≡ [])
+denominator_by c cs true rest e h = cc
+denominator_by c cs false [] e h = (λ z. let f : (48 == 48) ≡ false = ap (λ k. k == 48) (sym z) ∙ e in cc, refl)
+denominator_by c cs false (d ∷ ds) e h = cc
+
+all_front : (text : List ℕ) → behind_digits text ≡ [] → AllDigits 10 text
+all_front text e =
+    subst (AllDigits 10) (sym (append-nil_lem (front_digits text)) ∙ (ap (λ t. front_digits text ++ t) (sym e) ∙ front-behind text)) (front_all_digits text)
+
+pub denominator_sound : (ds : List ℕ) → is_denominator ds ≡ true → IsWholePart ds × (0 < digits_value 10 ds)
+denominator_sound [] e = cc
+denominator_sound (c ∷ cs) e =
+    let h : (c ≢ 48) × (behind_digits (c ∷ cs) ≡ []) = denominator_by c cs (c == 48) (behind_digits (c ∷ cs)) refl e in
+    let d : AllDigits 10 (c ∷ cs) = all_front (c ∷ cs) h.1 in (
+      record { digits = d; some = omega arith; no_leading_zero = λ z. absurd (h.0 z) },
+      omega (arith, value-ge (c ∷ cs) (length cs) d h.0 refl, one-le-pow (length cs) 10 (omega arith)),
+    )
+
+zero_alone : (c : ℕ) (cs : List ℕ) → c ≡ 48 → length (c ∷ cs) ≡ 1 → digits_value 10 (c ∷ cs) ≡ 0
+zero_alone c [] e l = rw e refl
+zero_alone c (d ∷ ds) e l = absurd (omega arith)
+
+pub denominator_found : (ds : List ℕ) → IsWholePart ds → 0 < digits_value 10 ds → is_denominator ds ≡ true
+denominator_found [] w h = absurd (omega (arith, w.some))
+denominator_found (c ∷ cs) w h =
+    let r : (front_digits ((c ∷ cs) ++ []) ≡ c ∷ cs) × (behind_digits ((c ∷ cs) ++ []) ≡ []) = front-append (c ∷ cs) [] w.digits tt in
+    let b : behind_digits (c ∷ cs) ≡ [] = ap behind_digits (sym (append-nil_lem (c ∷ cs))) ∙ r.1 in
+    let e : (c == 48) ≡ false = not_by c 48 (λ z. absurd (omega (arith, zero_alone c cs z (w.no_leading_zero z), h))) in
+    ap (λ k. not k && is_nothing (behind_digits (c ∷ cs))) e ∙ ap is_nothing b
+
+quotient_by : (text top cs : List ℕ) (negative : Bool) (c : ℕ) (a b d : Bool) (q : Quotient) → text ≡ sign_text negative ++ (top ++ c ∷ cs) → AllDigits 10 top → (c == 47) ≡ a → is_whole top ≡ b → is_denominator cs ≡ d → cond (a && b && d) (Some (record { negative = negative; top = top; bottom = cs })) None ≡ Some q → WritesQuotient text q
+quotient_by text top cs negative c true true true q t h ea eb ed e =
+    let same : record { negative = negative; top = top; bottom = cs } ≡ q = cc in
+    let w : IsWholePart cs × (0 < digits_value 10 cs) = denominator_sound cs ed in
+    subst (WritesQuotient text) same
+    (record { top_is = whole_sound top h eb; bottom_is = w.0; nonzero = w.1; text_is = t ∙ ap (λ k. sign_text negative ++ (top ++ k ∷ cs)) (eqb-true c 47 ea) })
+quotient_by text top cs negative c true true false q t h ea eb ed e = cc
+quotient_by text top cs negative c true false d q t h ea eb ed e = cc
+quotient_by text top cs negative c false b d q t h ea eb ed e = cc
+
+quotient_at : (text top rest : List ℕ) (negative : Bool) (q : Quotient) → text ≡ sign_text negative ++ (top ++ rest) → AllDigits 10 top → with_slash negative top rest ≡ Some q → WritesQuotient text q
+quotient_at text top [] negative q t h e = cc
+quotient_at text top (c ∷ cs) negative q t h e = quotient_by text top cs negative c (c == 47) (is_whole top) (is_denominator cs) q t h refl refl refl e
+
+pub quotient_sound : (text : List ℕ) (q : Quotient) → quotient_of text ≡ Some q → WritesQuotient text q
+quotient_sound text q e =
+    quotient_at text (front_digits (behind_minus text)) (behind_digits (behind_minus text)) (starts_with_minus text) q
+    (minus-behind text ∙ ap (λ t. sign_text (starts_with_minus text) ++ t) (sym (front-behind (behind_minus text))))
+    (front_all_digits (behind_minus text)) e
+
+-- the parts of a quotient's text
+record HasSlash (text : List ℕ) (q : Quotient) : Type 0 where
+  minus : starts_with_minus text ≡ q.negative
+  top : front_digits (behind_minus text) ≡ q.top
+  rest : behind_digits (behind_minus text) ≡ 47 ∷ q.bottom
+
+slash_found : (text : List ℕ) (q : Quotient) → WritesQuotient text q → HasSlash text q
+slash_found text q w =
+    let t : List ℕ = sign_text q.negative ++ (q.top ++ 47 ∷ q.bottom) in
+    let m : (starts_with_minus t ≡ q.negative) × (behind_minus t ≡ q.top ++ 47 ∷ q.bottom) = minus_found q.negative q.top (47 ∷ q.bottom) w.top_is in
+    let r : (front_digits (q.top ++ 47 ∷ q.bottom) ≡ q.top) × (behind_digits (q.top ++ 47 ∷ q.bottom) ≡ 47 ∷ q.bottom) = front-append q.top (47 ∷ q.bottom) w.top_is.digits (digit_false 47 (λ k. omega (arith, k))) in
+    record {
+      minus = ap starts_with_minus w.text_is ∙ m.0;
+      top = ap (λ s. front_digits (behind_minus s)) w.text_is ∙ (ap front_digits m.1 ∙ r.0);
+      rest = ap (λ s. behind_digits (behind_minus s)) w.text_is ∙ (ap behind_digits m.1 ∙ r.1);
+    }
+
+pub quotient_found : (text : List ℕ) (q : Quotient) → WritesQuotient text q → quotient_of text ≡ Some q
+quotient_found text q w =
+    let h : HasSlash text q = slash_found text q w in
+    ap (λ b. with_slash b (front_digits (behind_minus text)) (behind_digits (behind_minus text))) h.minus
+    ∙ (ap (λ t. with_slash q.negative t (behind_digits (behind_minus text))) h.top
+    ∙ (ap (with_slash q.negative q.top) h.rest
+    ∙ (ap (λ b. cond (b && is_denominator q.bottom) (Some q) None) (whole_found q.top w.top_is)
+    ∙ ap (λ b. cond b (Some q) None) (denominator_found q.bottom w.bottom_is w.nonzero))))
+
+-- no text is both
+unsigned_none : (negative : Bool) (text rest : List ℕ) (b : Bool) → behind_digits text ≡ 47 ∷ rest → cond b (with_part negative (front_digits text) (part_of (behind_digits text))) None ≡ None
+unsigned_none negative text rest false e = refl
+unsigned_none negative text rest true e = ap (λ t. with_part negative (front_digits text) (part_of t)) e
+
+pub quotient_no_numeral : (text : List ℕ) (q : Quotient) → WritesQuotient text q → numeral_of text ≡ None
+quotient_no_numeral text q w = unsigned_none (starts_with_minus text) (behind_minus text) q.bottom (is_whole (front_digits (behind_minus text))) (slash_found text q w).rest

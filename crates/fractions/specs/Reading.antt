@@ -4,7 +4,8 @@ use Rattle.std.specs.Str.Parse.{digits_value}
 use Rattle.fractions.specs.declared.numeral.NumeralFault.{NumeralFault}
 use Rattle.fractions.specs.declared.numeral.NumeralFault.TheVariants.{NotNumeral, TooLarge}
 use Rattle.fractions.specs.Fraction.{Fraction, frac, ◌≤ʳ◌, ◌<ʳ◌}
-use Rattle.fractions.specs.Numeral.{Numeral, Writes, IsWholePart, sign_text, signed, magnitude, numeral_value, limit}
+use Rattle.fractions.specs.Numeral.{Numeral, Writes, magnitude, numeral_value, limit}
+use Rattle.fractions.specs.Quotient.{Quotient, WritesQuotient, IsModerate, quotient_value}
 
 -- what a magnitude is read as
 abbrev pub GivesMagnitude : Result Fraction NumeralFault → Fraction → Type 0
@@ -23,27 +24,6 @@ abbrev pub ReadsNumeral : List ℕ → Result Fraction NumeralFault → Type 0
 ReadsNumeral text (Ok x) = (n : Numeral) × Writes text n × Gives (Ok x) n
 ReadsNumeral text (Err TooLarge) = (n : Numeral) × Writes text n × Gives (Err TooLarge) n
 ReadsNumeral text (Err NotNumeral) = (n : Numeral) → ¬ Writes text n
-
--- a quotient of two whole numbers, each by its digits
-pub record Quotient : Type 0 where
-  pub negative : Bool
-  pub top : List ℕ
-  pub bottom : List ℕ
-
--- the text writes the quotient: a sign, a whole part, `/`, and a whole part that is not 0
-pub record WritesQuotient (text : List ℕ) (q : Quotient) : Type 0 where
-  pub top_is : IsWholePart q.top
-  pub bottom_is : IsWholePart q.bottom
-  pub nonzero : 0 < digits_value 10 q.bottom
-  pub text_is : text ≡ sign_text q.negative ++ (q.top ++ 47 ∷ q.bottom)
-
-abbrev pub quotient_value : Quotient → Fraction
-quotient_value q = signed q.negative (frac (pos (digits_value 10 q.top)) (digits_value 10 q.bottom))
-
--- both parts are below 10 ^ 18
-pub record IsModerate (q : Quotient) : Type 0 where
-  pub top_below : digits_value 10 q.top < 10 ^ 18
-  pub bottom_below : digits_value 10 q.bottom < 10 ^ 18
 
 -- what a quotient is read as
 abbrev pub GivesQuotient : Result Fraction NumeralFault → Quotient → Type 0

@@ -1,8 +1,9 @@
 -- How the readers take a text apart, from its front. What a numeral is stands in `Numeral`; proofs/Grammar.antt ties the two.
-use Rattle.std.specs.Prelude.{ℕ, Bool, true, false, not, ◌||◌, ◌==◌, List, [], ◌∷◌, Option, Some, None, if◌then◌else◌}
+use Rattle.std.specs.Prelude.{ℕ, Bool, true, false, not, ◌||◌, ◌&&◌, ◌==◌, List, [], ◌∷◌, Option, Some, None, if◌then◌else◌}
 use Rattle.std.specs.Str.Parse.{starts_with_minus}
 use Rattle.fractions.specs.Digits.{front_digits, behind_digits}
 use Rattle.fractions.specs.Numeral.{Numeral}
+use Rattle.fractions.specs.Quotient.{Quotient}
 
 abbrev pub behind_minus : List ℕ → List ℕ
 behind_minus [] = []
@@ -55,3 +56,21 @@ unsigned_of negative text = if is_whole (front_digits text) then with_part negat
 -- the numeral that a text writes
 abbrev pub numeral_of : List ℕ → Option Numeral
 numeral_of text = unsigned_of (starts_with_minus text) (behind_minus text)
+
+-- ---- quotients
+abbrev pub is_nothing : List ℕ → Bool
+is_nothing [] = true
+is_nothing (c ∷ cs) = false
+
+-- digits that are a whole part other than 0
+abbrev pub is_denominator : List ℕ → Bool
+is_denominator [] = false
+is_denominator (c ∷ cs) = not (c == 48) && is_nothing (behind_digits (c ∷ cs))
+
+abbrev pub with_slash : Bool → List ℕ → List ℕ → Option Quotient
+with_slash negative top [] = None
+with_slash negative top (c ∷ cs) = if c == 47 && is_whole top && is_denominator cs then Some (record { negative = negative; top = top; bottom = cs }) else None
+
+-- the quotient that a text writes
+abbrev pub quotient_of : List ℕ → Option Quotient
+quotient_of text = with_slash (starts_with_minus text) (front_digits (behind_minus text)) (behind_digits (behind_minus text))

@@ -1,16 +1,18 @@
 //! Fractions read from text.
 ghost use Rattle.std.specs.Prelude.{◌≡◌, ℕ, ◌+◌, ◌<◌, ◌≤◌, ◌^◌, ℤ, pos, ◌-ℤ◌, ◌≤ℤ◌, neg_ℤ, List, [], ◌∷◌, ◌++◌, length, min};
+ghost use Rattle.std.specs.Option.{SomeIff};
 ghost use Rattle.std.specs.Int.{IsInRange};
 ghost use Rattle.std.specs.Str.Parse.{AllDigits, digits_value};
 ghost use Rattle.fractions.specs.Rounding.{rounded};
 ghost use Rattle.fractions.specs.Numeral.{Numeral, Writes, magnitude, rounded_at, times_ten};
 ghost use Rattle.fractions.specs.Leading.{IsLeading, near_exponent, near_place};
-ghost use Rattle.fractions.specs.Reading.{Gives, GivesMagnitude, ReadsNumeral};
+ghost use Rattle.fractions.specs.Quotient.{Quotient, WritesQuotient};
+ghost use Rattle.fractions.specs.Reading.{Gives, GivesMagnitude, GivesQuotient, ReadsNumeral, ReadsRatio};
 
 use thiserror::Error;
 
 use crate::ratio::{reduced, Ratio};
-use crate::split::{numeral_parts, Written};
+use crate::split::{numeral_parts, quotient_parts, Written, WrittenQuotient};
 
 /// Why a text was not read as a number.
 #[derive(Clone, Copy, Debug, PartialEq, Eq, Error)]
@@ -202,5 +204,55 @@ pub fn read_numeral(text: &[u8]) -> Result<Ratio, NumeralFault>
     match numeral_parts(text) {
         Some(written) => numeral_value(&written),
         None => Err(NumeralFault::NotNumeral),
+    }
+}
+
+// The value of a text of digits, where it is below 10^18.
+fn whole_below(digits: &[u8]) -> Option<u64>
+    requires { AllDigits 10 digits.now }
+    ensures { SomeIff result (digits_value 10 digits.now < 10 ^ 18) (digits_value 10 digits.now) }
+{
+    let mut value: u64 = 0;
+    for c in digits {
+        value = value * 10 + (*c - b'0') as u64;
+        if value >= 1_000_000_000_000_000_000 {
+            return None;
+        }
+    }
+    Some(value)
+}
+
+// The value of a quotient.
+fn quotient_value(written: &WrittenQuotient) -> Result<Ratio, NumeralFault>
+    requires top { AllDigits 10 written.now.top }
+    requires bottom { AllDigits 10 written.now.bottom }
+    requires nonzero { 0 < digits_value 10 written.now.bottom }
+    ensures { GivesQuotient result written.now }
+{
+    let Some(top) = whole_below(written.top) else {
+        return Err(NumeralFault::TooLarge);
+    };
+    let Some(bottom) = whole_below(written.bottom) else {
+        return Err(NumeralFault::TooLarge);
+    };
+    let size = reduced(top as i128, bottom as u128);
+    Ok(if written.negative { size.neg() } else { size })
+}
+
+/// Reads a numeral as `read_numeral` does, or an exact quotient: an optional `-`, a whole part, `/`, and a whole part
+/// that is not 0, each whole part without a leading zero.
+///
+/// # Errors
+///
+/// `NotNumeral` exactly where the text has neither form. `TooLarge` exactly where the magnitude of the rounded numeral, or
+/// a whole part of the quotient, is 10^18 or more.
+pub fn read_ratio(text: &[u8]) -> Result<Ratio, NumeralFault>
+    ensures reading { ReadsRatio text.now result }
+    ensures numeral { (n : Numeral) → Writes text.now n → Gives result n }
+    ensures quotient { (q : Quotient) → WritesQuotient text.now q → GivesQuotient result q }
+{
+    match quotient_parts(text) {
+        Some(written) => quotient_value(&written),
+        None => read_numeral(text),
     }
 }

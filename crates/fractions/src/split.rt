@@ -3,7 +3,7 @@ ghost use Rattle.std.specs.Prelude.{◌≡◌, ℕ, ◌<◌, ◌≤◌, length, 
 ghost use Rattle.std.specs.Int.{IsInRange};
 ghost use Rattle.std.specs.Str.Parse.{AllDigits, starts_with_minus};
 ghost use Rattle.fractions.specs.Digits.{front_digits, behind_digits};
-ghost use Rattle.fractions.specs.Split.{behind_minus, behind_sign, at_least_one, is_whole, part_of, signed_digits, power_of, numeral_of};
+ghost use Rattle.fractions.specs.Split.{behind_minus, behind_sign, at_least_one, is_whole, part_of, signed_digits, power_of, numeral_of, is_denominator, quotient_of};
 
 use std::marker::Model;
 
@@ -140,4 +140,49 @@ pub fn numeral_parts(text: &[u8]) -> Option<Written<'_>>
         power_negative,
         power,
     })
+}
+
+/// The parts of a quotient, lent by its text.
+#[derive(Drop)]
+pub struct WrittenQuotient<'a> {
+    pub negative: bool,
+    pub top: &'a [u8],
+    pub bottom: &'a [u8],
+}
+
+impl<'a> Model for WrittenQuotient<'a> {
+    ghost use Rattle.fractions.specs.Quotient.{Quotient};
+
+    ghost Value = { Quotient };
+
+    ghost view = { λ w. record { negative = w.negative; top = w.top.now; bottom = w.bottom.now } };
+}
+
+// Whether a text is a whole part other than 0.
+fn is_denominator(text: &[u8]) -> bool
+    ensures { result ≡ is_denominator text.now }
+{
+    match text {
+        [] => false,
+        [b'0', ..] => false,
+        _ => split_digits(text).1.is_empty(),
+    }
+}
+
+/// The parts of the quotient that a text writes.
+pub fn quotient_parts(text: &[u8]) -> Option<WrittenQuotient<'_>>
+    ensures { result ≡ quotient_of text.now }
+{
+    let (negative, unsigned) = split_minus(text);
+    let (top, rest) = split_digits(unsigned);
+    match rest {
+        [b'/', bottom @ ..] => {
+            if is_whole_part(top) && is_denominator(bottom) {
+                Some(WrittenQuotient { negative, top, bottom })
+            } else {
+                None
+            }
+        }
+        _ => None,
+    }
 }
