@@ -198,6 +198,7 @@ leading_small ds l p h =
     length-take-at zero xs = omega arith
     length-take-at (suc k) [] = omega arith
     length-take-at (suc k) (x ∷ xs) = omega (arith, length-take-at k xs)
+
     length-take-le16 : (xs : List ℕ) → length (take 16 xs) ≤ 16
     length-take-le16 xs = length-take-at 16 xs
 

@@ -24,4 +24,3 @@ quotient_value q = signed q.negative (frac (pos (digits_value 10 q.top)) (digits
 pub record IsModerate (q : Quotient) : Type 0 where
   pub top_below : digits_value 10 q.top < 10 ^ 18
   pub bottom_below : digits_value 10 q.bottom < 10 ^ 18
-

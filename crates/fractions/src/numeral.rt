@@ -9,10 +9,9 @@ ghost use Rattle.fractions.specs.Leading.{IsLeading, near_exponent, near_place};
 ghost use Rattle.fractions.specs.Quotient.{Quotient, WritesQuotient};
 ghost use Rattle.fractions.specs.Reading.{Gives, GivesMagnitude, GivesQuotient, ReadsNumeral, ReadsRatio};
 
+use crate::ratio::{Ratio, reduced};
+use crate::split::{Written, WrittenQuotient, numeral_parts, quotient_parts};
 use thiserror::Error;
-
-use crate::ratio::{reduced, Ratio};
-use crate::split::{numeral_parts, quotient_parts, Written, WrittenQuotient};
 
 /// Why a text was not read as a number.
 #[derive(Clone, Copy, Debug, PartialEq, Eq, Error)]
@@ -132,7 +131,11 @@ fn times_ten(digits: u64, place: i128) -> Result<Ratio, NumeralFault>
         return Ok(reduced(digits as i128, 10u128.pow((-place) as u32)));
     }
     let value = digits as u128 * 10u128.pow(place as u32);
-    if value < LIMIT { Ok(Ratio::whole_number(value as i128)) } else { Err(NumeralFault::TooLarge) }
+    if value < LIMIT {
+        Ok(Ratio::whole_number(value as i128))
+    } else {
+        Err(NumeralFault::TooLarge)
+    }
 }
 
 // `digits` times ten to the power `lowest`, rounded at `place`.

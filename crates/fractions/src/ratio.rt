@@ -8,10 +8,11 @@ ghost use Rattle.std.specs.Str.Parse.{AllDigits, digits_value};
 ghost use Rattle.fractions.specs.Gcd.{gcd};
 ghost use Rattle.std.specs.Ordering.{nat_cmp, MatchOrdering};
 ghost use Rattle.fractions.specs.Fraction.{frac, ◌*ʳ◌, ◌+ʳ◌, ◌-ʳ◌, ◌/ʳ◌, ◌<ʳ◌, ◌≤ʳ◌, whole_fraction, negated, inverse, zero_fraction, one_fraction};
-ghost use Rattle.fractions.specs.Limits.{IsNarrow, SumFits, DifferenceFits};
+ghost use Rattle.fractions.specs.Limits.{IsNarrow, SumFits, DifferenceFits, IsBelow};
 ghost use Rattle.fractions.specs.Print.{printed};
 ghost use Rattle.fractions.specs.Stored.{IsStored};
 
+use crate::small::Small;
 use crate::whole::{
     compare_parts, divided, greatest_common_divisor, natural_product, rounded_up, whole_product,
     whole_sum,
@@ -20,6 +21,9 @@ use plan_base::{NoMemory, Text};
 use std::alloc::Global;
 use std::cmp::Ordering;
 use std::marker::Model;
+
+// Parts below this take a short way.
+const SMALL: u128 = 1 << 62;
 
 /// A result past the limits.
 #[derive(Clone, Copy, Debug, PartialEq, Eq)]
@@ -52,13 +56,29 @@ impl Model for Ratio {
 
 impl Ratio {
     // The fraction of two numbers that are in lowest terms.
-    fn stored(numerator: i128, denominator: u128) -> Ratio
+    pub fn stored(numerator: i128, denominator: u128) -> Ratio
         requires { IsStored numerator denominator }
         ensures { result ≡ frac numerator denominator }
     {
         Ratio {
             numerator,
             denominator,
+        }
+    }
+
+    // The same fraction on 64 bits, where both parts are below 2^62.
+    fn small(&self) -> Option<Small>
+        ensures { SomeIff result (IsBelow 62 self.now) self.now }
+    {
+        let numerator = self.numerator();
+        let denominator = self.natural_denominator();
+        if numerator.unsigned_abs() < SMALL && denominator < SMALL {
+            Some(Small {
+                numerator: numerator as i64,
+                denominator: denominator as u64,
+            })
+        } else {
+            None
         }
     }
 
@@ -136,7 +156,20 @@ impl Ratio {
         Ratio::stored(-self.numerator(), self.natural_denominator())
     }
 
+    /// How two fractions compare.
     pub fn cmp(&self, other: &Ratio) -> Ordering
+        ensures { MatchOrdering result (self.now <ʳ other.now) (self.now ≡ other.now) (other.now <ʳ self.now) }
+    {
+        if let Some(first) = self.small() {
+            if let Some(second) = other.small() {
+                return first.cmp(&second);
+            }
+        }
+        self.long_cmp(other)
+    }
+
+    // The same for parts of any size, by Euclid's steps on both at once.
+    fn long_cmp(&self, other: &Ratio) -> Ordering
         ensures { MatchOrdering result (self.now <ʳ other.now) (self.now ≡ other.now) (other.now <ʳ self.now) }
     {
         let a = self.numerator();
@@ -156,7 +189,24 @@ impl Ratio {
         }
     }
 
+    /// The product.
+    ///
+    /// # Errors
+    ///
+    /// `Wide` exactly where the product's lowest terms do not fit.
     pub fn mul(&self, other: &Ratio) -> Result<Ratio, Wide>
+        ensures { OkIff result (IsNarrow (self.now *ʳ other.now)) (self.now *ʳ other.now) }
+    {
+        if let Some(first) = self.small() {
+            if let Some(second) = other.small() {
+                return Ok(first.product(&second));
+            }
+        }
+        self.long_product(other)
+    }
+
+    // The same for parts of any size: each numerator is divided by what it has in common with the other denominator.
+    fn long_product(&self, other: &Ratio) -> Result<Ratio, Wide>
         ensures { OkIff result (IsNarrow (self.now *ʳ other.now)) (self.now *ʳ other.now) }
     {
         let a = self.numerator();
@@ -222,7 +272,25 @@ impl Ratio {
         self.mul(&other.inverse())
     }
 
+    /// The sum. Both fractions are written over their least common denominator.
+    ///
+    /// # Errors
+    ///
+    /// `Wide` exactly where that denominator, a numerator over it, or the sum of the two is 2^127 or more in magnitude. So
+    /// it never comes where all parts are below 2^62 (`laws::sums_of_small_parts`).
     pub fn add(&self, other: &Ratio) -> Result<Ratio, Wide>
+        ensures { OkIff result (SumFits self.now other.now) (self.now +ʳ other.now) }
+    {
+        if let Some(first) = self.small() {
+            if let Some(second) = other.small() {
+                return Ok(first.sum(&second));
+            }
+        }
+        self.long_sum(other)
+    }
+
+    // The same for parts of any size.
+    fn long_sum(&self, other: &Ratio) -> Result<Ratio, Wide>
         ensures { OkIff result (SumFits self.now other.now) (self.now +ʳ other.now) }
     {
         let b = self.natural_denominator();
@@ -230,7 +298,7 @@ impl Ratio {
         let common = greatest_common_divisor(b, d);
         let b_factor = d / common;
         let d_factor = b / common;
-        let Ok(bottom) = natural_product(b, b_factor) else {
+        let Ok(_) = natural_product(b, b_factor) else {
             return Err(Wide);
         };
         let Ok(first) = whole_product(self.numerator(), b_factor as i128) else {
@@ -242,7 +310,8 @@ impl Ratio {
         let Ok(top) = whole_sum(first, second) else {
             return Err(Wide);
         };
-        Ok(reduced(top, bottom))
+        let shared = greatest_common_divisor(top.unsigned_abs(), common);
+        Ok(Ratio::stored(divided(top, shared), d_factor * (d / shared)))
     }
 
     pub fn sub(&self, other: &Ratio) -> Result<Ratio, Wide>

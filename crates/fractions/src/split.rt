@@ -85,7 +85,11 @@ fn split_some_digits(text: &[u8]) -> Option<(&[u8], &[u8])>
     ensures { MatchOption result (at_least_one (front_digits text.now) (behind_digits text.now) ≡ None) (λ p. at_least_one (front_digits text.now) (behind_digits text.now) ≡ Some (p.0.now, p.1.now)) }
 {
     let (digits, rest) = split_digits(text);
-    if digits.is_empty() { None } else { Some((digits, rest)) }
+    if digits.is_empty() {
+        None
+    } else {
+        Some((digits, rest))
+    }
 }
 
 // The digits behind a point, if the text begins with one, and the rest.
@@ -104,7 +108,11 @@ fn signed_digits(text: &[u8]) -> Option<(bool, &[u8])>
 {
     let (negative, unsigned) = split_sign(text);
     let (digits, rest) = split_digits(unsigned);
-    if digits.is_empty() || !rest.is_empty() { None } else { Some((negative, digits)) }
+    if digits.is_empty() || !rest.is_empty() {
+        None
+    } else {
+        Some((negative, digits))
+    }
 }
 
 // The sign and the digits of an exponent that takes up the whole text; no digits where the text is empty.
@@ -178,7 +186,11 @@ pub fn quotient_parts(text: &[u8]) -> Option<WrittenQuotient<'_>>
     match rest {
         [b'/', bottom @ ..] => {
             if is_whole_part(top) && is_denominator(bottom) {
-                Some(WrittenQuotient { negative, top, bottom })
+                Some(WrittenQuotient {
+                    negative,
+                    top,
+                    bottom,
+                })
             } else {
                 None
             }

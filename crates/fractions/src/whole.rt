@@ -26,11 +26,33 @@ pub fn compare_parts(a: u128, b: u128, c: u128, d: u128) -> Ordering
     compare_parts(d, other_rest, b, rest)
 }
 
-// The greatest common divisor, by Euclid's steps.
+// The greatest common divisor, by Euclid's steps: on 64 bits from where the lesser number fits them.
 pub fn greatest_common_divisor(first: u128, second: u128) -> u128
     ensures exact { result ≡ gcd first second }
     ensures positive { 0 < second → 0 < result }
     ensures at_most { 0 < second → result ≤ second }
+{
+    let mut a = first;
+    let mut b = second;
+    while b > u64::MAX as u128 {
+        let rest = a % b;
+        a = b;
+        b = rest;
+    }
+    if b == 0 {
+        a
+    } else {
+        small_divisor(b as u64, (a % b) as u64) as u128
+    }
+}
+
+// The greatest common divisor of numbers of 64 bits.
+pub fn small_divisor(first: u64, second: u64) -> u64
+    ensures exact { result ≡ gcd first second }
+    ensures positive { 0 < first → 0 < result }
+    ensures at_most { 0 < first → result ≤ first }
+    ensures positive_second { 0 < second → 0 < result }
+    ensures at_most_second { 0 < second → result ≤ second }
 {
     let mut a = first;
     let mut b = second;
@@ -40,6 +62,37 @@ pub fn greatest_common_divisor(first: u128, second: u128) -> u128
         b = rest;
     }
     a
+}
+
+// A small whole number divided by a small natural, toward zero.
+pub fn small_quotient(a: i64, divisor: u64) -> i64
+    requires positive { 0 < divisor }
+    requires small { unsigned_abs a < 2 ^ 62 }
+    requires small_divisor { divisor < 2 ^ 62 }
+    ensures value { result ≡ int_div a (pos divisor) }
+    ensures small { unsigned_abs result < 2 ^ 62 }
+{
+    a / divisor as i64
+}
+
+// The product of two small whole numbers.
+pub fn small_product(a: i64, b: i64) -> i128
+    requires first { unsigned_abs a < 2 ^ 62 }
+    requires second { unsigned_abs b < 2 ^ 62 }
+    ensures value { result ≡ a *ℤ b }
+    ensures small { unsigned_abs result < 2 ^ 124 }
+{
+    a as i128 * b as i128
+}
+
+// A small whole number times a small natural.
+pub fn small_multiple(a: i64, b: u64) -> i128
+    requires first { unsigned_abs a < 2 ^ 62 }
+    requires second { b < 2 ^ 62 }
+    ensures value { result ≡ a *ℤ pos b }
+    ensures small { unsigned_abs result < 2 ^ 124 }
+{
+    a as i128 * b as i128
 }
 
 // The product of two naturals, where it is below the limit.
@@ -98,5 +151,5 @@ pub fn divided(a: i128, divisor: u128) -> i128
     requires narrow { divisor < 2 ^ 127 }
     ensures { result ≡ int_div a (pos divisor) }
 {
-    a / divisor as i128
+    if divisor == 1 { a } else { a / divisor as i128 }
 }

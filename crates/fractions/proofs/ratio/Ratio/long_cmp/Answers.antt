@@ -1,7 +1,7 @@
 use Rattle.std.proofs.Common.{◌∙◌}
 use Rattle.fractions.proofs.Compare.{cmp_nonneg, cmp_negative, cmp_same_args}
 use Rattle.fractions.proofs.Parts.{wrap_abs, wrap_lt, wrap_le}
-use Rattle.fractions.proofs.ratio.Ratio.cmp.Goals as goal
+use Rattle.fractions.proofs.ratio.Ratio.long_cmp.Goals as goal
 
 pub returns-then-c-lt0 : goal.returns-then-c-lt0
 returns-then-c-lt0 c =

@@ -2,8 +2,8 @@ use Rattle.std.proofs.Common.{◌∙◌, ◌*ℤ◌, ◌*◌, ◌/◌, sym}
 use Rattle.fractions.specs.Fraction.{◌*ʳ◌}
 use Rattle.fractions.proofs.Parts.{wrap, wrap_same, narrow_same}
 use Rattle.fractions.proofs.Lowest.{IsLowest, mul_parts, lowest_stored, lowest_same, lowest_narrow, lowest_num_narrow, lowest_den_narrow}
-use Rattle.fractions.proofs.ratio.Ratio.mul.Goals.{After-whole_product}
-use Rattle.fractions.proofs.ratio.Ratio.mul.Goals as goal
+use Rattle.fractions.proofs.ratio.Ratio.long_product.Goals.{After-whole_product}
+use Rattle.fractions.proofs.ratio.Ratio.long_product.Goals as goal
 
 parts : (c : After-whole_product) → IsLowest (wrap c.divided.result *ℤ wrap c.divided-2.result) (c.natural_denominator-b.result / c.greatest_common_divisor-right.result * (c.natural_denominator-d.result / c.greatest_common_divisor-left.result)) (c.args.self.now *ʳ c.args.other.now)
 parts c =
