@@ -259,3 +259,6 @@ pub fn read_ratio(text: &[u8]) -> Result<Ratio, NumeralFault>
         None => read_numeral(text),
     }
 }
+
+#[cfg(test)]
+mod tests;
