@@ -1,11 +1,11 @@
 -- The least common denominator.
-use Rattle.std.specs.Prelude.{◌≡◌, ℕ, ◌*◌, ◌/◌, ◌<◌, pos, ◌*ℤ◌}
+use Rattle.std.specs.Prelude.{◌≡◌, ℕ, ◌*◌, ◌/◌, ◌<◌}
 use Rattle.std.specs.Int.{◌∣◌}
-use Rattle.std.proofs.Common.{refl, sym, ap, subst, ◌∙◌, arith}
-use Rattle.std.proofs.Math.Nat.{dvd_trans, dvd-mul_left, dvd-mul_right_of_dvd, mul-dvd-mul_left, dvd_of_mul-dvd-mul_left, mul-div_cancel', div-mul_cancel, mul_assoc, mul_comm}
+use Rattle.std.proofs.Common.{sym, ap, subst, ◌∙◌, arith}
+use Rattle.std.proofs.Math.Nat.{dvd-mul_left, mul-dvd-mul_left, dvd_of_mul-dvd-mul_left, div-mul_cancel, mul_comm}
 use Rattle.fractions.specs.Gcd.{gcd, gcd_is, gcd_pos, dvd-mul-gcd}
 use Rattle.fractions.specs.Fraction.{Fraction, frac}
-use Rattle.fractions.specs.Fracs.{frac_same, frac_scale, pos_product}
+use Rattle.fractions.specs.Fracs.{frac_same, frac_scale}
 use Rattle.fractions.specs.Limits.{lcm, num_over}
 use Rattle.fractions.proofs.Sum.{IsCommon, common_parts}
 

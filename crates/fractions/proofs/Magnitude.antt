@@ -1,10 +1,9 @@
 -- What the first digits of a numeral and its first place say of its value.
-use Rattle.std.specs.Prelude.{◌≡◌, ◌≢◌, ℕ, zero, suc, ◌+◌, ◌-◌, ◌*◌, ◌/◌, ◌^◌, ◌<◌, ◌≤◌, ℤ, pos, negsuc, ◌+ℤ◌, ◌-ℤ◌, ◌*ℤ◌, neg_ℤ, ◌≤ℤ◌, ◌<ℤ◌}
-use Rattle.std.specs.Int.{int_max}
-use Rattle.std.proofs.Common.{refl, sym, ap, subst, ◌∙◌, arith, lit<}
-use Rattle.std.proofs.Math.Nat.{mul-le-mul_right, mul-le-mul_left, pow-suc, pow-le-pow_right, one-le-pow, div-eq_of_lt, le-div_iff_mul-le, lt_of_mul-lt-mul_right, zero-mul}
+use Rattle.std.specs.Prelude.{◌≡◌, ℕ, zero, suc, ◌+◌, ◌*◌, ◌/◌, ◌^◌, ◌<◌, ◌≤◌, ℤ, pos, negsuc, ◌+ℤ◌, ◌-ℤ◌, ◌*ℤ◌, neg_ℤ, ◌≤ℤ◌, ◌<ℤ◌}
+use Rattle.std.proofs.Common.{refl, ap, subst, ◌∙◌, arith, lit<}
+use Rattle.std.proofs.Math.Nat.{mul-le-mul_right, pow-suc, pow-le-pow_right, one-le-pow, div-eq_of_lt, le-div_iff_mul-le, lt_of_mul-lt-mul_right, zero-mul}
 use Rattle.std.proofs.lemmas.Nat.{pow-add}
-use Rattle.std.proofs.lemmas.Int.{ints, clamps}
+use Rattle.std.proofs.lemmas.Int.{ints}
 use Rattle.fractions.specs.Gcd.{gcd}
 use Rattle.fractions.specs.Fraction.{Fraction, frac, frac_parts, IsMultiple, zero_fraction, whole_fraction, ◌≤ʳ◌, ◌<ʳ◌}
 use Rattle.fractions.specs.Fracs.{zero-frac}

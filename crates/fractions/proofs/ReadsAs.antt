@@ -1,6 +1,6 @@
 -- What the readers answer, from the numeral that a text writes.
 use Rattle.std.specs.Prelude.{◌≡◌, List, ℕ, Result, Ok, Err, Some, None}
-use Rattle.std.proofs.Common.{sym, ◌∙◌, subst, inl, inr}
+use Rattle.std.proofs.Common.{inl, inr}
 use Rattle.fractions.specs.declared.numeral.NumeralFault.{NumeralFault}
 use Rattle.fractions.specs.declared.numeral.NumeralFault.TheVariants.{NotNumeral, TooLarge}
 use Rattle.fractions.specs.Fraction.{Fraction}

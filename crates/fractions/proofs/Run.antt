@@ -1,9 +1,9 @@
 -- The run of digits at the front of a text.
 use Rattle.std.specs.Prelude.{◌≡◌, ℕ, zero, suc, ◌<◌, ◌≤◌, Bool, true, false, cond, List, [], ◌∷◌, ◌++◌, length, take, drop}
 use Rattle.std.specs.Int.{IsInRange}
-use Rattle.std.specs.Char.{is_ascii_digit, digit_value}
+use Rattle.std.specs.Char.{is_ascii_digit}
 use Rattle.std.specs.Str.Parse.{AllDigits}
-use Rattle.std.proofs.Common.{refl, sym, ap, ◌∙◌, arith, get_or, subst}
+use Rattle.std.proofs.Common.{refl, ap, ◌∙◌, arith, get_or}
 use Rattle.std.proofs.lemmas.Bool.Decides.{nat_tests}
 use Rattle.std.proofs.lemmas.Str.Parse.{digit_from_value}
 use Rattle.std.proofs.lemmas.Str.{digit_value_digit}

@@ -1,16 +1,15 @@
 -- Short ways: what the code computes on 64 bits is what the definitions say.
-use Rattle.std.specs.Prelude.{◌≡◌, ℕ, ◌*◌, ◌/◌, ◌%◌, ◌<◌, ◌≤◌, ◌^◌, ℤ, pos, ◌+ℤ◌, ◌*ℤ◌, ◌<ℤ◌, int_div, unsigned_abs}
-use Rattle.std.specs.Int.{w64, w128}
+use Rattle.std.specs.Prelude.{◌≡◌, ℕ, ◌*◌, ◌/◌, ◌%◌, ◌<◌, ◌≤◌, ◌^◌, ℤ, pos, ◌+ℤ◌, ◌*ℤ◌, int_div, unsigned_abs}
+use Rattle.std.specs.Int.{w64}
 use Rattle.std.specs.Ordering.{MatchOrdering, int_cmp}
 use Rattle.std.proofs.lemmas.Cmp.{int_ranked}
 use Rattle.std.specs.declared.cmp.Ordering.{Ordering}
-use Rattle.std.specs.declared.cmp.Ordering.TheVariants.{Less, Equal, Greater}
 use Rattle.std.proofs.Common.{refl, sym, ap, subst, ◌∙◌, arith, to_z, of_z}
 use Rattle.std.proofs.lemmas.Int.{ints}
 use Rattle.std.proofs.lemmas.Nat.{mul-lt}
 use Rattle.std.proofs.Math.IntN.{nat_abs}
 use Rattle.std.proofs.Math.Nat.{div-le_self}
-use Rattle.fractions.specs.Gcd.{gcd, gcd-mod, gcd_comm}
+use Rattle.fractions.specs.Gcd.{gcd, gcd-mod}
 use Rattle.fractions.specs.Fraction.{Fraction, frac, nat_abs-int_div, same_from_cross, ◌+ʳ◌, ◌*ʳ◌, ◌<ʳ◌}
 use Rattle.fractions.specs.Stored.{IsStored, IsStoredSmall, num_frac, den_frac}
 use Rattle.fractions.proofs.Parts.{wrap, whole_back, narrow_same}

@@ -1,15 +1,15 @@
 -- A sum in lowest terms: over the least common denominator its numerator and that denominator have in common what the
 -- numerator has in common with the greatest common divisor of the two denominators (Knuth, The Art of Computer
 -- Programming, volume 2, section 4.5.1).
-use Rattle.std.specs.Prelude.{◌≡◌, ℕ, suc, ◌+◌, ◌-◌, ◌*◌, ◌/◌, ◌<◌, ◌≤◌, ℤ, pos, negsuc, ◌+ℤ◌, ◌*ℤ◌, int_div, ◌⊎◌}
-use Rattle.std.specs.Int.{◌∣◌, IsGcd}
-use Rattle.std.proofs.Common.{refl, sym, ap, subst, ◌∙◌, arith, inl, inr, ⊎_elim}
+use Rattle.std.specs.Prelude.{◌≡◌, ℕ, suc, ◌+◌, ◌-◌, ◌*◌, ◌/◌, ◌<◌, ℤ, pos, negsuc, ◌+ℤ◌, ◌*ℤ◌, int_div, ◌⊎◌}
+use Rattle.std.specs.Int.{◌∣◌}
+use Rattle.std.proofs.Common.{sym, ap, subst, ◌∙◌, arith, inl, inr, ⊎_elim}
 use Rattle.std.proofs.lemmas.Bool.{cases_lt}
 use Rattle.std.proofs.lemmas.Int.{ints, unsigned_abs-mul}
 use Rattle.std.proofs.Math.IntN.{nat_abs}
-use Rattle.std.proofs.Math.Nat.{dvd-sub, dvd-add, dvd_trans, dvd-mul_left, dvd-mul_right_of_dvd, eq-one_of_dvd-one, mul-div_cancel', div-mul_cancel, mul-div_cancel, mul-div_cancel_left, mul_assoc, mul_comm}
+use Rattle.std.proofs.Math.Nat.{dvd-sub, dvd-add, dvd_trans, dvd-mul_left, dvd-mul_right_of_dvd, eq-one_of_dvd-one, mul-div_cancel', div-mul_cancel, mul-div_cancel, mul_assoc}
 use Rattle.fractions.specs.Gcd.{gcd, gcd_is, gcd_pos, gcd_comm, gcd_from_IsGcd, gcd_of_parts, gcd_of_product, coprime_of_divisors, dvd_from_coprime}
-use Rattle.fractions.specs.Fraction.{Fraction, frac, num-frac_lem, den-frac_lem, ◌+ʳ◌, lower_pos}
+use Rattle.fractions.specs.Fraction.{Fraction, frac, num-frac_lem, den-frac_lem, ◌+ʳ◌}
 use Rattle.fractions.proofs.Sum.{IsCommon, common_parts}
 use Rattle.fractions.proofs.Lowest.{IsLowest}
 

@@ -1,5 +1,5 @@
 -- The value of a numeral, from its first digits and the place of the first one.
-use Rattle.std.specs.Prelude.{◌≡◌, ◌≢◌, ℕ, suc, ◌+◌, ◌-◌, ◌/◌, ◌^◌, ◌<◌, ◌≤◌, ℤ, pos, negsuc, ◌+ℤ◌, ◌-ℤ◌, neg_ℤ, ◌≤ℤ◌, Bool, true, false, List, [], ◌∷◌, ◌++◌, length, take, min, if◌then◌else◌, ◌⊎◌, Result}
+use Rattle.std.specs.Prelude.{◌≡◌, ◌≢◌, ℕ, suc, ◌+◌, ◌-◌, ◌/◌, ◌^◌, ◌<◌, ◌≤◌, ℤ, pos, negsuc, ◌+ℤ◌, ◌-ℤ◌, neg_ℤ, ◌≤ℤ◌, Bool, true, false, List, [], ◌∷◌, ◌++◌, length, take, min, if◌then◌else◌, Result}
 use Rattle.std.specs.Int.{int_max}
 use Rattle.std.specs.Str.Parse.{AllDigits, digits_value}
 use Rattle.std.proofs.Common.{refl, sym, ap, subst, ◌∙◌, arith, ⊎_elim, length-append}
@@ -7,8 +7,8 @@ use Rattle.std.proofs.lemmas.Bool.{cases_lt}
 use Rattle.std.proofs.lemmas.Int.{ints, clamps}
 use Rattle.std.proofs.lemmas.Int.Digits.{digits_value-lt}
 use Rattle.fractions.specs.Fraction.{Fraction, zero_fraction, ◌≤ʳ◌}
-use Rattle.fractions.specs.Numeral.{Numeral, mantissa, exponent, scale, significant, first_place, place, rounded_at, magnitude, limit}
-use Rattle.fractions.specs.Leading.{IsLeading, near_exponent, near_place}
+use Rattle.fractions.specs.Numeral.{Numeral, mantissa, scale, significant, first_place, place, rounded_at, magnitude, limit}
+use Rattle.fractions.specs.Leading.{IsLeading, near_place}
 use Rattle.fractions.specs.declared.numeral.Leading.{Leading}
 use Rattle.fractions.specs.declared.numeral.NumeralFault.{NumeralFault}
 use Rattle.fractions.specs.Reading.{GivesMagnitude}

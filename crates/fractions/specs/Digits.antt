@@ -1,5 +1,5 @@
 -- The digits at the front of a text, and what stands behind them.
-use Rattle.std.specs.Prelude.{ℕ, Bool, List, [], ◌∷◌, cond}
+use Rattle.std.specs.Prelude.{ℕ, List, [], ◌∷◌, cond}
 use Rattle.std.specs.Char.{is_ascii_digit}
 
 abbrev pub front_digits : List ℕ → List ℕ

@@ -1,9 +1,8 @@
 -- What the readers answer.
-use Rattle.std.specs.Prelude.{◌≡◌, ℕ, ◌<◌, ◌^◌, pos, List, ◌∷◌, ◌++◌, Result, Ok, Err, Bool, ◌⊎◌}
-use Rattle.std.specs.Str.Parse.{digits_value}
+use Rattle.std.specs.Prelude.{◌≡◌, ℕ, List, Result, Ok, Err, ◌⊎◌}
 use Rattle.fractions.specs.declared.numeral.NumeralFault.{NumeralFault}
 use Rattle.fractions.specs.declared.numeral.NumeralFault.TheVariants.{NotNumeral, TooLarge}
-use Rattle.fractions.specs.Fraction.{Fraction, frac, ◌≤ʳ◌, ◌<ʳ◌}
+use Rattle.fractions.specs.Fraction.{Fraction, ◌≤ʳ◌, ◌<ʳ◌}
 use Rattle.fractions.specs.Numeral.{Numeral, Writes, magnitude, numeral_value, limit}
 use Rattle.fractions.specs.Quotient.{Quotient, WritesQuotient, IsModerate, quotient_value}
 

@@ -1,4 +1,3 @@
-use Rattle.std.proofs.Common.{sym, ◌∙◌}
 use Rattle.fractions.proofs.Grammar.{numeral_found, quotient_found}
 use Rattle.fractions.proofs.ReadsAs.{same_numeral, same_quotient, not_both}
 use Rattle.fractions.proofs.field_laws.readings.Goals as goal

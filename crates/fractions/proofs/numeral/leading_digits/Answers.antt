@@ -1,4 +1,4 @@
-use Rattle.std.proofs.Common.{arith, length, take, ◌++◌, ◌≤◌, ◌≡◌, ℕ, length-append}
+use Rattle.std.proofs.Common.{arith, length, take, ◌≡◌, length-append}
 use Rattle.std.proofs.lemmas.List.{length-take-le}
 use Rattle.std.proofs.lemmas.Str.Parse.{digit_at}
 use Rattle.fractions.proofs.Significant.{AllDigits-append, AllDigits-take, leading_small, leading_room}

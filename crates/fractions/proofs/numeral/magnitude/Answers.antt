@@ -1,10 +1,9 @@
-use Rattle.std.proofs.Common.{◌≡◌, ℕ, ℤ, pos, negsuc, neg_ℤ, ◌≤ℤ◌, ◌+ℤ◌, ◌-ℤ◌, ◌∙◌, sym, ap, subst, arith, min, to_z, of_z, true, false, ◌^◌, ◌≤◌}
+use Rattle.std.proofs.Common.{◌≡◌, ℕ, ℤ, pos, negsuc, neg_ℤ, ◌≤ℤ◌, ◌+ℤ◌, ◌-ℤ◌, ◌∙◌, sym, ap, subst, arith, to_z, of_z, true, false, ◌^◌, ◌≤◌}
 use Rattle.std.specs.Int.{w128, int_max}
 use Rattle.std.specs.Int.Signed.{lt_z}
 use Rattle.std.proofs.lemmas.Int.{ints, clamps}
 use Rattle.fractions.specs.Fraction.{Fraction, ◌<ʳ◌}
-use Rattle.fractions.specs.Numeral.{magnitude, limit, rounded_at}
-use Rattle.fractions.specs.Reading.{GivesMagnitude}
+use Rattle.fractions.specs.Numeral.{limit}
 use Rattle.fractions.proofs.Magnitude.{zero_below_limit}
 use Rattle.fractions.proofs.Significant.{leading_small, AllDigits-append}
 use Rattle.fractions.proofs.Value.{leading_is, facts_zero, facts_high, facts_low, facts_middle}

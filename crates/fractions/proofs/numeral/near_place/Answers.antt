@@ -2,7 +2,7 @@ use Rattle.std.proofs.Common.{◌≡◌, ℕ, ◌<◌, ◌^◌, ℤ, pos, neg_�
 use Rattle.std.specs.Int.{w128}
 use Rattle.std.proofs.lemmas.Int.{ints}
 use Rattle.fractions.specs.Numeral.{Numeral}
-use Rattle.fractions.specs.Leading.{near_exponent, near_place}
+use Rattle.fractions.specs.Leading.{near_exponent}
 use Rattle.fractions.proofs.numeral.near_place.Goals as goal
 
 -- what the code computes

@@ -1,4 +1,4 @@
-use Rattle.std.proofs.Common.{◌≡◌, ◌∙◌, ap, pos, neg_ℤ, ◌<ℤ◌, ◌≤ℤ◌, to_z, arith, lit<, subst, ◌*◌, ◌^◌, ◌<◌, ◌≤◌, ℕ}
+use Rattle.std.proofs.Common.{◌≡◌, ◌∙◌, ap, pos, ◌<ℤ◌, ◌≤ℤ◌, to_z, arith, lit<, subst, ◌*◌, ◌^◌, ◌<◌, ◌≤◌, ℕ}
 use Rattle.std.specs.Int.{w128}
 use Rattle.std.proofs.lemmas.Int.{ints, to_z_pos}
 use Rattle.std.proofs.Math.Nat.{one-le-pow}

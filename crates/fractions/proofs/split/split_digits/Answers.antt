@@ -1,5 +1,5 @@
 use Rattle.std.proofs.Common.{◌∙◌, sym}
-use Rattle.fractions.proofs.Run.{EndsAt, front_from_end}
+use Rattle.fractions.proofs.Run.{front_from_end}
 use Rattle.fractions.proofs.split.split_digits.Goals as goal
 
 pub returns-clause-front : goal.returns-clause-front

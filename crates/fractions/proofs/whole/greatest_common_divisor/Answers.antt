@@ -1,4 +1,4 @@
-use Rattle.std.proofs.Common.{◌≡◌, ◌∙◌, ap, sym, arith}
+use Rattle.std.proofs.Common.{◌≡◌, ◌∙◌, ap, sym}
 use Rattle.fractions.specs.Gcd.{gcd, gcd-mod, gcd-zero, gcd_pos, gcd-le_right}
 use Rattle.fractions.proofs.whole.greatest_common_divisor.Goals as goal
 

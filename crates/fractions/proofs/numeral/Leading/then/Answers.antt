@@ -1,4 +1,3 @@
-use Rattle.std.proofs.Common.{arith}
 use Rattle.fractions.proofs.Significant.{leading_zero, leading_kept, leading_counted}
 use Rattle.fractions.proofs.numeral.Leading.then.Goals.{else-self-eq0-via-then-self-eq0+else-digit-eq48, else-self-eq0-via-else-self-eq0}
 use Rattle.fractions.proofs.numeral.Leading.then.Goals as goal

@@ -1,7 +1,7 @@
 use Rattle.std.proofs.Common.{◌≡◌, ◌∙◌, refl, arith, ap, subst, sym, ◌*◌, ◌/◌, ◌*ℤ◌, ◌+ℤ◌, to_z, ℤ, ℕ, ◌<◌, ◌^◌}
 use Rattle.std.specs.Int.{w128}
 use Rattle.fractions.specs.Limits.{lcm, num_over}
-use Rattle.fractions.proofs.Parts.{wrap, narrow_same, frac_same_args}
+use Rattle.fractions.proofs.Parts.{wrap, narrow_same}
 use Rattle.fractions.proofs.Sum.{IsCommon, common_at, factor_narrow, times_plain, computed_back, sum_back}
 use Rattle.fractions.specs.Fraction.{◌+ʳ◌}
 use Rattle.fractions.proofs.SmallParts.{IsResult, long_result}

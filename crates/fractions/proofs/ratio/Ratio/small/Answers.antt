@@ -1,5 +1,5 @@
-use Rattle.std.proofs.Common.{◌≡◌, ℕ, ℤ, ◌<◌, ◌^◌, ◌∙◌, ap, sym, subst, arith, to_z, of_z, unsigned_abs}
-use Rattle.std.specs.Int.{w64, w128}
+use Rattle.std.proofs.Common.{◌≡◌, ℤ, ◌<◌, ◌^◌, ◌∙◌, ap, arith, to_z, of_z, unsigned_abs}
+use Rattle.std.specs.Int.{w64}
 use Rattle.std.proofs.lemmas.Int.{ints}
 use Rattle.fractions.specs.Fracs.{frac_same}
 use Rattle.fractions.proofs.Parts.{wrap_abs, wrap_same, frac_same_args}
