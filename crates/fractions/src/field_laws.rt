@@ -13,7 +13,7 @@ ghost use Rattle.std.specs.Prelude.{◌≡◌, ◌≢◌, ℕ, List, ◌⊎◌};
 ghost use Rattle.std.specs.Int.{◌∣◌};
 ghost use Rattle.fractions.specs.Fraction.{Fraction, frac, zero_fraction, one_fraction, negated, inverse, ◌+ʳ◌, ◌-ʳ◌, ◌*ʳ◌, ◌/ʳ◌, ◌≤ʳ◌, ◌<ʳ◌};
 ghost use Rattle.fractions.specs.Limits.{IsBelow, IsNarrow, SumFits, DifferenceFits, lcm, num_over};
-ghost use Rattle.fractions.specs.Numeral.{Numeral, Writes};
+ghost use Rattle.fractions.specs.Numeral.{Numeral, Writes, magnitude, limit, IsShort};
 ghost use Rattle.fractions.specs.Quotient.{Quotient, WritesQuotient};
 
 /// Fractions are a commutative ring.
@@ -74,9 +74,10 @@ pub fn updates_of_small_parts()
     ensures difference { (t u v : Fraction) → IsBelow 42 t → IsBelow 42 u → IsBelow 42 v → DifferenceFits t (u *ʳ v) }
 {}
 
-/// A text writes at most one numeral or quotient, and not both.
+/// A text writes at most one numeral or quotient, and not both. The value of a numeral has few digits.
 pub fn readings()
     ensures numeral { (text : List ℕ) (m n : Numeral) → Writes text m → Writes text n → m ≡ n }
     ensures quotient { (text : List ℕ) (p q : Quotient) → WritesQuotient text p → WritesQuotient text q → p ≡ q }
     ensures apart { (text : List ℕ) (n : Numeral) (q : Quotient) → Writes text n → ¬ WritesQuotient text q }
+    ensures short { (text : List ℕ) (n : Numeral) → Writes text n → magnitude n <ʳ limit → IsShort (magnitude n) }
 {}

@@ -56,7 +56,7 @@ impl Model for Ratio {
 
 impl Ratio {
     // The fraction of two numbers that are in lowest terms.
-    pub fn stored(numerator: i128, denominator: u128) -> Ratio
+    pub(crate) fn stored(numerator: i128, denominator: u128) -> Ratio
         requires { IsStored numerator denominator }
         ensures { result ≡ frac numerator denominator }
     {
@@ -116,7 +116,7 @@ impl Ratio {
         Ratio::stored(1, 1)
     }
 
-    // A whole number.
+    /// A whole number whose magnitude is below 2^127.
     pub fn whole_number(n: i128) -> Ratio
         requires { unsigned_abs n < 2 ^ 127 }
         ensures { result ≡ whole_fraction n }
