@@ -1,0 +1,3 @@
+pub mod Energy
+pub mod Split
+pub mod Scaled

@@ -1,0 +1,11 @@
+use Rattle.std.proofs.Common.{refl, lit<, ◌∙◌}
+use Rattle.fractions.specs.Gcd.{gcd, gcd_steps}
+use Rattle.fractions.specs.Fracs.{zero-frac}
+use Rattle.fractions.proofs.ratio.Ratio.zero.Goals as goal
+
+pub stored-requires : goal.stored-requires
+unfolding gcd gcd_steps
+stored-requires c = record { positive = lit< tt; lowest = refl; narrow_top = lit< tt; narrow_bottom = lit< tt }
+
+pub returns : goal.returns
+returns c = c.stored.ensures ∙ zero-frac 1 (lit< tt)

@@ -1,0 +1,432 @@
+//! Fractions in lowest terms: arithmetic, order, text.
+
+ghost use Rattle.std.specs.Prelude.{◌≡◌, ℕ, ◌+◌, ◌*◌, ◌/◌, ◌<◌, ◌≤◌, ◌^◌, ℤ, pos, ◌+ℤ◌, ◌*ℤ◌, neg_ℤ, ◌≤ℤ◌, ◌<ℤ◌, int_div, unsigned_abs, IsTrue, ◌↔◌, ◌≢◌, IfOk, string_bytes, length, slice_index};
+ghost use Rattle.std.specs.Result.{OkIff};
+ghost use Rattle.std.specs.Option.{SomeIff};
+ghost use Rattle.std.specs.Int.{IsInRange};
+ghost use Rattle.std.specs.Str.Parse.{AllDigits, digits_value};
+ghost use Rattle.fractions.specs.Gcd.{gcd};
+ghost use Rattle.std.specs.Ordering.{nat_cmp, MatchOrdering};
+ghost use Rattle.fractions.specs.Fraction.{frac, ◌*ʳ◌, ◌+ʳ◌, ◌-ʳ◌, ◌/ʳ◌, ◌<ʳ◌, ◌≤ʳ◌, whole_fraction, negated, inverse, zero_fraction, one_fraction};
+ghost use Rattle.fractions.specs.Limits.{IsNarrow, SumFits, DifferenceFits, IsBelow};
+ghost use Rattle.fractions.specs.Print.{printed};
+ghost use Rattle.fractions.specs.Stored.{IsStored};
+
+use crate::small::Small;
+use crate::whole::{
+    compare_parts, divided, greatest_common_divisor, natural_product, rounded_up, whole_product,
+    whole_sum,
+};
+use plan_base::{NoMemory, Text};
+use std::alloc::Global;
+use std::cmp::Ordering;
+use std::marker::Model;
+
+// Parts below this take a short way.
+const SMALL: u128 = 1 << 62;
+
+/// A result past the limits.
+#[derive(Clone, Copy, Debug, PartialEq, Eq)]
+pub struct Wide;
+
+/// A fraction in lowest terms. The numerator's magnitude and the denominator are below 2^127.
+#[derive(Clone, Copy)]
+pub struct Ratio {
+    numerator: i128,
+    denominator: u128,
+}
+
+impl Model for Ratio {
+    ghost use Rattle.fractions.specs.Fraction.{Fraction, frac};
+    ghost use Rattle.fractions.specs.Stored.{fraction_code, IsStored};
+    ghost use Rattle.fractions.specs.Stored.{stored_back};
+
+    ghost Value = { Fraction };
+
+    ghost coded = { fraction_code };
+
+    ghost view = { λ r. frac r.numerator r.denominator };
+
+    ghost invariant = { λ r. IsStored r.numerator r.denominator };
+
+    ghost inverse = { λ x. record { numerator = x.num; denominator = x.den } };
+
+    ghost inverse_ok = { λ r h. stored_back r.numerator r.denominator h (λ n d. record { numerator = n; denominator = d }) };
+}
+
+impl Ratio {
+    // The fraction of two numbers that are in lowest terms.
+    pub(crate) fn stored(numerator: i128, denominator: u128) -> Ratio
+        requires { IsStored numerator denominator }
+        ensures { result ≡ frac numerator denominator }
+    {
+        Ratio {
+            numerator,
+            denominator,
+        }
+    }
+
+    // The same fraction on 64 bits, where both parts are below 2^62.
+    fn small(&self) -> Option<Small>
+        ensures { SomeIff result (IsBelow 62 self.now) self.now }
+    {
+        let numerator = self.numerator();
+        let denominator = self.natural_denominator();
+        if numerator.unsigned_abs() < SMALL && denominator < SMALL {
+            Some(Small {
+                numerator: numerator as i64,
+                denominator: denominator as u64,
+            })
+        } else {
+            None
+        }
+    }
+
+    // The denominator as an unsigned number.
+    fn natural_denominator(&self) -> u128
+        ensures value { result ≡ self.now.den }
+        ensures narrow { result < 2 ^ 127 }
+    {
+        self.denominator
+    }
+
+    pub fn numerator(&self) -> i128
+        ensures value { result ≡ self.now.num }
+        ensures narrow { unsigned_abs result < 2 ^ 127 }
+    {
+        self.numerator
+    }
+
+    pub fn denominator(&self) -> i128
+        ensures value { result ≡ pos self.now.den }
+        ensures narrow { unsigned_abs result < 2 ^ 127 }
+    {
+        self.natural_denominator() as i128
+    }
+
+    pub fn zero() -> Ratio
+        ensures { result ≡ zero_fraction }
+    {
+        Ratio::stored(0, 1)
+    }
+
+    pub fn one() -> Ratio
+        ensures { result ≡ one_fraction }
+    {
+        Ratio::stored(1, 1)
+    }
+
+    /// A whole number whose magnitude is below 2^127.
+    pub fn whole_number(n: i128) -> Ratio
+        requires { unsigned_abs n < 2 ^ 127 }
+        ensures { result ≡ whole_fraction n }
+    {
+        Ratio::stored(n, 1)
+    }
+
+    /// A whole number.
+    pub fn whole(n: i64) -> Ratio
+        ensures { result ≡ whole_fraction n }
+    {
+        Ratio::whole_number(n as i128)
+    }
+
+    pub fn part(n: i64, d: i64) -> Ratio
+        requires { pos 0 <ℤ d }
+        ensures { result ≡ frac n (unsigned_abs d) }
+    {
+        reduced(n as i128, d.unsigned_abs() as u128)
+    }
+
+    pub fn is_neg(&self) -> bool
+        ensures { IsTrue result ↔ (self.now <ʳ zero_fraction) }
+    {
+        self.numerator() < 0
+    }
+
+    pub fn is_zero(&self) -> bool
+        ensures { IsTrue result ↔ (self.now ≡ zero_fraction) }
+    {
+        self.numerator() == 0
+    }
+
+    pub fn neg(&self) -> Ratio
+        ensures { result ≡ negated self.now }
+    {
+        Ratio::stored(-self.numerator(), self.natural_denominator())
+    }
+
+    /// How two fractions compare.
+    pub fn cmp(&self, other: &Ratio) -> Ordering
+        ensures { MatchOrdering result (self.now <ʳ other.now) (self.now ≡ other.now) (other.now <ʳ self.now) }
+    {
+        if let Some(first) = self.small() {
+            if let Some(second) = other.small() {
+                return first.cmp(&second);
+            }
+        }
+        self.long_cmp(other)
+    }
+
+    // The same for parts of any size, by Euclid's steps on both at once.
+    fn long_cmp(&self, other: &Ratio) -> Ordering
+        ensures { MatchOrdering result (self.now <ʳ other.now) (self.now ≡ other.now) (other.now <ʳ self.now) }
+    {
+        let a = self.numerator();
+        let b = self.natural_denominator();
+        let c = other.numerator();
+        let d = other.natural_denominator();
+        if a < 0 {
+            if c < 0 {
+                compare_parts(c.unsigned_abs(), d, a.unsigned_abs(), b)
+            } else {
+                Ordering::Less
+            }
+        } else if c < 0 {
+            Ordering::Greater
+        } else {
+            compare_parts(a.unsigned_abs(), b, c.unsigned_abs(), d)
+        }
+    }
+
+    /// The product.
+    ///
+    /// # Errors
+    ///
+    /// `Wide` exactly where the product's lowest terms do not fit.
+    pub fn mul(&self, other: &Ratio) -> Result<Ratio, Wide>
+        ensures { OkIff result (IsNarrow (self.now *ʳ other.now)) (self.now *ʳ other.now) }
+    {
+        if let Some(first) = self.small() {
+            if let Some(second) = other.small() {
+                return Ok(first.product(&second));
+            }
+        }
+        self.long_product(other)
+    }
+
+    // The same for parts of any size: each numerator is divided by what it has in common with the other denominator.
+    fn long_product(&self, other: &Ratio) -> Result<Ratio, Wide>
+        ensures { OkIff result (IsNarrow (self.now *ʳ other.now)) (self.now *ʳ other.now) }
+    {
+        let a = self.numerator();
+        let b = self.natural_denominator();
+        let c = other.numerator();
+        let d = other.natural_denominator();
+        let left = greatest_common_divisor(a.unsigned_abs(), d);
+        let right = greatest_common_divisor(c.unsigned_abs(), b);
+        let Ok(top) = whole_product(divided(a, left), divided(c, right)) else {
+            return Err(Wide);
+        };
+        let Ok(bottom) = natural_product(b / right, d / left) else {
+            return Err(Wide);
+        };
+        Ok(Ratio::stored(top, bottom))
+    }
+
+    /// The least whole number that is not below.
+    pub fn ceil(&self) -> Ratio
+        ensures whole { result.den ≡ 1 }
+        ensures not_below { self.now ≤ʳ result }
+        ensures least { (n : ℤ) → self.now ≤ʳ whole_fraction n → result ≤ʳ whole_fraction n }
+    {
+        Ratio::whole_number(rounded_up(self.numerator(), self.natural_denominator()))
+    }
+
+    /// The text `n` where the denominator is 1, else `n/d`, with `-` before a negative one.
+    ///
+    /// # Errors
+    ///
+    /// `NoMemory` where memory could not be had.
+    pub fn print(&self, alloc: Global) -> Result<Text, NoMemory>
+        ensures { IfOk result (λ text. text ≡ printed self.now) }
+    {
+        let n = self.numerator();
+        let d = self.natural_denominator();
+        let text = if d == 1 {
+            format!(in alloc; "{n}")?
+        } else {
+            format!(in alloc; "{n}/{d}")?
+        };
+        Ok(Text::from_string(text))
+    }
+
+    // One over a fraction that is not 0.
+    fn inverse(&self) -> Ratio
+        requires { self.now ≢ zero_fraction }
+        ensures { result ≡ inverse self.now }
+    {
+        let n = self.numerator();
+        let d = self.natural_denominator() as i128;
+        if n < 0 {
+            Ratio::stored(-d, n.unsigned_abs())
+        } else {
+            Ratio::stored(d, n.unsigned_abs())
+        }
+    }
+
+    pub fn div(&self, other: &Ratio) -> Result<Ratio, Wide>
+        requires { other.now ≢ zero_fraction }
+        ensures { OkIff result (IsNarrow (self.now /ʳ other.now)) (self.now /ʳ other.now) }
+    {
+        self.mul(&other.inverse())
+    }
+
+    /// The sum. Both fractions are written over their least common denominator.
+    ///
+    /// # Errors
+    ///
+    /// `Wide` exactly where that denominator, a numerator over it, or the sum of the two is 2^127 or more in magnitude. So
+    /// it never comes where all parts are below 2^62 (`field_laws::sums_of_small_parts`).
+    pub fn add(&self, other: &Ratio) -> Result<Ratio, Wide>
+        ensures { OkIff result (SumFits self.now other.now) (self.now +ʳ other.now) }
+    {
+        if let Some(first) = self.small() {
+            if let Some(second) = other.small() {
+                return Ok(first.sum(&second));
+            }
+        }
+        self.long_sum(other)
+    }
+
+    // The same for parts of any size.
+    fn long_sum(&self, other: &Ratio) -> Result<Ratio, Wide>
+        ensures { OkIff result (SumFits self.now other.now) (self.now +ʳ other.now) }
+    {
+        let b = self.natural_denominator();
+        let d = other.natural_denominator();
+        let common = greatest_common_divisor(b, d);
+        let b_factor = d / common;
+        let d_factor = b / common;
+        let Ok(_) = natural_product(b, b_factor) else {
+            return Err(Wide);
+        };
+        let Ok(first) = whole_product(self.numerator(), b_factor as i128) else {
+            return Err(Wide);
+        };
+        let Ok(second) = whole_product(other.numerator(), d_factor as i128) else {
+            return Err(Wide);
+        };
+        let Ok(top) = whole_sum(first, second) else {
+            return Err(Wide);
+        };
+        let shared = greatest_common_divisor(top.unsigned_abs(), common);
+        Ok(Ratio::stored(divided(top, shared), d_factor * (d / shared)))
+    }
+
+    pub fn sub(&self, other: &Ratio) -> Result<Ratio, Wide>
+        ensures { OkIff result (DifferenceFits self.now other.now) (self.now -ʳ other.now) }
+    {
+        self.add(&other.neg())
+    }
+
+    /// The value of `t - u*v`.
+    pub fn sub_mul(t: &Ratio, u: &Ratio, v: &Ratio) -> Result<Ratio, Wide>
+        ensures { OkIff result (IsNarrow (u.now *ʳ v.now) × DifferenceFits t.now (u.now *ʳ v.now)) (t.now -ʳ u.now *ʳ v.now) }
+    {
+        let Ok(product) = u.mul(v) else {
+            return Err(Wide);
+        };
+        t.sub(&product)
+    }
+}
+
+/// A fraction of any two numbers below the limit, brought to lowest terms.
+pub fn reduced(top: i128, bottom: u128) -> Ratio
+    requires positive { 0 < bottom }
+    requires narrow_top { unsigned_abs top < 2 ^ 127 }
+    requires narrow_bottom { bottom < 2 ^ 127 }
+    ensures { result ≡ frac top bottom }
+{
+    let common = greatest_common_divisor(top.unsigned_abs(), bottom);
+    Ratio::stored(divided(top, common), bottom / common)
+}
+
+#[cfg(test)]
+mod tests {
+    use super::*;
+    use crate::read_ratio;
+    use std::test::Fail;
+
+    // Each line has a call, two fractions, and what Python's fractions give.
+    const RESULTS: &str = "\
+add 1/3 -1/6 1/6\n\
+add 1/999999999999999989 1/999999999999999967 1999999999999999956/999999999999999956000000000000000363\n\
+add -7/2 7/2 0\n\
+add 5/6 1/10 14/15\n\
+sub 1/3 1/3 0\n\
+sub 0 7/9 -7/9\n\
+sub 1/1000000007 -3/1000000009 4000000030/1000000016000000063\n\
+mul -2/3 3/4 -1/2\n\
+mul 999999999999999999/2 2/333333333333333333 3\n\
+mul 0 -5/7 0\n\
+mul 999999999999999989/1 999999999999999967/7 999999999999999956000000000000000363/7\n\
+div 1/3 -2/9 -3/2\n\
+div -5 1/999999999999999999 -4999999999999999995\n\
+div 0 3 0\n\
+cmp 1/3 1/2 -1\n\
+cmp -1/2 -1/3 -1\n\
+cmp 2/4 1/2 0\n\
+cmp -1 0 -1\n\
+cmp 999999999999999998/999999999999999999 999999999999999997/999999999999999998 1\n\
+cmp -1/999999999999999999 -1/999999999999999998 1\n\
+cmp 5 4/999999999999999999 1";
+
+    fn fraction(text: &str) -> Ratio {
+        read_ratio(text.as_bytes()).unwrap_or(Ratio::zero())
+    }
+
+    fn shown(rt: &HostRuntime, outcome: Result<Ratio, Wide>) -> Result<Text, Fail> {
+        match outcome {
+            Ok(value) => Ok(value.print(rt.alloc())?),
+            Err(Wide) => Ok(Text::copy(rt.alloc(), "wide")?),
+        }
+    }
+
+    #[test]
+    fn results_are_exact(rt: HostRuntime) -> Result<(), Fail> {
+        for line in RESULTS.lines() {
+            let words: Vec<&str> = line.split(' ').collect(rt.alloc())?;
+            if words.len() != 4 {
+                panic!(rt; "four words");
+            }
+            let first = fraction(words[1]);
+            let second = fraction(words[2]);
+            let got = match words[0] {
+                "add" => shown(&rt, first.add(&second))?,
+                "sub" => shown(&rt, first.sub(&second))?,
+                "mul" => shown(&rt, first.mul(&second))?,
+                "cmp" => match first.cmp(&second) {
+                    Ordering::Less => Text::copy(rt.alloc(), "-1")?,
+                    Ordering::Equal => Text::copy(rt.alloc(), "0")?,
+                    Ordering::Greater => Text::copy(rt.alloc(), "1")?,
+                },
+                _ => {
+                    if second.is_zero() {
+                        panic!(rt; "zero");
+                    }
+                    shown(&rt, first.div(&second))?
+                }
+            };
+            assert_eq!(rt; got.as_str(), words[3]);
+        }
+        Ok(())
+    }
+
+    #[test]
+    fn wide_and_whole(rt: HostRuntime) -> Result<(), Fail> {
+        let large = fraction("999999999999999999/1");
+        let Ok(square) = large.mul(&large) else {
+            panic!(rt; "wide");
+        };
+        assert_eq!(rt; shown(&rt, square.mul(&large))?.as_str(), "wide");
+        assert_eq!(rt;
+            shown(&rt, Ratio::sub_mul(&large, &large, &Ratio::one()))?.as_str(),
+            "0"
+        );
+        assert_eq!(rt; Ratio::part(-7, 2).ceil().print(rt.alloc())?.as_str(), "-3");
+        assert_eq!(rt; Ratio::part(7, 2).ceil().print(rt.alloc())?.as_str(), "4");
+        assert!(rt; Ratio::part(-2, 12).is_neg());
+        Ok(())
+    }
+}
