@@ -124,7 +124,7 @@ pub string_found : (lim : Bounds) (w : Wishes) (p : ℕ) (q : Purpose) (n : ℕ)
 string_found lim w p q n fs bytes t h = let same : p + 0 ≡ p = omega arith in string_rest lim w p [] [] Between q n fs bytes t reads_nothing (ap (λ x. run lim w x (in_string q [] Between n fs) bytes) same ∙ h)
 
 -- numerals
-not_minus : (p q : Phase) (b : ℕ) → number_next p b ≡ Some q → q ≡ phase.Minus → ⊥
+pub not_minus : (p q : Phase) (b : ℕ) → number_next p b ≡ Some q → q ≡ phase.Minus → ⊥
 not_minus phase.Minus q b h m = split (b == 48) (Some phase.Zero) (if is_nonzero b then Some phase.Whole else None) (Some q) h (λ e g. cc) (λ e g. split (is_nonzero b) (Some phase.Whole) None (Some q) g (λ f k. cc) (λ f k. cc))
 not_minus phase.Zero q b h m = split (b == 46) (Some phase.Dot) (if is_mark b then Some phase.Mark else None) (Some q) h (λ e g. cc) (λ e g. split (is_mark b) (Some phase.Mark) None (Some q) g (λ f k. cc) (λ f k. cc))
 not_minus phase.Whole q b h m = split (is_digit b) (Some phase.Whole) (if b == 46 then Some phase.Dot else if is_mark b then Some phase.Mark else None) (Some q) h (λ e g. cc)

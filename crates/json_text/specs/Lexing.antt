@@ -1,5 +1,5 @@
 -- How strings and numerals are read, byte by byte. Only clauses of private functions cite it.
-use Rattle.std.specs.Prelude.{◌≡◌, ℕ, ◌+◌, ◌-◌, ◌*◌, ◌==◌, nat_lt, nat_le, ◌&&◌, ◌||◌, Bool, true, false, if◌then◌else◌, List, [], ◌∷◌, ◌++◌, encode_utf8, Option, Some, None}
+use Rattle.std.specs.Prelude.{◌≡◌, ℕ, ◌+◌, ◌-◌, ◌*◌, ◌==◌, nat_lt, nat_le, ◌&&◌, ◌||◌, Bool, true, false, not, if◌then◌else◌, List, [], ◌∷◌, ◌++◌, encode_utf8, Option, Some, None}
 use Rattle.std.specs.Char.{digit_value}
 use Rattle.json_text.specs.Text.{short_value}
 use Rattle.json_text.specs.declared.fault.JsonCode.TheVariants.{NotUtf8, NotJson}
@@ -138,7 +138,7 @@ LexRuns lex (b ∷ bytes) = (lex_next lex b ≡ Goes (lex_after lex b)) × LexRu
 
 -- a byte that stands for itself
 abbrev pub is_plain : ℕ → Bool
-is_plain b = nat_le 32 b && nat_lt b 128 && (if b == 34 then false else if b == 92 then false else true)
+is_plain b = nat_le 32 b && (nat_lt b 128 && (not (b == 34) && not (b == 92)))
 
 -- numerals
 abbrev pub is_nonzero : ℕ → Bool
