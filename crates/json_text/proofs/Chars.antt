@@ -27,7 +27,7 @@ pub decide : (b : Bool) → (b ≡ true) ⊎ (b ≡ false)
 decide true = inl refl
 decide false = inr refl
 
-bad_never : {P : Type 0} (b : ℕ) (lex : Lex) → bad_byte b ≡ Goes lex → P
+pub bad_never : {P : Type 0} (b : ℕ) (lex : Lex) → bad_byte b ≡ Goes lex → P
 bad_never b lex h = split (starts_char b) (Bad NotJson) (Bad NotUtf8) (Goes lex) h (λ e g. absurd (cc)) (λ e g. absurd (cc))
 
 -- the digits of one half of a surrogate pair
@@ -194,13 +194,13 @@ tail_more raw s lex x next b r e f p same = to_next (raw ++ b ∷ []) (s ++ b �
 silent_more : (raw s : List ℕ) (lex x next : Lex) (b : ℕ) (r : ReadSoFar raw s lex) → shown lex r.pend ≡ [] → shown x (r.pend ++ b ∷ []) ≡ [] → Pending x (r.pend ++ b ∷ []) → x ≡ next → ReadSoFar (raw ++ b ∷ []) (s ++ []) next
 silent_more raw s lex x next b r e f p same = to_next (raw ++ b ∷ []) (s ++ []) x next same (goes_more raw s lex x b [] r p (append-nil (shown lex r.pend) ∙ e ∙ sym f))
 
-not_between : (low high v : ℕ) → (nat_le low v && nat_le v high) ≡ false → (v < low) ⊎ (high < v)
+pub not_between : (low high v : ℕ) → (nat_le low v && nat_le v high) ≡ false → (v < low) ⊎ (high < v)
 not_between low high v h = grind (arith, nat_tests)
 
-not_below : (low high v : ℕ) → (nat_le low v && nat_lt v high) ≡ false → (v < low) ⊎ (high ≤ v)
+pub not_below : (low high v : ℕ) → (nat_le low v && nat_lt v high) ≡ false → (v < low) ⊎ (high ≤ v)
 not_below low high v h = grind (arith, nat_tests)
 
-hex_small : (b : ℕ) → is_hex b ≡ true → digit_value b < 16
+pub hex_small : (b : ℕ) → is_hex b ≡ true → digit_value b < 16
 hex_small b h = grind (arith, nat_tests)
 
 hex_digits : (a b c d : ℕ) → is_hex a ≡ true → is_hex b ≡ true → is_hex c ≡ true → is_hex d ≡ true → IsHex (a ∷ b ∷ c ∷ d ∷ [])
@@ -209,7 +209,7 @@ hex_digits a b c d ha hb hc hd = (refl, (hex_small a ha, (hex_small b hb, (hex_s
 hex_of_four : (a b c d v : ℕ) → v ≡ more (more (digit_value a) b) c → hex_value (a ∷ b ∷ c ∷ d ∷ []) ≡ more v d
 hex_of_four a b c d v e = let first : more 0 a ≡ digit_value a = omega arith in ap (λ x. more (more (more x b) c) d) first ∙ ap (λ x. more x d) (sym e)
 
-scalar_hex : (v2 c d : ℕ) → v2 < 256 → c < 16 → d < 16 → (v2 < 0xDC) ⊎ (0xDF < v2) → (16 * (16 * v2 + c) + d < 0xD800) ⊎ (0xDC00 ≤ 16 * (16 * v2 + c) + d) → IsScalar (16 * (16 * v2 + c) + d)
+pub scalar_hex : (v2 c d : ℕ) → v2 < 256 → c < 16 → d < 16 → (v2 < 0xDC) ⊎ (0xDF < v2) → (16 * (16 * v2 + c) + d < 0xD800) ⊎ (0xDC00 ≤ 16 * (16 * v2 + c) + d) → IsScalar (16 * (16 * v2 + c) + d)
 scalar_hex v2 c d small hc hd (inl low) (inl below) = scalar_low (16 * (16 * v2 + c) + d) (omega arith)
 scalar_hex v2 c d small hc hd (inl low) (inr above) = absurd (omega arith)
 scalar_hex v2 c d small hc hd (inr high) (inl below) = absurd (omega arith)
@@ -234,10 +234,10 @@ last_digit raw s v next d r hd h =
     let scalar : IsScalar (more v d) = rw v_is (scalar_hex (more (digit_value a) b) (digit_value c) (digit_value d) (omega arith) (hex_small c p.5) (hex_small d hd) (not_between 0xDC 0xDF (more (digit_value a) b) p.7) (not_below 0xD800 0xDC00 (more (more (more (digit_value a) b) c) d) (rw (← v_is) e))) in
     rw e (to_next (raw ++ d ∷ []) (s ++ encode_utf8 (more v d)) Between next (cc) (goes_whole raw s (Hex3 v) d (encode_utf8 (more v d)) r (unicode (a ∷ b ∷ c ∷ d ∷ [])) (hex, subst IsScalar (sym value) scalar) (sym (ap (λ y. y ++ d ∷ []) is)) (ap encode_utf8 (sym value)))))
 
-high_range : (v : ℕ) → is_high v ≡ true → (0xD800 ≤ v) × (v < 0xDC00)
+pub high_range : (v : ℕ) → is_high v ≡ true → (0xD800 ≤ v) × (v < 0xDC00)
 high_range v h = (grind (arith, nat_tests), grind (arith, nat_tests))
 
-low_range : (v : ℕ) → is_low v ≡ true → (0xDC ≤ v) × (v ≤ 0xDF)
+pub low_range : (v : ℕ) → is_low v ≡ true → (0xDC ≤ v) × (v ≤ 0xDF)
 low_range v h = (grind (arith, nat_tests), grind (arith, nat_tests))
 
 more_of : (ds : List ℕ) (xs : List ℕ) (b : ℕ) → (92 ∷ 117 ∷ (ds ++ xs)) ++ b ∷ [] ≡ 92 ∷ 117 ∷ (ds ++ (xs ++ b ∷ []))

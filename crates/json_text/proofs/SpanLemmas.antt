@@ -8,7 +8,7 @@ use Rattle.std.proofs.lemmas.Bool.Decides.{nat_tests}
 use Rattle.json_text.specs.Kept.{Kept, Wishes, is_among}
 use Rattle.json_text.specs.Kept as k
 use Rattle.json_text.specs.Accepted.{all_bounds}
-use Rattle.json_text.specs.Machine.{State, Frame, Outcome, fault, from, run, class, faulted, first_element, first_key, colon, string_end, for_key, kept_object, keys_of, list_of, object_of, is_full, limited, first_element_go, first_key_go, value_go, go_on, refused}
+use Rattle.json_text.specs.Machine.{State, Frame, Outcome, fault, from, run, class, faulted, first_element, first_key, colon, string_end, for_key, kept_object, keys_of, list_of, object_of, is_full, limited, first_element_go, first_key_go, value_go, go_on, refused, done, done_go}
 use Rattle.json_text.specs.SpanSeen.{text_seen, node_seen, member_seen, span_seen, spans_seen, members_seen}
 use Rattle.json_text.specs.declared.fault.JsonCode.TheVariants.{TooDeep, Repeated, TooMany, NotJson}
 use Rattle.json_text.specs.declared.class.Class.{Class}
@@ -114,3 +114,26 @@ from-no-key w bytes at n f fs lt s k q = from-refused w bytes at (first_key n f 
 pub has_key-seen : (key : List ℕ) (ms : List SpanMember) → list_any (λ m. bytes_eq (text_seen m.key) key) ms ≡ is_among (keys_of (members_seen ms)) key
 has_key-seen key [] = refl
 has_key-seen key (m ∷ ms) = ap (λ b. bytes_eq (text_seen m.key) key || b) (has_key-seen key ms)
+
+-- the whole text
+pub from-first : (w : Wishes) (bytes : List ℕ) (σ : State) → from w bytes 0 σ ≡ run all_bounds w 0 σ bytes
+unfolding from
+from-first w bytes σ = refl
+
+done_on : (v : Kept) (c : Class) → (c ≡ Space → ⊥) → done_go v c ≡ refused NotJson
+done_on v Quote s = refl
+done_on v Zero s = refl
+done_on v Digit s = refl
+done_on v Minus s = refl
+done_on v Letter s = refl
+done_on v Comma s = refl
+done_on v Colon s = refl
+done_on v OpenList s = refl
+done_on v CloseList s = refl
+done_on v OpenObject s = refl
+done_on v CloseObject s = refl
+done_on v Space s = absurd (s refl)
+done_on v Other s = refl
+
+pub from-done-refused : (w : Wishes) (bytes : List ℕ) (at : ℕ) (v : Kept) → at < length bytes → (class (get_or bytes at 0) ≡ Space → ⊥) → from w bytes at (done v) ≡ fault NotJson at
+from-done-refused w bytes at v lt s = from-refused w bytes at (done v) NotJson lt (done_on v (class (get_or bytes at 0)) s)

@@ -129,7 +129,7 @@ fn escape(byte: u8) -> LexGo
 }
 
 /// The value of a hexadecimal digit.
-fn hex_of(byte: u8) -> Option<u8>
+pub fn hex_of(byte: u8) -> Option<u8>
     ensures { result ≡ hex_of byte }
 {
     match byte {
