@@ -137,3 +137,6 @@ done_on v Other s = refl
 
 pub from-done-refused : (w : Wishes) (bytes : List ℕ) (at : ℕ) (v : Kept) → at < length bytes → (class (get_or bytes at 0) ≡ Space → ⊥) → from w bytes at (done v) ≡ fault NotJson at
 from-done-refused w bytes at v lt s = from-refused w bytes at (done v) NotJson lt (done_on v (class (get_or bytes at 0)) s)
+
+pub seen-Number : (s : _) (at : ℕ) → node_seen (variant.Number s) at ≡ k.number at s.now
+seen-Number s at = search (rules, the_lemmas)

@@ -170,7 +170,7 @@ fn unescaped_bytes(alloc: Global, bytes: &[u8]) -> Result<Vec<u8>, JsonFault>
 }
 
 /// A copy of a text.
-fn text_of(alloc: Global, bytes: &[u8]) -> Result<Text, JsonFault>
+pub fn text_of(alloc: Global, bytes: &[u8]) -> Result<Text, JsonFault>
     requires { IsUtf8 bytes.now }
     ensures ok { IfOk result (λ text. text ≡ bytes.now) }
     ensures memory { IfErr result (λ f. f.code ≡ NoMemory) }

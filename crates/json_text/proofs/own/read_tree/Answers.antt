@@ -1,0 +1,10 @@
+use Rattle.std.proofs.Common.{◌≡◌, sym, subst}
+use Rattle.json_text.specs.Accepted.{IsAccepted, all_bounds}
+use Rattle.json_text.specs.Seen.{wishes}
+use Rattle.json_text.specs.SpanSeen.{span_seen}
+use Rattle.json_text.proofs.Lexed.{ok_then, err_then}
+use Rattle.json_text.proofs.Textual.{accepted_textual}
+use Rattle.json_text.proofs.own.read_tree.Goals as goal
+
+pub owned_tree-requires : goal.owned_tree-requires
+owned_tree-requires c = accepted_textual all_bounds (wishes c.args.wanted.now) c.args.bytes.now (span_seen c.in-Ok.tree) c.in-Ok.ensures.tree
