@@ -1,17 +1,16 @@
 -- The characters of a string are read as such.
-use Rattle.std.proofs.Common.{◌≡◌, ℕ, zero, suc, ◌+◌, ◌-◌, ◌*◌, ◌/◌, ◌%◌, ◌<◌, ◌≤◌, List, [], ◌∷◌, ◌++◌, length, refl, ap, sym, subst, ◌∙◌, arith, lt-ltb, le-ltb, false, true, Bool, inl, inr, append_assoc, append-nil}
-use Rattle.std.specs.Prelude.{encode_utf8, nat_lt, nat_le, ◌⊎◌, ◌&&◌, ◌||◌, ◌==◌, ◌≢◌, if◌then◌else◌, flat_map, IsTrue, Contains, codes, slice_index_or}
+use Rattle.std.proofs.Common.{◌≡◌, ℕ, zero, suc, ◌+◌, ◌*◌, ◌/◌, ◌%◌, ◌<◌, ◌≤◌, List, [], ◌∷◌, ◌++◌, refl, ap, sym, subst, ◌∙◌, arith, lt-ltb, false, true, inl, inr, append_assoc, append-nil}
+use Rattle.std.specs.Prelude.{encode_utf8, ◌⊎◌, ◌==◌, ◌≢◌, if◌then◌else◌, flat_map, codes, slice_index_or}
 use Rattle.std.specs.List.{AllByRecursion}
 use Rattle.std.specs.Char.{IsScalar, digit_value}
 use Rattle.std.proofs.lemmas.Bool.Decides.{nat_tests}
 use Rattle.json_text.specs.Text.{Char, plain, short, unicode, surrogates, IsChar, IsHex, hex_value, char_text, char_value, string_value, short_value}
-use Rattle.json_text.specs.Lexing.{between, ranged, escape, is_short, is_hex, if_hex, bad_byte, more, is_low, is_high, second_hex, last_hex, low_first, low_second, expect, pair, lex_next, lex_emits, lex_after, lex_end, lexed, LexRuns, went}
+use Rattle.json_text.specs.Lexing.{between, ranged, is_short, is_hex, if_hex, more, is_low, is_high, second_hex, last_hex, low_first, low_second, pair, lex_next, lex_emits, lex_after, lex_end, lexed, LexRuns, went}
 use Rattle.json_text.specs.declared.lex.Lex.{Lex}
 use Rattle.json_text.specs.declared.lex.Lex.TheVariants.{Between, Tail1, Tail2, Tail3, BehindE0, BehindEd, BehindF0, BehindF4, Escape, Hex0, Hex1, Hex2, Hex3, Backslash, LetterU, Low0, Low1, Low2, Low3}
 use Rattle.json_text.specs.declared.lex.LexGo.{LexGo}
 use Rattle.json_text.specs.declared.lex.LexGo.TheVariants.{Goes}
-use Rattle.json_text.proofs.Utf8.{Encoded, encoded, one_byte, two_bytes, three_bytes, four_bytes, scalar_range, order}
-use Rattle.json_text.proofs.Chars.{surrogates_text}
+use Rattle.json_text.proofs.Utf8.{encoded, one_byte, two_bytes, three_bytes, four_bytes, scalar_range, order}
 
 pub LexRuns-append : (lex : Lex) (xs ys : List ℕ) → LexRuns lex xs → LexRuns (lex_end lex xs) ys → LexRuns lex (xs ++ ys)
 LexRuns-append lex [] ys h i = i

@@ -1,22 +1,19 @@
 -- What a string's reading has behind it: whole characters, and the bytes of one that isn't whole yet.
-use Rattle.std.proofs.Common.{◌≡◌, ℕ, zero, suc, ◌+◌, ◌-◌, ◌*◌, ◌/◌, ◌%◌, ◌<◌, ◌≤◌, List, [], ◌∷◌, ◌++◌, length, refl, ap, sym, subst, ◌∙◌, arith, lt-ltb, le-ltb, false, true, Bool, inl, inr, append_assoc, append-nil}
-use Rattle.std.specs.Prelude.{encode_utf8, nat_lt, nat_le, ◌⊎◌, ◌&&◌, ◌||◌, ◌==◌, ◌≢◌, if◌then◌else◌, flat_map, IsTrue, Contains, codes}
+use Rattle.std.proofs.Common.{◌≡◌, ℕ, ◌+◌, ◌*◌, ◌<◌, ◌≤◌, List, [], ◌∷◌, ◌++◌, refl, ap, sym, subst, ◌∙◌, arith, false, true, Bool, inl, inr, append_assoc, append-nil}
+use Rattle.std.specs.Prelude.{encode_utf8, nat_lt, nat_le, ◌⊎◌, ◌&&◌, ◌||◌, ◌==◌, if◌then◌else◌, flat_map, Contains, codes}
 use Rattle.std.specs.List.{AllByRecursion}
 use Rattle.std.specs.Char.{IsScalar, digit_value}
-use Rattle.std.specs.Str.{IsUtf8}
 use Rattle.std.proofs.lemmas.Bool.Decides.{nat_tests}
-use Rattle.std.proofs.lemmas.Bool.{and_parts}
 use Rattle.std.proofs.lemmas.Grind.{flat_map-append}
 use Rattle.std.proofs.lemmas.Str.{encode_ascii}
 use Rattle.json_text.specs.Text.{Char, plain, short, unicode, surrogates, IsChar, IsHex, hex_value, char_text, char_value, string_value, short_value}
-use Rattle.json_text.specs.Lexing.{between, lead, ranged, escape, is_short, is_hex, if_hex, bad_byte, more, is_low, is_high, second_hex, last_hex, low_first, low_second, expect, pair, starts_char, lex_next, lex_emits, lex_after, lex_end, lexed, LexRuns, went}
-use Rattle.json_text.specs.declared.fault.JsonCode.{JsonCode}
+use Rattle.json_text.specs.Lexing.{between, lead, ranged, is_short, is_hex, bad_byte, more, is_low, is_high, second_hex, last_hex, low_first, low_second, pair, starts_char, lex_next, lex_emits}
 use Rattle.json_text.specs.declared.fault.JsonCode.TheVariants.{NotUtf8, NotJson}
 use Rattle.json_text.specs.declared.lex.Lex.{Lex}
 use Rattle.json_text.specs.declared.lex.Lex.TheVariants.{Between, Tail1, Tail2, Tail3, BehindE0, BehindEd, BehindF0, BehindF4, Escape, Hex0, Hex1, Hex2, Hex3, Backslash, LetterU, Low0, Low1, Low2, Low3}
 use Rattle.json_text.specs.declared.lex.LexGo.{LexGo}
 use Rattle.json_text.specs.declared.lex.LexGo.TheVariants.{Goes, Ends, Bad}
-use Rattle.json_text.proofs.Utf8.{Promise, promise2, promise3, promise_e0, promise_ed, promise4, promise_f0, promise_f4, Encoded, encoded, one_byte, two_bytes, three_bytes, four_bytes, scalar_low, scalar_high, scalar_range, order}
+use Rattle.json_text.proofs.Utf8.{Promise, promise2, promise3, promise_e0, promise_ed, promise4, promise_f0, promise_f4, scalar_low, scalar_high}
 
 -- by a test
 pub split : {A : Type 0} {P : Type 0} (t : Bool) (x y z : A) → (if t then x else y) ≡ z → (t ≡ true → x ≡ z → P) → (t ≡ false → y ≡ z → P) → P

@@ -1,14 +1,14 @@
 -- What can be added to the text of a string, by what was read of it.
-use Rattle.std.proofs.Common.{◌≡◌, ◌∙◌, ℕ, suc, ◌+◌, ◌*◌, ◌<◌, ◌≤◌, List, [], ◌∷◌, ◌++◌, length, get_or, take, drop, refl, ap, sym, subst, arith, true, false, add-one, append_assoc, append-nil}
-use Rattle.std.specs.Prelude.{◌==◌, if◌then◌else◌, nat_lt, flat_map}
-use Rattle.std.specs.Char.{IsScalar, digit_value}
+use Rattle.std.proofs.Common.{◌≡◌, ◌∙◌, ℕ, suc, ◌+◌, ◌*◌, ◌<◌, ◌≤◌, List, ◌++◌, length, get_or, take, drop, refl, ap, sym, subst, arith, true, add-one, append_assoc, append-nil}
+use Rattle.std.specs.Prelude.{◌==◌, if◌then◌else◌}
+use Rattle.std.specs.Char.{digit_value}
 use Rattle.std.specs.Str.{IsUtf8, is_utf8}
 use Rattle.std.proofs.Math.Seq.{drop-cons}
 use Rattle.std.proofs.lemmas.List.{take_more}
 use Rattle.std.proofs.lemmas.Bool.Decides.{nat_tests}
 use Rattle.std.proofs.lemmas.Str.{is_utf8-from_IsUtf8}
-use Rattle.json_text.specs.Text.{hex_value, string_value}
-use Rattle.json_text.specs.Lexing.{between, is_short, is_hex, bad_byte, more, is_high, last_hex, lex_next, lex_emits, lex_after, lex_end, lexed, LexRuns, went}
+use Rattle.json_text.specs.Text.{string_value}
+use Rattle.json_text.specs.Lexing.{is_short, is_hex, bad_byte, more, last_hex, lex_next, lex_emits, lex_after, lex_end, lexed, LexRuns, went}
 use Rattle.json_text.specs.Emitting.{CanEmit}
 use Rattle.json_text.specs.declared.lex.Lex.{Lex}
 use Rattle.json_text.specs.declared.lex.Lex.TheVariants.{Between, Tail1, Tail2, Tail3, BehindE0, BehindEd, BehindF0, BehindF4, Escape, Hex0, Hex1, Hex2, Hex3, Backslash, LetterU, Low0, Low1, Low2, Low3}

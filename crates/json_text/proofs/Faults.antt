@@ -1,7 +1,6 @@
 -- The first fault: where the machine faults, and of which kind.
-use Rattle.std.proofs.Common.{◌≡◌, ℕ, zero, suc, ◌+◌, ◌<◌, ◌≤◌, List, [], ◌∷◌, ◌++◌, length, take, refl, ap, sym, subst, ◌∙◌, arith, Bool, true, false, inl, inr, append_assoc, append-nil, length-append, Option, Some, None}
-use Rattle.std.specs.Prelude.{◌⊎◌, ◌≢◌, ◌&&◌, ◌||◌, if◌then◌else◌, nat_le, nat_lt, ◌==◌, flat_map, codes}
-use Rattle.std.specs.List.{AllByRecursion}
+use Rattle.std.proofs.Common.{◌≡◌, ℕ, suc, ◌+◌, ◌<◌, ◌≤◌, List, [], ◌∷◌, ◌++◌, length, take, refl, ap, sym, subst, ◌∙◌, arith, Bool, true, false, inl, inr, append_assoc, append-nil, length-append, Option, Some, None}
+use Rattle.std.specs.Prelude.{◌⊎◌, ◌≢◌, ◌||◌, if◌then◌else◌, nat_lt, ◌==◌, flat_map, codes}
 use Rattle.std.specs.Str.{IsUtf8}
 use Rattle.std.proofs.Math.Seq.{take-append_seam}
 use Rattle.std.proofs.lemmas.Bool.Decides.{nat_tests}
@@ -9,12 +8,12 @@ use Rattle.std.proofs.lemmas.Str.{IsUtf8-append, IsUtf8-nil}
 use Rattle.json_text.specs.Text.{char_text}
 use Rattle.json_text.specs.Kept.{Kept, Wishes}
 use Rattle.json_text.specs.Kept as k
-use Rattle.json_text.specs.Accepted.{Bounds, all_bounds, Accepts, IsAccepted, GoesOn, Inside, outside, inside, escaped, inside_after, inside_from, IsInsideString, Holds, NoneHolds, earlier, IsFault}
+use Rattle.json_text.specs.Accepted.{Bounds, all_bounds, IsAccepted, GoesOn, Inside, outside, inside, inside_after, inside_from, IsInsideString, Holds, NoneHolds, earlier, IsFault}
 use Rattle.json_text.specs.Lexing.{lex_next, lex_emits, number_next, is_whole, is_nonzero, is_digit, is_mark, is_sign}
 use Rattle.json_text.specs.Machine.{start, State, Frame, Purpose, Go, next, names, refused, to, Outcome, tree, fault, limited, run, step, go_on, class, faulted, done, value, first_element, after, first_key, key, colon, in_string, in_number, behind_n, in_word, word_on, word_go, finish, behind, if_kept, closed, string_go, for_key, for_value, kept_list, kept_object, skip_list, skip_object, is_object, number_on, number_ends, in_string_go, value_go, after_go, next_in, keeps, charged, is_full, counting, done_go, answer_of}
 use Rattle.json_text.specs.Machine as m
 use Rattle.json_text.specs.declared.fault.JsonCode.{JsonCode}
-use Rattle.json_text.specs.declared.fault.JsonCode.TheVariants.{NotUtf8, TooDeep, Repeated, TooMany, NotJson, NoMemory}
+use Rattle.json_text.specs.declared.fault.JsonCode.TheVariants.{NotUtf8, TooDeep, Repeated, TooMany, NotJson}
 use Rattle.json_text.specs.declared.lex.Lex.{Lex}
 use Rattle.json_text.specs.declared.lex.Lex.TheVariants.{Between}
 use Rattle.json_text.specs.declared.lex.LexGo.{LexGo}
@@ -27,7 +26,7 @@ use Rattle.json_text.proofs.Chars.{split, shown, ReadSoFar, reads, reads_nothing
 use Rattle.json_text.proofs.Steps.{run-faulted}
 use Rattle.json_text.proofs.Complete.{complete}
 use Rattle.json_text.proofs.Found.{ends_between}
-use Rattle.json_text.proofs.Places.{steps, run-steps, steps-push, IsWell, IsWellPurpose, IsLetter, GoWell, go-well, goes_on, no_longer}
+use Rattle.json_text.proofs.Places.{steps, steps-push, IsWell, IsLetter, GoWell, go-well, goes_on, no_longer}
 use Rattle.json_text.proofs.Refusals.{utf8_push, utf8_strip, known_of, pending_more, MoreUtf8, Refusal, refusal, not_utf8, not_json, lex_inside, lex_in_string, inside_step, chars_utf8}
 
 -- states outside of strings, and those at the beginning of one

@@ -1,7 +1,7 @@
 -- What the machine has read, where it comes to a tree: strings, numerals and words.
-use Rattle.std.proofs.Common.{◌≡◌, ℕ, suc, ◌+◌, ◌<◌, ◌≤◌, List, [], ◌∷◌, ◌++◌, length, refl, ap, sym, subst, ◌∙◌, arith, Bool, true, false, inl, inr, add-one, append_assoc, append-nil, length-append, Option, Some, None, zero}
-use Rattle.std.specs.Prelude.{◌⊎◌, ◌≢◌, ◌==◌, ◌&&◌, ◌||◌, flat_map, if◌then◌else◌, nat_lt, nat_le, codes, Contains, IsTrue}
-use Rattle.std.specs.List.{list_all, AllByRecursion}
+use Rattle.std.proofs.Common.{◌≡◌, ℕ, suc, ◌+◌, List, [], ◌∷◌, ◌++◌, length, refl, ap, sym, subst, ◌∙◌, arith, Bool, true, false, inl, inr, add-one, append_assoc, append-nil, length-append, Option, Some, None}
+use Rattle.std.specs.Prelude.{◌⊎◌, ◌≢◌, ◌==◌, ◌&&◌, flat_map, if◌then◌else◌, nat_lt, nat_le, codes}
+use Rattle.std.specs.List.{AllByRecursion}
 use Rattle.std.specs.Char.{is_ascii_digit}
 use Rattle.std.proofs.lemmas.Bool.Decides.{nat_tests}
 use Rattle.std.proofs.lemmas.Bool.{and_from}
@@ -11,7 +11,7 @@ use Rattle.json_text.specs.Json as json
 use Rattle.json_text.specs.Kept.{Kept, Wishes, kept, count, HasDifferentKeys}
 use Rattle.json_text.specs.Kept as k
 use Rattle.json_text.specs.Accepted.{Bounds}
-use Rattle.json_text.specs.Lexing.{between, ranged, escape, is_short, is_hex, bad_byte, starts_char, more, is_low, is_high, second_hex, last_hex, low_first, low_second, lex_next, lex_emits, lex_after, number_next, is_whole, is_nonzero, is_digit, is_mark, is_sign}
+use Rattle.json_text.specs.Lexing.{between, ranged, is_short, is_hex, bad_byte, starts_char, more, is_low, is_high, second_hex, last_hex, low_first, low_second, lex_next, lex_emits, number_next, is_whole, is_nonzero, is_digit, is_mark, is_sign}
 use Rattle.json_text.specs.Machine as m
 use Rattle.std.specs.Char as d
 use Rattle.json_text.specs.Machine.{State, Frame, Purpose, Go, Outcome, tree, fault, limited, to, run, go_on, class, faulted, value, in_string, in_number, behind_n, in_word, word_on, word_go, finish, if_kept, string_go, for_value, number_on, number_ends, in_string_go, answer_of, number_answer}
@@ -23,8 +23,7 @@ use Rattle.json_text.specs.declared.lex.LexGo.{LexGo}
 use Rattle.json_text.specs.declared.lex.LexGo.TheVariants.{Goes, Ends, Bad}
 use Rattle.json_text.specs.declared.number.Phase.{Phase}
 use Rattle.json_text.specs.declared.number.Phase.TheVariants as phase
-use Rattle.json_text.specs.declared.class.Class.{Class}
-use Rattle.json_text.specs.declared.class.Class.TheVariants.{Quote, Zero, Digit, Minus, Letter}
+use Rattle.json_text.specs.declared.class.Class.TheVariants.{Letter}
 use Rattle.json_text.proofs.Chars.{split, ReadSoFar, reads, reads_nothing, between_a, between_b, between_c, lead_a, lead_b, lead_c, lead_d, lead_e, lead_f, lead_g}
 use Rattle.json_text.proofs.Numerals.{NumberSoFar, number_reads, number_read}
 use Rattle.json_text.proofs.Steps.{run-faulted, string-goes, string-ends, string-bad, number-more, number-stops, number-ends, behind-finish, answer-finish}

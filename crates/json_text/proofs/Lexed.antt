@@ -1,10 +1,10 @@
 -- Strings, numerals and words from a place to another.
-use Rattle.std.proofs.Common.{◌≡◌, ℕ, zero, suc, ◌+◌, ◌-◌, ◌<◌, ◌≤◌, List, [], ◌∷◌, ◌++◌, length, get_or, drop, take, refl, ap, sym, subst, ◌∙◌, add-one, arith, Bool, true, false, inl, inr, append_assoc, append-nil, length-append, Option, Some, None, Result, Ok, Err}
-use Rattle.std.specs.Prelude.{IfOk, IfErr, slice_range, ◌⊎◌, ◌≢◌, ◌==◌, ◌&&◌, not, if◌then◌else◌, nat_lt, nat_le}
+use Rattle.std.proofs.Common.{◌≡◌, ℕ, zero, suc, ◌+◌, ◌-◌, ◌<◌, ◌≤◌, List, [], ◌∷◌, ◌++◌, length, get_or, drop, take, refl, ap, sym, subst, ◌∙◌, add-one, arith, Bool, true, false, inl, inr, append_assoc, append-nil, Some, None, Result, Ok, Err}
+use Rattle.std.specs.Prelude.{IfOk, IfErr, slice_range, ◌⊎◌, ◌≢◌, ◌==◌, ◌&&◌, if◌then◌else◌, nat_lt, nat_le}
 use Rattle.std.specs.List.{list_all}
 use Rattle.std.proofs.Math.Seq.{drop-cons}
 use Rattle.std.proofs.Math.ListN.{drop_of_length-le}
-use Rattle.std.proofs.lemmas.List.{take-append-drop, length-drop, length-take}
+use Rattle.std.proofs.lemmas.List.{take-append-drop}
 use Rattle.std.proofs.lemmas.Bool.Decides.{nat_tests}
 use Rattle.std.proofs.lemmas.Bool.{and_parts, and_from}
 use Rattle.json_text.specs.Kept.{Kept, Wishes}
@@ -17,14 +17,13 @@ use Rattle.json_text.specs.declared.fault.JsonCode.{JsonCode}
 use Rattle.json_text.specs.declared.fault.JsonCode.TheVariants.{NotUtf8, NotJson}
 use Rattle.json_text.specs.declared.lex.Lex.{Lex}
 use Rattle.json_text.specs.declared.lex.Lex.TheVariants.{Between, Tail1, Tail2, Tail3, BehindE0, BehindEd, BehindF0, BehindF4, Escape, Hex0, Hex1, Hex2, Hex3, Backslash, LetterU, Low0, Low1, Low2, Low3}
-use Rattle.json_text.specs.declared.lex.LexGo.{LexGo}
 use Rattle.json_text.specs.declared.lex.LexGo.TheVariants.{Goes, Ends, Bad}
 use Rattle.json_text.specs.declared.number.Phase.{Phase}
 use Rattle.json_text.specs.declared.number.Phase.TheVariants as phase
 use Rattle.json_text.proofs.Chars.{split, between_a, between_b, between_c, lead_a, lead_b, lead_c, lead_d, lead_e, lead_f, lead_g}
 use Rattle.json_text.proofs.CharRuns.{Runs, runs_nil, runs_cons, LexRuns-append, lexed-append, lex_end-append}
 use Rattle.json_text.proofs.Found.{ends_between}
-use Rattle.json_text.proofs.Steps.{from-step, from-end, from-go, from-refused, from-faulted, run-lexed, slice-length, slice-empty, slice-more, string-goes, string-ends, string-bad, number-more, number-stops, number-ends, behind-finish, answer-finish}
+use Rattle.json_text.proofs.Steps.{from-step, from-end, from-go, from-refused, run-lexed, slice-length, slice-empty, slice-more, string-ends, string-bad, number-more, number-stops, number-ends, behind-finish, answer-finish}
 
 drop_drop : (bytes : List ℕ) (i n : ℕ) → drop n (drop i bytes) ≡ drop (i + n) bytes
 drop_drop bytes zero n = ap (λ m. drop m bytes) (omega arith)

@@ -1,6 +1,6 @@
 -- Numerals, byte by byte.
-use Rattle.std.proofs.Common.{◌≡◌, ℕ, zero, suc, ◌+◌, ◌<◌, ◌≤◌, List, [], ◌∷◌, ◌++◌, length, refl, ap, sym, subst, ◌∙◌, arith, false, true, Bool, inl, inr, append_assoc, append-nil, Option, Some, None, length-append}
-use Rattle.std.specs.Prelude.{nat_lt, nat_le, ◌⊎◌, ◌&&◌, ◌||◌, ◌==◌, ◌≢◌, if◌then◌else◌, IsTrue, codes}
+use Rattle.std.proofs.Common.{◌≡◌, ℕ, List, [], ◌∷◌, ◌++◌, refl, ap, sym, subst, ◌∙◌, arith, false, true, Bool, inl, inr, append_assoc, append-nil, Some, None, length-append}
+use Rattle.std.specs.Prelude.{◌⊎◌, ◌==◌, ◌≢◌, if◌then◌else◌}
 use Rattle.std.specs.List.{list_all}
 use Rattle.std.specs.Char.{is_ascii_digit}
 use Rattle.std.proofs.lemmas.Bool.Decides.{nat_tests}

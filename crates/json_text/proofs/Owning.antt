@@ -1,5 +1,5 @@
 -- A tree that owns its texts, piece by piece.
-use Rattle.std.proofs.Common.{◌≡◌, ◌∙◌, ℕ, suc, ◌+◌, ◌<◌, List, [], ◌∷◌, ◌++◌, length, get_or, drop, refl, ap, sym, subst, true, arith, add-one, append_assoc, rules, Vec}
+use Rattle.std.proofs.Common.{◌≡◌, ◌∙◌, ℕ, suc, ◌+◌, ◌<◌, List, [], ◌∷◌, ◌++◌, length, get_or, drop, refl, ap, sym, subst, true, add-one, append_assoc, rules, Vec}
 use Rattle.std.specs.Str.{is_utf8}
 use Rattle.std.specs.declared.alloc.Global.{Global}
 use Rattle.std.proofs.Math.Seq.{drop-cons}
@@ -7,14 +7,13 @@ use Rattle.json_text.specs.Kept.{Kept}
 use Rattle.json_text.specs.Kept as k
 use Rattle.json_text.specs.Machine.{list_of, object_of}
 use Rattle.json_text.specs.Seen.{seen, seen_node, all_seen, members_seen}
-use Rattle.json_text.specs.SpanSeen.{node_seen, span_seen, spans_seen, text_seen, members_seen as lent_members_seen}
+use Rattle.json_text.specs.SpanSeen.{span_seen, spans_seen, text_seen, members_seen as lent_members_seen}
 use Rattle.json_text.specs.Textual.{IsTextual, AreTextual, MembersAreTextual}
 use Rattle.json_text.specs.declared.tree.Tree.{Tree}
-use Rattle.json_text.specs.declared.tree.JsonNode.{JsonNode, the_lemmas as own_lemmas}
+use Rattle.json_text.specs.declared.tree.JsonNode.{the_lemmas as own_lemmas}
 use Rattle.json_text.specs.declared.tree.JsonNode.TheVariants as own
 use Rattle.json_text.specs.declared.span.SpanTree.{SpanTree}
 use Rattle.json_text.specs.declared.span.SpanMember.{SpanMember}
-use Rattle.json_text.specs.declared.span.SpanNode.{SpanNode}
 
 pub own-Number : (t : List ℕ) (at : ℕ) → seen_node (own.Number t) at ≡ k.number at t
 own-Number t at = search (rules, own_lemmas)

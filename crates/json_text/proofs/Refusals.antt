@@ -1,14 +1,14 @@
 -- What stands in a string when a byte is refused: whether it can go on UTF-8.
-use Rattle.std.proofs.Common.{◌≡◌, ℕ, zero, suc, ◌+◌, ◌-◌, ◌*◌, ◌<◌, ◌≤◌, List, [], ◌∷◌, ◌++◌, length, refl, ap, sym, subst, ◌∙◌, arith, Bool, true, false, inl, inr, append_assoc, append-nil}
+use Rattle.std.proofs.Common.{◌≡◌, ℕ, zero, suc, ◌+◌, ◌-◌, ◌*◌, ◌<◌, ◌≤◌, List, [], ◌∷◌, ◌++◌, refl, ap, sym, subst, ◌∙◌, arith, Bool, true, false, inl, inr, append_assoc, append-nil}
 use Rattle.std.specs.Prelude as s
 use Rattle.std.specs.Prelude.{◌⊎◌, ◌≢◌, ◌&&◌, ◌||◌, if◌then◌else◌, nat_le, nat_lt, ◌==◌, encode_utf8, flat_map}
 use Rattle.std.specs.List.{AllByRecursion}
 use Rattle.std.specs.Char.{digit_value, IsScalar}
-use Rattle.std.specs.Str.{IsUtf8, encode_utf8_all, all_scalars}
+use Rattle.std.specs.Str.{IsUtf8, encode_utf8_all}
 use Rattle.std.proofs.lemmas.Bool.Decides.{nat_tests}
 use Rattle.std.proofs.lemmas.Str.{IsUtf8-append, IsUtf8-nil, IsUtf8-encode, IsUtf8-past_char, encode_ascii}
-use Rattle.json_text.specs.Text.{Char, plain, short, unicode, surrogates, IsChar, IsHex, char_text, char_value, short_value, string_value}
-use Rattle.json_text.specs.Lexing.{between, ranged, escape, is_short, is_hex, bad_byte, starts_char, more, is_low, is_high, second_hex, last_hex, low_first, low_second, lex_next, lex_emits, pair}
+use Rattle.json_text.specs.Text.{Char, plain, short, unicode, surrogates, IsChar, char_text, char_value, short_value, string_value}
+use Rattle.json_text.specs.Lexing.{between, ranged, is_short, is_hex, bad_byte, starts_char, more, is_low, is_high, second_hex, last_hex, low_first, low_second, lex_next, pair}
 use Rattle.json_text.specs.Accepted.{Inside, outside, inside, escaped, inside_after}
 use Rattle.json_text.specs.declared.fault.JsonCode.{JsonCode}
 use Rattle.json_text.specs.declared.fault.JsonCode.TheVariants.{NotUtf8, NotJson}
@@ -17,7 +17,7 @@ use Rattle.json_text.specs.declared.lex.Lex.TheVariants.{Between, Tail1, Tail2, 
 use Rattle.json_text.specs.declared.lex.LexGo.{LexGo}
 use Rattle.json_text.specs.declared.lex.LexGo.TheVariants.{Goes, Ends, Bad}
 use Rattle.json_text.proofs.Utf8.{Promise, first_byte, scalar_low, two, three, four, order, scalar_high}
-use Rattle.json_text.proofs.Chars.{split, decide, Half, Pending, shown, ReadSoFar, between_a, between_b, between_c, lead_a, lead_b, lead_c, lead_d, lead_e, lead_f, lead_g}
+use Rattle.json_text.proofs.Chars.{split, Pending, shown, ReadSoFar, between_a, between_b, between_c, lead_a, lead_b, lead_c, lead_d, lead_e, lead_f, lead_g}
 
 -- ASCII is UTF-8
 pub one_utf8 : (b : ℕ) → b < 128 → IsUtf8 (b ∷ [])

@@ -1,17 +1,15 @@
 -- The first bytes of numerals and words, from a place on.
-use Rattle.std.proofs.Common.{◌≡◌, ℕ, ◌+◌, ◌<◌, ◌≤◌, List, [], ◌∷◌, ◌++◌, length, get_or, refl, ap, sym, ◌∙◌, arith, Bool, true, false, Option, Some, None}
-use Rattle.std.specs.Prelude.{slice_range, ◌≢◌, ◌==◌, if◌then◌else◌, codes}
+use Rattle.std.proofs.Common.{◌≡◌, ℕ, ◌+◌, ◌<◌, List, length, get_or, refl, ap, sym, ◌∙◌, arith, Bool, true, false, Some, None}
+use Rattle.std.specs.Prelude.{slice_range, ◌≢◌, ◌==◌, codes}
 use Rattle.std.proofs.lemmas.Bool.Decides.{nat_tests}
 use Rattle.json_text.specs.Kept.{Kept, Wishes}
 use Rattle.json_text.specs.Kept as k
 use Rattle.json_text.specs.Lexing.{number_next, is_nonzero}
-use Rattle.json_text.specs.Machine as m
-use Rattle.json_text.specs.Machine.{State, Frame, Go, to, fault, from, class, value, in_number, behind_n, word_on, word_go, if_kept, value_go, refused, behind_n_go, number_ends}
+use Rattle.json_text.specs.Machine.{Frame, to, fault, from, class, value, in_number, behind_n, word_on, word_go, if_kept, value_go, refused, behind_n_go, number_ends}
 use Rattle.json_text.specs.declared.fault.JsonCode.TheVariants.{NotJson}
-use Rattle.json_text.specs.declared.number.Phase.{Phase}
 use Rattle.json_text.specs.declared.number.Phase.TheVariants as phase
 use Rattle.json_text.specs.declared.class.Class.TheVariants.{Zero, Digit, Minus, Letter}
-use Rattle.json_text.proofs.Steps.{from-go, from-class, from-refused, from-end, number-stops, slice-one}
+use Rattle.json_text.proofs.Steps.{from-go, from-class, from-refused, number-stops, slice-one}
 use Rattle.json_text.proofs.Lexed.{from-digit}
 
 two_on : (at : ℕ) → (at + 1) + 1 ≡ at + 2

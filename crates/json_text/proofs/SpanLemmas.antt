@@ -1,5 +1,5 @@
 -- What each node of a lent tree is seen as, and the machine at the keys of an object.
-use Rattle.std.proofs.Common.{◌≡◌, ◌∙◌, ℕ, suc, ◌+◌, ◌<◌, ◌≤◌, List, [], ◌∷◌, ◌++◌, length, get_or, refl, ap, sym, rules, arith, Vec, Bool, true, false, add-one, inl, inr}
+use Rattle.std.proofs.Common.{◌≡◌, ◌∙◌, ℕ, ◌+◌, ◌<◌, ◌≤◌, List, [], ◌∷◌, ◌++◌, length, get_or, refl, ap, rules, arith, Vec, true, false, inl, inr}
 use Rattle.std.specs.Prelude.{map, ◌⊎◌, ◌||◌, ◌&&◌, if◌then◌else◌, nat_le}
 use Rattle.std.specs.List.{list_any}
 use Rattle.std.specs.Str.{bytes_eq}
@@ -8,7 +8,7 @@ use Rattle.std.proofs.lemmas.Bool.Decides.{nat_tests}
 use Rattle.json_text.specs.Kept.{Kept, Wishes, is_among}
 use Rattle.json_text.specs.Kept as k
 use Rattle.json_text.specs.Accepted.{all_bounds}
-use Rattle.json_text.specs.Machine.{State, Frame, Outcome, fault, from, run, class, faulted, first_element, first_key, colon, string_end, for_key, kept_object, keys_of, list_of, object_of, is_full, limited, first_element_go, first_key_go, value_go, go_on, refused, done, done_go}
+use Rattle.json_text.specs.Machine.{State, Frame, fault, from, run, class, faulted, first_element, first_key, colon, string_end, for_key, kept_object, keys_of, list_of, object_of, is_full, go_on, refused, done, done_go}
 use Rattle.json_text.specs.SpanSeen.{text_seen, node_seen, member_seen, span_seen, spans_seen, members_seen}
 use Rattle.json_text.specs.declared.fault.JsonCode.TheVariants.{TooDeep, Repeated, TooMany, NotJson}
 use Rattle.json_text.specs.declared.class.Class.{Class}
@@ -16,7 +16,7 @@ use Rattle.json_text.specs.declared.class.Class.TheVariants.{Quote, Zero, Digit,
 use Rattle.json_text.specs.declared.span.SpanTree.{SpanTree}
 use Rattle.json_text.specs.declared.span.SpanMember.{SpanMember}
 use Rattle.json_text.specs.declared.span.SpanText.{SpanText}
-use Rattle.json_text.specs.declared.span.SpanNode.{SpanNode, the_lemmas}
+use Rattle.json_text.specs.declared.span.SpanNode.{the_lemmas}
 use Rattle.json_text.specs.declared.span.SpanNode.TheVariants as variant
 use Rattle.json_text.proofs.Steps.{from-class, from-faulted, from-refused, first_key_refused, shallow, deep}
 

@@ -1,20 +1,18 @@
 -- The texts of an accepted text's tree are UTF-8.
-use Rattle.std.proofs.Common.{◌≡◌, ◌∙◌, ℕ, suc, ◌+◌, ◌<◌, List, [], ◌∷◌, ◌++◌, length, get_or, drop, refl, ap, sym, subst, true, false, Bool, inl, inr, arith, add-one}
-use Rattle.std.specs.Prelude.{◌⊎◌, ◌≢◌, if◌then◌else◌, codes, nat_lt, flat_map}
+use Rattle.std.proofs.Common.{◌≡◌, ℕ, suc, ◌+◌, ◌<◌, List, [], ◌∷◌, ◌++◌, length, sym, subst, true, false, Bool, inl, inr, arith}
+use Rattle.std.specs.Prelude.{◌⊎◌, if◌then◌else◌, codes}
 use Rattle.std.specs.List.{list_all, AllByRecursion}
 use Rattle.std.specs.Char.{is_ascii_digit}
-use Rattle.std.specs.Str.{IsUtf8, is_utf8}
+use Rattle.std.specs.Str.{IsUtf8}
 use Rattle.std.proofs.lemmas.Bool.Decides.{nat_tests}
 use Rattle.std.proofs.lemmas.Bool.{and_parts}
 use Rattle.std.proofs.lemmas.Str.{is_utf8-from_IsUtf8, IsUtf8-append, IsUtf8-nil}
-use Rattle.std.proofs.Math.Seq.{drop-cons}
 use Rattle.json_text.specs.Text.{IsNumber, IsWhole, IsFraction, IsSign, IsExponent, IsDigits, string_value}
 use Rattle.json_text.specs.Json.{Json, Elements, Members, IsJson, AreElements, AreMembers, text}
 use Rattle.json_text.specs.Json as json
 use Rattle.json_text.specs.Kept.{Kept, Wishes, kept, kept_list, kept_object, kept_or_skipped, value_place, is_kept}
 use Rattle.json_text.specs.Kept as k
 use Rattle.json_text.specs.Accepted.{Bounds, Accepts}
-use Rattle.json_text.specs.Machine.{list_of, object_of}
 use Rattle.json_text.specs.Textual.{IsTextual, AreTextual, MembersAreTextual}
 use Rattle.json_text.proofs.Refusals.{ascii_utf8, one_utf8, string_utf8}
 

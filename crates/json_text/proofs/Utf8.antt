@@ -1,6 +1,6 @@
 -- UTF-8, byte by byte: the bytes that make a character, and those that can't.
-use Rattle.std.proofs.Common.{◌≡◌, ℕ, zero, suc, ◌+◌, ◌-◌, ◌*◌, ◌/◌, ◌%◌, ◌<◌, ◌≤◌, List, [], ◌∷◌, ◌++◌, refl, ap, sym, subst, ◌∙◌, arith, lt-ltb, le-ltb, false, true, Bool, inl, inr}
-use Rattle.std.specs.Prelude.{encode_utf8, nat_lt, nat_le, ◌⊎◌, ◌&&◌, cond}
+use Rattle.std.proofs.Common.{◌≡◌, ℕ, ◌+◌, ◌-◌, ◌*◌, ◌/◌, ◌%◌, ◌<◌, ◌≤◌, List, [], ◌∷◌, ◌++◌, refl, ap, sym, ◌∙◌, arith, lt-ltb, le-ltb, true, inl, inr}
+use Rattle.std.specs.Prelude.{encode_utf8, ◌⊎◌}
 use Rattle.std.specs.Char.{IsScalar}
 use Rattle.std.specs.Str.{IsUtf8, encode_utf8_all, all_scalars}
 use Rattle.std.proofs.lemmas.Bool.Decides.{nat_tests}
@@ -160,13 +160,13 @@ out_of low high b (inr h) l r = omega arith
 pub promise2 : (b : ℕ) → 194 ≤ b → b ≤ 223 → Promise (b ∷ []) ((128, 191) ∷ [])
 promise2 b low high = λ x. (
   (λ l h. let c = (b - 192) * 64 + (x - 128) in (c, scalar_low c (omega arith), omega arith, two b x c low high l h refl)),
-  (λ out more u. let s = second_byte b x more (omega arith) u in out_of 128 191 x out s.low s.high)
+  (λ out more u. let s = second_byte b x more (omega arith) u in out_of 128 191 x out s.low s.high),
 )
 
 promise_third : (b x : ℕ) → 224 ≤ b → b ≤ 239 → 128 ≤ x → x ≤ 191 → (b ≡ 224 → 160 ≤ x) → (b ≡ 237 → x ≤ 159) → Promise (b ∷ x ∷ []) ((128, 191) ∷ [])
 promise_third b x low high l h e0 ed = λ y. (
   (λ yl yh. let c = ((b - 224) * 64 + (x - 128)) * 64 + (y - 128) in let small : 2048 ≤ c = at_least y yl yh in (c, is_scalar y yl yh, omega arith, three b x y c low high l h yl yh small (omega arith) refl)),
-  (λ out more u. let s = third_byte b x y more low u in out_of 128 191 y out s.0 s.1)
+  (λ out more u. let s = third_byte b x y more low u in out_of 128 191 y out s.0 s.1),
 )
   where
     at_least : (y : ℕ) → 128 ≤ y → y ≤ 191 → 2048 ≤ ((b - 224) * 64 + (x - 128)) * 64 + (y - 128)
@@ -183,29 +183,29 @@ promise_third b x low high l h e0 ed = λ y. (
 pub promise3 : (b : ℕ) → 224 ≤ b → b ≤ 239 → (b ≡ 224 → ⊥) → (b ≡ 237 → ⊥) → Promise (b ∷ []) ((128, 191) ∷ (128, 191) ∷ [])
 promise3 b low high n0 nd = λ x. (
   (λ l h. promise_third b x low high l h (λ e. absurd (n0 e)) (λ e. absurd (nd e))),
-  (λ out more u. let s = second_byte b x more (omega arith) u in out_of 128 191 x out s.low s.high)
+  (λ out more u. let s = second_byte b x more (omega arith) u in out_of 128 191 x out s.low s.high),
 )
 
 pub promise_e0 : Promise (224 ∷ []) ((160, 191) ∷ (128, 191) ∷ [])
 promise_e0 = λ x. (
   (λ l h. promise_third 224 x (omega arith) (omega arith) (omega arith) h (λ e. l) (λ e. absurd (omega arith))),
-  (λ out more u. let s = second_byte 224 x more (omega arith) u in out_of 160 191 x out (s.e0 refl) s.high)
+  (λ out more u. let s = second_byte 224 x more (omega arith) u in out_of 160 191 x out (s.e0 refl) s.high),
 )
 
 pub promise_ed : Promise (237 ∷ []) ((128, 159) ∷ (128, 191) ∷ [])
 promise_ed = λ x. (
   (λ l h. promise_third 237 x (omega arith) (omega arith) l (omega arith) (λ e. absurd (omega arith)) (λ e. h)),
-  (λ out more u. let s = second_byte 237 x more (omega arith) u in out_of 128 159 x out s.low (s.ed refl))
+  (λ out more u. let s = second_byte 237 x more (omega arith) u in out_of 128 159 x out s.low (s.ed refl)),
 )
 
 promise_rest : (b x : ℕ) → 240 ≤ b → b ≤ 244 → 128 ≤ x → x ≤ 191 → (b ≡ 240 → 144 ≤ x) → (b ≡ 244 → x ≤ 143) → Promise (b ∷ x ∷ []) ((128, 191) ∷ (128, 191) ∷ [])
 promise_rest b x low high l h f0 f4 = λ y. (
   (λ yl yh z. (
     (λ zl zh. let c = (((b - 240) * 64 + (x - 128)) * 64 + (y - 128)) * 64 + (z - 128) in
-    let small : 65536 ≤ c = at_least y yl yh z zl zh in (c, scalar_high c (omega arith) (below y yl yh z zl zh), omega arith, four b x y z c low high l h yl yh zl zh small refl)),
-    (λ out more u. let s = fourth_byte b x y z more low u in out_of 128 191 z out s.0 s.1)
+        let small : 65536 ≤ c = at_least y yl yh z zl zh in (c, scalar_high c (omega arith) (below y yl yh z zl zh), omega arith, four b x y z c low high l h yl yh zl zh small refl)),
+    (λ out more u. let s = fourth_byte b x y z more low u in out_of 128 191 z out s.0 s.1),
   )),
-  (λ out more u. let s = third_byte b x y more (omega arith) u in out_of 128 191 y out s.0 s.1)
+  (λ out more u. let s = third_byte b x y more (omega arith) u in out_of 128 191 y out s.0 s.1),
 )
   where
     at_least : (y : ℕ) → 128 ≤ y → y ≤ 191 → (z : ℕ) → 128 ≤ z → z ≤ 191 → 65536 ≤ (((b - 240) * 64 + (x - 128)) * 64 + (y - 128)) * 64 + (z - 128)
@@ -217,17 +217,17 @@ promise_rest b x low high l h f0 f4 = λ y. (
 pub promise4 : (b : ℕ) → 241 ≤ b → b ≤ 243 → Promise (b ∷ []) ((128, 191) ∷ (128, 191) ∷ (128, 191) ∷ [])
 promise4 b low high = λ x. (
   (λ l h. promise_rest b x (omega arith) (omega arith) l h (λ e. absurd (omega arith)) (λ e. absurd (omega arith))),
-  (λ out more u. let s = second_byte b x more (omega arith) u in out_of 128 191 x out s.low s.high)
+  (λ out more u. let s = second_byte b x more (omega arith) u in out_of 128 191 x out s.low s.high),
 )
 
 pub promise_f0 : Promise (240 ∷ []) ((144, 191) ∷ (128, 191) ∷ (128, 191) ∷ [])
 promise_f0 = λ x. (
   (λ l h. promise_rest 240 x (omega arith) (omega arith) (omega arith) h (λ e. l) (λ e. absurd (omega arith))),
-  (λ out more u. let s = second_byte 240 x more (omega arith) u in out_of 144 191 x out (s.f0 refl) s.high)
+  (λ out more u. let s = second_byte 240 x more (omega arith) u in out_of 144 191 x out (s.f0 refl) s.high),
 )
 
 pub promise_f4 : Promise (244 ∷ []) ((128, 143) ∷ (128, 191) ∷ (128, 191) ∷ [])
 promise_f4 = λ x. (
   (λ l h. promise_rest 244 x (omega arith) (omega arith) l (omega arith) (λ e. absurd (omega arith)) (λ e. h)),
-  (λ out more u. let s = second_byte 244 x more (omega arith) u in out_of 128 143 x out s.low (s.f4 refl))
+  (λ out more u. let s = second_byte 244 x more (omega arith) u in out_of 128 143 x out s.low (s.f4 refl)),
 )

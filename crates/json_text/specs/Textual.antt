@@ -1,9 +1,8 @@
 -- The texts of a tree are UTF-8. Only clauses of private functions cite it.
-use Rattle.std.specs.Prelude.{◌≡◌, ℕ, true, List, [], ◌∷◌}
+use Rattle.std.specs.Prelude.{◌≡◌, true}
 use Rattle.std.specs.Str.{is_utf8}
 use Rattle.json_text.specs.Kept.{Kept}
 use Rattle.json_text.specs.Kept as k
-use Rattle.json_text.specs.Machine.{list_of, object_of}
 
 abbrev mutual
   pub IsTextual : Kept → Type 0

@@ -1,4 +1,4 @@
-use Rattle.std.proofs.Common.{◌≡◌, ◌∙◌, sym, subst, ap}
+use Rattle.std.proofs.Common.{◌∙◌, sym, subst, ap}
 use Rattle.std.proofs.lemmas.Str.{IsUtf8-from_is_utf8}
 use Rattle.json_text.specs.Kept as k
 use Rattle.json_text.specs.Machine.{list_of, object_of}

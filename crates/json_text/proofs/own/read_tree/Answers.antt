@@ -1,8 +1,6 @@
-use Rattle.std.proofs.Common.{◌≡◌, sym, subst}
-use Rattle.json_text.specs.Accepted.{IsAccepted, all_bounds}
+use Rattle.json_text.specs.Accepted.{all_bounds}
 use Rattle.json_text.specs.Seen.{wishes}
 use Rattle.json_text.specs.SpanSeen.{span_seen}
-use Rattle.json_text.proofs.Lexed.{ok_then, err_then}
 use Rattle.json_text.proofs.Textual.{accepted_textual}
 use Rattle.json_text.proofs.own.read_tree.Goals as goal
 

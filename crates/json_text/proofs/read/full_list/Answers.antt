@@ -1,4 +1,4 @@
-use Rattle.std.proofs.Common.{◌≡◌, ◌∙◌, sym, arith, inl, inr}
+use Rattle.std.proofs.Common.{◌∙◌, sym, arith, inl, inr}
 use Rattle.json_text.proofs.Lexed.{said}
 use Rattle.json_text.proofs.SpanLemmas.{from-full-open, from-full-deep, from-full-scalar, from-full-other}
 use Rattle.json_text.proofs.read.full_list.Goals as goal

@@ -1,4 +1,4 @@
-use Rattle.std.proofs.Common.{◌≡◌, ◌∙◌, sym, arith}
+use Rattle.std.proofs.Common.{◌∙◌, sym, arith}
 use Rattle.json_text.proofs.Lexed.{said}
 use Rattle.json_text.proofs.SpanLemmas.{from-full-key, from-no-key}
 use Rattle.json_text.proofs.read.full_object.Goals as goal

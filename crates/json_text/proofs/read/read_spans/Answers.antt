@@ -1,5 +1,5 @@
-use Rattle.std.proofs.Common.{◌≡◌, ◌∙◌, sym, arith, [], refl}
-use Rattle.json_text.specs.Machine.{start, done, run, tree, fault}
+use Rattle.std.proofs.Common.{◌∙◌, sym, arith, [], refl}
+use Rattle.json_text.specs.Machine.{start, done}
 use Rattle.json_text.specs.Seen.{wishes}
 use Rattle.json_text.specs.SpanSeen.{span_seen}
 use Rattle.json_text.proofs.Steps.{from-end}

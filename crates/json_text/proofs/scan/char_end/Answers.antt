@@ -1,4 +1,4 @@
-use Rattle.std.proofs.Common.{◌≡◌, ◌∙◌, sym, subst, ap, arith, get_or, inr, [], ◌++◌}
+use Rattle.std.proofs.Common.{◌≡◌, ◌∙◌, sym, arith, get_or, inr}
 use Rattle.json_text.specs.Lexing.{lex_next}
 use Rattle.json_text.specs.declared.lex.LexGo.TheVariants.{Goes}
 use Rattle.json_text.proofs.Lexed.{push_at, push_shown, no_end, from-bad, from-cut, said}

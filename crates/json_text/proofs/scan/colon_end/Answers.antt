@@ -1,4 +1,4 @@
-use Rattle.std.proofs.Common.{◌≡◌, ◌∙◌, ◌∷◌, sym, arith}
+use Rattle.std.proofs.Common.{◌∙◌, ◌∷◌, sym, arith}
 use Rattle.json_text.specs.Machine.{colon, value, wanted_value}
 use Rattle.json_text.specs.declared.class.Class.TheVariants.{Colon}
 use Rattle.json_text.proofs.Steps.{from-class, from-end, from-colon-refused}

@@ -1,8 +1,6 @@
-use Rattle.std.proofs.Common.{◌≡◌, ◌∙◌, ◌+◌, true, false, sym, arith, refl}
-use Rattle.std.specs.Prelude.{slice_range}
+use Rattle.std.proofs.Common.{◌∙◌, ◌+◌, true, false, arith}
 use Rattle.json_text.specs.Kept as k
-use Rattle.json_text.specs.Machine.{if_kept, in_number, value, behind_n}
-use Rattle.json_text.specs.declared.number.Phase.TheVariants as phase
+use Rattle.json_text.specs.Machine.{if_kept, behind_n}
 use Rattle.json_text.proofs.Steps.{from-end}
 use Rattle.json_text.proofs.Lexed.{said}
 use Rattle.json_text.proofs.Scalars.{letter-t, letter-f, letter-i, letter-n, n-u, n-a, n-other}

@@ -1,7 +1,7 @@
-use Rattle.std.proofs.Common.{◌≡◌, ◌∙◌, ◌+◌, sym, arith, refl}
+use Rattle.std.proofs.Common.{◌∙◌, ◌+◌, sym, arith, refl}
 use Rattle.std.specs.Prelude.{slice_range}
 use Rattle.json_text.specs.Kept as k
-use Rattle.json_text.specs.Machine.{if_kept, in_number, value, behind_n}
+use Rattle.json_text.specs.Machine.{if_kept}
 use Rattle.json_text.specs.declared.number.Phase.TheVariants as phase
 use Rattle.json_text.proofs.Lexed.{from-number-cut, said}
 use Rattle.json_text.proofs.Scalars.{minus-zero, minus-whole, minus-i, minus-n, minus-other}

@@ -1,8 +1,4 @@
-use Rattle.std.proofs.Common.{◌≡◌, ◌∙◌, sym, arith, refl}
-use Rattle.std.specs.Prelude.{slice_range}
-use Rattle.json_text.specs.Kept as k
-use Rattle.json_text.specs.Machine.{if_kept, in_number, value, behind_n}
-use Rattle.json_text.specs.declared.number.Phase.TheVariants as phase
+use Rattle.std.proofs.Common.{◌∙◌, sym, arith}
 use Rattle.json_text.proofs.Steps.{from-value-refused}
 use Rattle.json_text.proofs.Lexed.{said, ok_then, err_then}
 use Rattle.json_text.proofs.Scalars.{from-zero, from-nonzero, from-minus}

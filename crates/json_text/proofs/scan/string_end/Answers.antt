@@ -1,4 +1,4 @@
-use Rattle.std.proofs.Common.{◌≡◌, ◌∙◌, sym, ap, subst, arith, true, ◌++◌}
+use Rattle.std.proofs.Common.{◌≡◌, ◌∙◌, ap, arith, ◌++◌}
 use Rattle.std.specs.Prelude.{slice_range}
 use Rattle.json_text.specs.Lexing.{lexed}
 use Rattle.json_text.specs.declared.lex.Lex.TheVariants.{Between}
