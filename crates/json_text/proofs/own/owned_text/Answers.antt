@@ -1,0 +1,7 @@
+use Rattle.std.proofs.Common.{sym, subst}
+use Rattle.std.specs.Str.{IsUtf8}
+use Rattle.std.proofs.lemmas.Str.{IsUtf8-from_is_utf8}
+use Rattle.json_text.proofs.own.owned_text.Goals as goal
+
+pub text_of-requires : goal.text_of-requires
+text_of-requires c = subst IsUtf8 (sym c.as_bytes.ensures) (IsUtf8-from_is_utf8 _ c.requires)

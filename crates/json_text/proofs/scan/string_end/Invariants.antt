@@ -1,0 +1,17 @@
+use Rattle.std.proofs.Common.{length, ◌-◌, ◌≡◌, ◌≤◌, true}
+use Rattle.std.specs.Prelude.{slice_range}
+use Rattle.json_text.specs.Lexing.{LexRuns, lex_end, lexed}
+use Rattle.json_text.specs.declared.lex.Lex.TheVariants.{Between}
+use Rattle.json_text.proofs.scan.string_end.Given as goal
+
+abbrev pub invariant-chars : goal.invariant-chars
+invariant-chars l = record {
+  behind : l.at ≤ l.i;
+  within : l.i ≤ length l.bytes;
+  runs : LexRuns Between (slice_range l.bytes l.at l.i);
+  whole : lex_end Between (slice_range l.bytes l.at l.i) ≡ Between;
+  shown : l.plain ≡ true → lexed Between (slice_range l.bytes l.at l.i) ≡ slice_range l.bytes l.at l.i;
+}
+
+abbrev pub decreases-chars : goal.decreases-chars
+decreases-chars l = length l.bytes - l.i

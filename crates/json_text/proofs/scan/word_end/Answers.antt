@@ -1,0 +1,20 @@
+use Rattle.std.proofs.Common.{◌∙◌, arith}
+use Rattle.json_text.proofs.Lexed.{from-word, from-word-wrong, from-word-cut, from-word-ends, said}
+use Rattle.json_text.proofs.scan.word_end.Goals as goal
+
+pub returns-then-i-bytes-clause-fault : goal.returns-then-i-bytes-clause-fault
+returns-then-i-bytes-clause-fault c = λ w v n fs. c.loop-k.invariant.word w v n fs ∙ from-word-cut w c.args.bytes.now c.args.rest.now c.loop-k.i c.loop-k.k v n fs (omega arith) (omega arith) ∙ said _ _ _ _ c.not_json.ensures.code c.not_json.ensures.at
+
+pub returns-then-bytes-i-clause-fault : goal.returns-then-bytes-i-clause-fault
+returns-then-bytes-i-clause-fault c = λ w v n fs. c.loop-k.invariant.word w v n fs ∙ from-word-wrong w c.args.bytes.now c.args.rest.now c.loop-k.i c.loop-k.k v n fs (omega arith) (omega arith) c.if-bytes-i.true ∙ said _ _ _ _ c.not_json-then-bytes-i.ensures.code c.not_json-then-bytes-i.ensures.at
+
+pub loop-k-preserved : goal.loop-k-preserved
+loop-k-preserved c = record {
+  place = omega arith;
+  within = omega arith;
+  short = omega arith;
+  word = λ w v n fs. c.loop-k.invariant.word w v n fs ∙ from-word w c.args.bytes.now c.args.rest.now c.loop-k.i c.loop-k.k v n fs (omega arith) (omega arith) c.if-bytes-i.false;
+}
+
+pub returns-clause-word : goal.returns-clause-word
+returns-clause-word c = λ w v n fs. c.loop-k.invariant.word w v n fs ∙ from-word-ends w c.args.bytes.now c.args.rest.now c.loop-k.i c.loop-k.k v n fs (omega arith)
