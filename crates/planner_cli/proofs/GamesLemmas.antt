@@ -1,20 +1,19 @@
--- The game of a dump is that of its only tree.
-use Rattle.std.proofs.Common.{◌≡◌, ◌∙◌, ℕ, List, Option, Some, None, ap, sym, Ok, Err, Result}
-use Rattle.std.specs.Prelude.{MatchResult}
-use Rattle.json_text.specs.Kept.{Kept}
-use Rattle.json_text.specs.Plain.{IsPlainText}
-use Rattle.planner_cli.specs.declared.form.FormFault.{FormFault}
-use Rattle.planner_cli.specs.declared.form.FormFault.TheVariants.{NotFirst}
-use Rattle.planner_cli.specs.declared.planner.FirstPlanner.{FirstPlanner}
-use Rattle.planner_cli.specs.FirstRows.{first_game, IsPlanner}
-use Rattle.planner_cli.specs.Games.{HasGame, HasNoGame}
+-- A run over a dump that is refused.
+use Rattle.std.proofs.Common.{◌≡◌, ◌∙◌, ℕ, List, inl, subst, sym}
+use Rattle.std.specs.Prelude.{Option}
+use Rattle.plan_io.specs.Store.{Shelf}
+use Rattle.json_text.specs.declared.fault.JsonFault.{JsonFault}
+use Rattle.json_text.specs.Accepted.{IsFault}
+use Rattle.planner_cli.specs.declared.status.Status.{Status}
+use Rattle.planner_cli.specs.declared.status.Status.TheVariants.{BadDump}
+use Rattle.planner_cli.specs.Ending.{EndsBytes, IsPartOfBytes, Writes}
+use Rattle.planner_cli.specs.Faults.{IsFaultText, IsNothing}
 use Rattle.planner_cli.specs.Keys.{dump_wishes}
+use Rattle.planner_cli.proofs.EndingLemmas.{writes_weaker}
 
-pub game_told : (dump : List ℕ) (tree : Kept) → IsPlainText dump_wishes dump tree → ((other : Kept) → IsPlainText dump_wishes dump other → other ≡ tree) → (result : Result FirstPlanner FormFault)
-    → MatchResult result (λ planner. (first_game tree ≡ Some planner.game) × IsPlanner planner) (λ fault. fault ≡ NotFirst → first_game tree ≡ None)
-    → MatchResult result (λ planner. HasGame dump planner.game × IsPlanner planner) (λ fault. fault ≡ NotFirst → HasNoGame dump)
-game_told dump tree plain one (Ok planner) (is, ranked) = (record { tree = tree; plain = plain; game_is = is }, ranked)
-game_told dump tree plain one (Err fault) none = λ not_first game has.
-    let same : first_game has.tree ≡ first_game tree = ap first_game (one has.tree has.plain) in
-    let both : Some game ≡ None = sym has.game_is ∙ same ∙ none not_first in
-    cc
+-- the dump is refused
+pub writes_refused : (shelf : Shelf) (name dump : List ℕ) (fault : JsonFault) (a b : Option (List ℕ)) (status : Status) → IsFault dump_wishes dump fault.code fault.at
+    → Writes (IsFaultText fault) IsNothing a b status → Writes (EndsBytes shelf name dump) (IsPartOfBytes shelf name dump) a b status
+writes_refused shelf name dump fault a b status refused =
+    writes_weaker (IsFaultText fault) (EndsBytes shelf name dump) IsNothing (IsPartOfBytes shelf name dump) a b status
+    (λ s t told. let ends : Status → Type 0 = λ s. EndsBytes shelf name dump s t in subst ends (sym told.0) (refused, told.1)) (λ t none. inl none)

@@ -6,9 +6,15 @@ use Rattle.json_text.specs.Kept as kept
 use Rattle.json_text.specs.Machine.{list_of, object_of}
 use Rattle.json_text.specs.Seen.{seen, seen_node, all_seen, members_seen}
 use Rattle.json_text.specs.declared.tree.Tree.{Tree}
-use Rattle.json_text.specs.declared.tree.JsonNode.{JsonNode, Number, Str, List as ListNode, Object, Skipped}
-use Rattle.json_text.proofs.SeenLemmas.{seen-List, seen-Object}
+use Rattle.json_text.specs.declared.tree.JsonNode.{JsonNode, the_lemmas, Number, Str, List as ListNode, Object, Skipped}
 use Rattle.planner_cli.specs.Trees.{Member, elements_of, members_of, as_object, as_list}
+
+-- what lists and objects are seen as
+seen-List : (v : Vec Tree Global) (at : ℕ) → seen_node (ListNode v) at ≡ kept.list at (list_of (all_seen v.items))
+seen-List v at = search (rules, the_lemmas)
+
+seen-Object : (v : Vec (List ℕ × Tree) Global) (at : ℕ) → seen_node (Object v) at ≡ kept.object at (object_of (members_seen v.items))
+seen-Object v at = search (rules, the_lemmas)
 
 pub members_of-object_of : (members : List Member) → members_of (object_of members) ≡ members
 members_of-object_of [] = refl

@@ -1,5 +1,6 @@
 -- What is read of a tree of JSON. An empty list stands for an empty object, and an empty object for an empty list.
-use Rattle.std.specs.Prelude.{ℕ, Bool, true, false, if◌then◌else◌, List, [], ◌∷◌, Option, None, Some}
+use Rattle.std.specs.Prelude.{ℕ, ◌&&◌, length, nat_le, Bool, true, false, if◌then◌else◌, List, [], ◌∷◌, Option, None, Some}
+use Rattle.std.specs.List.{list_all}
 use Rattle.std.specs.Str.{bytes_eq}
 use Rattle.json_text.specs.Kept.{Kept, KeptList, KeptObject}
 use Rattle.json_text.specs.Kept as kept
@@ -33,8 +34,15 @@ abbrev pub as_text : Kept → Option (List ℕ)
 as_text (kept.string at bytes) = Some bytes
 as_text value = None
 
+-- a whole number of at most nine digits
+abbrev pub is_digit : ℕ → Bool
+is_digit byte = nat_le 48 byte && nat_le byte 57
+
+abbrev pub is_plain_numeral : List ℕ → Bool
+is_plain_numeral digits = nat_le (length digits) 9 && list_all is_digit digits
+
 abbrev pub is_number : Kept → Bool
-is_number (kept.number at digits) = true
+is_number (kept.number at digits) = is_plain_numeral digits
 is_number value = false
 
 -- whether the value is not kept

@@ -2,6 +2,7 @@
 ghost use Rattle.std.specs.Prelude.{◌≡◌};
 ghost use Rattle.planner_cli.specs.declared.form.FormFault.TheVariants.{NoMemory as FormNoMemory};
 
+use json_text::JsonFault;
 use plan_base::NoMemory;
 use std::alloc::{AllocError, AllocFailed};
 
@@ -36,4 +37,15 @@ impl<T: Drop> From<AllocFailed<T>> for FormFault {
     fn from(_: AllocFailed<T>) -> Self {
         FormFault::NoMemory
     }
+}
+
+/// Why no game was read.
+#[derive(Clone, Copy, Debug, PartialEq, Eq)]
+pub enum GameFault {
+    /// The dump is no accepted JSON.
+    Bad(JsonFault),
+    /// It does not have the first form.
+    NotFirst,
+    /// Memory could not be had.
+    NoMemory,
 }

@@ -1,7 +1,8 @@
 // What is read of a tree of JSON.
 ghost use Rattle.std.specs.Prelude.{◌≡◌, option_map};
+ghost use Rattle.std.specs.List.{list_all};
 ghost use Rattle.json_text.specs.Seen.{all_seen, members_seen, seen};
-ghost use Rattle.planner_cli.specs.Trees.{as_list, as_object, as_text, is_number, is_skipped, value_at};
+ghost use Rattle.planner_cli.specs.Trees.{as_list, as_object, as_text, is_digit, is_number, is_plain_numeral, is_skipped, value_at};
 
 use json_text::{JsonNode, Tree};
 use plan_base::Text;
@@ -38,11 +39,32 @@ pub fn as_text(tree: &Tree) -> Option<&str>
     }
 }
 
-/// Whether the value is a number.
+fn is_digit(byte: u8) -> bool
+    ensures { result ≡ is_digit byte }
+{
+    48 <= byte && byte <= 57
+}
+
+fn are_digits(bytes: &[u8]) -> bool
+    ensures { result ≡ list_all is_digit bytes.now }
+{
+    bytes.iter().all(|byte| is_digit(*byte))
+}
+
+fn is_plain_numeral(bytes: &[u8]) -> bool
+    ensures { result ≡ is_plain_numeral bytes.now }
+{
+    bytes.len() <= 9 && are_digits(bytes)
+}
+
+/// Whether the value is a whole number of at most nine digits.
 pub fn is_number(tree: &Tree) -> bool
     ensures { result ≡ is_number (seen tree.now) }
 {
-    matches!(&tree.node, JsonNode::Number(_))
+    match &tree.node {
+        JsonNode::Number(text) => is_plain_numeral(text.as_str().as_bytes()),
+        _ => false,
+    }
 }
 
 /// Whether the value is not kept.
