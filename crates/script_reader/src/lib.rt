@@ -1,0 +1,9 @@
+//! The script's lines as commands.
+#![tactic(auto)]
+
+mod change;
+mod command;
+mod fields;
+
+pub use change::{BeaconWords, Change, Object, Parts};
+pub use command::{Command, ScriptFault};
