@@ -1,11 +1,66 @@
 //! One word as an object, a number or a choice.
-ghost use Rattle.std.specs.Prelude.{◌≡◌, ℕ, ◌<◌, ◌^◌, List, ◌++◌, ◌∷◌, IfSome, IfNone, Some, Ok, Err, IsTrue, ◌↔◌, IfOk, codes};
+ghost use Rattle.std.specs.Prelude.{◌≡◌, ℕ, ◌<◌, ◌^◌, List, ◌++◌, ◌∷◌, IfSome, IfNone, Some, Ok, Err, IsTrue, ◌↔◌, IfOk, codes, MatchOption, IsSomeAnd, length, ◌==◌};
+ghost use Rattle.std.specs.List.{position_or_len, before_first, after_first};
 ghost use Rattle.std.specs.Str.Parse.{AllDigits, digits_value};
 ghost use Rattle.std.specs.Option.{SomeIff};
 ghost use Rattle.plan_base.specs.declared.shape.Kind.{Kind};
-ghost use Rattle.script_reader.specs.Fields.{kind_word, WritesObject, WritesCount};
+ghost use Rattle.script_reader.specs.Fields.{kind_word, IsName, WritesObject, IsObjectAt, ReadsObject, WritesCount, takes};
 
-use plan_base::Kind;
+use fractions::{Ratio, read_ratio, split_digits};
+use plan_base::{Kind, Text};
+use std::alloc::Global;
+
+use crate::{Object, ScriptFault};
+
+/// Where an object stands in a line.
+#[derive(Clone, Copy)]
+pub enum Place {
+    Node,
+    Good,
+    OneRecipe,
+    OneTech,
+    OneItem,
+    OneMachine,
+    Activity,
+}
+
+impl Place {
+    // Whether objects of a kind may stand there.
+    fn takes(self, kind: Kind) -> bool
+        ensures { result ≡ takes self kind }
+    {
+        match self {
+            Place::Node => true,
+            Place::Good => match kind {
+                Kind::Item => true,
+                Kind::Fluid => true,
+                _ => false,
+            },
+            Place::OneRecipe => match kind {
+                Kind::Recipe => true,
+                _ => false,
+            },
+            Place::OneTech => match kind {
+                Kind::Tech => true,
+                _ => false,
+            },
+            Place::OneItem => match kind {
+                Kind::Item => true,
+                _ => false,
+            },
+            Place::OneMachine => match kind {
+                Kind::Machine => true,
+                _ => false,
+            },
+            Place::Activity => match kind {
+                Kind::Recipe => true,
+                Kind::Source => true,
+                Kind::Fluid => true,
+                _ => false,
+            },
+        }
+    }
+}
 
 /// The kind that a word names.
 pub fn kind_of(word: &str) -> Option<Kind>
@@ -21,5 +76,57 @@ pub fn kind_of(word: &str) -> Option<Kind>
         "machine" => Some(Kind::Machine),
         "tech" => Some(Kind::Tech),
         _ => None,
+    }
+}
+
+// The parts of a word before and behind its first colon.
+fn split_colon(word: &str) -> Option<(&str, &str)>
+    ensures { MatchOption result (position_or_len (λ b. b == 58) word.now ≡ length word.now) (λ p. (p.0.now ≡ before_first (λ b. b == 58) word.now) × (p.1.now ≡ after_first (λ b. b == 58) word.now) × (position_or_len (λ b. b == 58) word.now < length word.now)) }
+{
+    word.split_once(':')
+}
+
+// Whether there may be an object of a kind with this name.
+fn is_name(kind: Kind, name: &str) -> bool
+    ensures { IsTrue result ↔ IsName kind name.now }
+{
+    match kind {
+        Kind::Special => match name {
+            "character" => true,
+            "electricity" => true,
+            "heat" => true,
+            _ => false,
+        },
+        _ => true,
+    }
+}
+
+// The kind and the name of an object.
+fn object_parts(word: &str) -> Option<(Kind, &str)>
+    ensures found { IfSome result (λ p. WritesObject word.now p.0 p.1.now) }
+    ensures every { (kind : Kind) (name : List ℕ) → WritesObject word.now kind name → IsSomeAnd result (λ p. (p.0 ≡ kind) × (p.1.now ≡ name)) }
+{
+    let Some((first, name)) = split_colon(word) else {
+        return None;
+    };
+    let Some(kind) = kind_of(first) else {
+        return None;
+    };
+    if is_name(kind, name) { Some((kind, name)) } else { None }
+}
+
+/// The object that a word names.
+pub fn object_at(alloc: Global, word: &str, place: Place) -> Result<Object, ScriptFault>
+    ensures { ReadsObject place word.now result }
+{
+    let Some((kind, name)) = object_parts(word) else {
+        return Err(ScriptFault::BadObject);
+    };
+    if !place.takes(kind) {
+        return Err(ScriptFault::BadObject);
+    }
+    match Text::copy(alloc, name) {
+        Ok(name) => Ok(Object { kind, name }),
+        Err(_) => Err(ScriptFault::NoMemory),
     }
 }
