@@ -38,19 +38,62 @@ pub enum Change {
     Permit(Object),
     Milestone(Object),
     Unmilestone(Object),
-    Ingredient { recipe: Object, good: Object, amount: Option<Ratio> },
-    Product { recipe: Object, good: Object, amount: Option<Ratio> },
-    Unlock { tech: Object, recipe: Object, on: bool },
-    Time { recipe: Object, seconds: Ratio },
-    Enabled { recipe: Object, on: bool },
+    Ingredient {
+        recipe: Object,
+        good: Object,
+        amount: Option<Ratio>,
+    },
+    Product {
+        recipe: Object,
+        good: Object,
+        amount: Option<Ratio>,
+    },
+    Unlock {
+        tech: Object,
+        recipe: Object,
+        on: bool,
+    },
+    Time {
+        recipe: Object,
+        seconds: Ratio,
+    },
+    Enabled {
+        recipe: Object,
+        on: bool,
+    },
     Table(Text),
     Untable(Text),
-    Row { table: Text, label: Text, activity: Object, machine: Object, parts: Parts },
-    Unrow { table: Text, label: Text },
-    Price { table: Text, label: Text, price: Ratio },
-    Want { table: Text, good: Object, amount: Ratio },
-    Import { table: Text, good: Object, price: Option<Ratio> },
-    Surplus { table: Text, good: Object, price: Option<Ratio> },
+    Row {
+        table: Text,
+        label: Text,
+        activity: Object,
+        machine: Object,
+        parts: Parts,
+    },
+    Unrow {
+        table: Text,
+        label: Text,
+    },
+    Price {
+        table: Text,
+        label: Text,
+        price: Ratio,
+    },
+    Want {
+        table: Text,
+        good: Object,
+        amount: Ratio,
+    },
+    Import {
+        table: Text,
+        good: Object,
+        price: Option<Ratio>,
+    },
+    Surplus {
+        table: Text,
+        good: Object,
+        price: Option<Ratio>,
+    },
 }
 
 fn copy_text(alloc: Global, text: &Text) -> Result<Text, NoMemory>
@@ -193,24 +236,47 @@ impl Change {
                 let node = node.copy(alloc)?;
                 Ok(Change::Unmilestone(node))
             }
-            Change::Ingredient { recipe, good, amount } => {
+            Change::Ingredient {
+                recipe,
+                good,
+                amount,
+            } => {
                 let recipe = recipe.copy(alloc)?;
                 let good = good.copy(alloc)?;
-                Ok(Change::Ingredient { recipe, good, amount: copy_ratio(amount) })
+                Ok(Change::Ingredient {
+                    recipe,
+                    good,
+                    amount: copy_ratio(amount),
+                })
             }
-            Change::Product { recipe, good, amount } => {
+            Change::Product {
+                recipe,
+                good,
+                amount,
+            } => {
                 let recipe = recipe.copy(alloc)?;
                 let good = good.copy(alloc)?;
-                Ok(Change::Product { recipe, good, amount: copy_ratio(amount) })
+                Ok(Change::Product {
+                    recipe,
+                    good,
+                    amount: copy_ratio(amount),
+                })
             }
             Change::Unlock { tech, recipe, on } => {
                 let tech = tech.copy(alloc)?;
                 let recipe = recipe.copy(alloc)?;
-                Ok(Change::Unlock { tech, recipe, on: *on })
+                Ok(Change::Unlock {
+                    tech,
+                    recipe,
+                    on: *on,
+                })
             }
             Change::Time { recipe, seconds } => {
                 let recipe = recipe.copy(alloc)?;
-                Ok(Change::Time { recipe, seconds: *seconds })
+                Ok(Change::Time {
+                    recipe,
+                    seconds: *seconds,
+                })
             }
             Change::Enabled { recipe, on } => {
                 let recipe = recipe.copy(alloc)?;
@@ -224,38 +290,74 @@ impl Change {
                 let table = copy_text(alloc, table)?;
                 Ok(Change::Untable(table))
             }
-            Change::Row { table, label, activity, machine, parts } => {
+            Change::Row {
+                table,
+                label,
+                activity,
+                machine,
+                parts,
+            } => {
                 let table = copy_text(alloc, table)?;
                 let label = copy_text(alloc, label)?;
                 let activity = activity.copy(alloc)?;
                 let machine = machine.copy(alloc)?;
                 let parts = parts.copy(alloc)?;
-                Ok(Change::Row { table, label, activity, machine, parts })
+                Ok(Change::Row {
+                    table,
+                    label,
+                    activity,
+                    machine,
+                    parts,
+                })
             }
             Change::Unrow { table, label } => {
                 let table = copy_text(alloc, table)?;
                 let label = copy_text(alloc, label)?;
                 Ok(Change::Unrow { table, label })
             }
-            Change::Price { table, label, price } => {
+            Change::Price {
+                table,
+                label,
+                price,
+            } => {
                 let table = copy_text(alloc, table)?;
                 let label = copy_text(alloc, label)?;
-                Ok(Change::Price { table, label, price: *price })
+                Ok(Change::Price {
+                    table,
+                    label,
+                    price: *price,
+                })
             }
-            Change::Want { table, good, amount } => {
+            Change::Want {
+                table,
+                good,
+                amount,
+            } => {
                 let table = copy_text(alloc, table)?;
                 let good = good.copy(alloc)?;
-                Ok(Change::Want { table, good, amount: *amount })
+                Ok(Change::Want {
+                    table,
+                    good,
+                    amount: *amount,
+                })
             }
             Change::Import { table, good, price } => {
                 let table = copy_text(alloc, table)?;
                 let good = good.copy(alloc)?;
-                Ok(Change::Import { table, good, price: copy_ratio(price) })
+                Ok(Change::Import {
+                    table,
+                    good,
+                    price: copy_ratio(price),
+                })
             }
             Change::Surplus { table, good, price } => {
                 let table = copy_text(alloc, table)?;
                 let good = good.copy(alloc)?;
-                Ok(Change::Surplus { table, good, price: copy_ratio(price) })
+                Ok(Change::Surplus {
+                    table,
+                    good,
+                    price: copy_ratio(price),
+                })
             }
         }
     }

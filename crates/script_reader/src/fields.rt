@@ -2,15 +2,14 @@
 ghost use Rattle.std.specs.Prelude.{◌≡◌, ℕ, ◌<◌, ◌^◌, List, ◌++◌, ◌∷◌, IfSome, IfNone, Some, Ok, Err, IsTrue, ◌↔◌, IfOk, codes, MatchOption, IsSomeAnd, length, ◌==◌};
 ghost use Rattle.std.specs.List.{position_or_len, before_first, after_first};
 ghost use Rattle.std.specs.Str.Parse.{AllDigits, digits_value};
-ghost use Rattle.std.specs.Option.{SomeIff};
+ghost use Rattle.fractions.specs.Numeral.{IsWholePart};
 ghost use Rattle.plan_base.specs.declared.shape.Kind.{Kind};
 ghost use Rattle.script_reader.specs.Fields.{kind_word, IsName, WritesObject, IsObjectAt, ReadsObject, WritesCount, takes};
 
-use fractions::{Ratio, read_ratio, split_digits};
+use crate::{Object, ScriptFault};
+use fractions::{is_whole_part, split_digits};
 use plan_base::{Kind, Text};
 use std::alloc::Global;
-
-use crate::{Object, ScriptFault};
 
 /// Where an object stands in a line.
 #[derive(Clone, Copy)]
@@ -112,7 +111,11 @@ fn object_parts(word: &str) -> Option<(Kind, &str)>
     let Some(kind) = kind_of(first) else {
         return None;
     };
-    if is_name(kind, name) { Some((kind, name)) } else { None }
+    if is_name(kind, name) {
+        Some((kind, name))
+    } else {
+        None
+    }
 }
 
 /// The object that a word names.
@@ -128,5 +131,31 @@ pub fn object_at(alloc: Global, word: &str, place: Place) -> Result<Object, Scri
     match Text::copy(alloc, name) {
         Ok(name) => Ok(Object { kind, name }),
         Err(_) => Err(ScriptFault::NoMemory),
+    }
+}
+
+// Whether a word is digits with no leading zero.
+fn is_whole(word: &str) -> bool
+    ensures { IsTrue result ↔ IsWholePart word.now }
+{
+    let (digits, rest) = split_digits(word.as_bytes());
+    rest.is_empty() && is_whole_part(digits)
+}
+
+/// The whole number from `least` to `most` that a word writes.
+pub fn count_at(word: &str, least: u32, most: u32) -> Option<u32>
+    ensures found { IfSome result (WritesCount least most word.now) }
+    ensures every { (count : ℕ) → WritesCount least most word.now count → result ≡ Some count }
+{
+    if !is_whole(word) {
+        return None;
+    }
+    match word.parse::<u32>() {
+        Ok(count) => if least <= count && count <= most {
+            Some(count)
+        } else {
+            None
+        },
+        Err(_) => None,
     }
 }
