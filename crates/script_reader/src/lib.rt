@@ -4,6 +4,7 @@
 mod change;
 mod command;
 mod fields;
+mod words;
 
 pub use change::{BeaconWords, Change, Object, Parts};
 pub use command::{Command, ScriptFault};
