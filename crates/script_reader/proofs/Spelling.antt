@@ -1,8 +1,7 @@
 -- The reader finds the words that a line spells, and no others.
-use Rattle.std.specs.Prelude.{◌≡◌, ◌≢◌, ℕ, suc, ◌<◌, Bool, true, false, not, cond, ◌==◌, ◌||◌, ◌&&◌, List, [], ◌∷◌, ◌++◌, length, Option, Some, None, ◌⊎◌}
+use Rattle.std.specs.Prelude.{◌≡◌, ◌≢◌, ℕ, ◌<◌, Bool, true, false, not, cond, ◌==◌, ◌||◌, ◌&&◌, List, [], ◌∷◌, ◌++◌, length, Option, Some, None}
 use Rattle.std.specs.List.{list_all}
 use Rattle.std.proofs.Common.{refl, sym, ap, subst, ◌∙◌, arith, inl, inr, ⊎_elim, eqb-true, append_assoc}
-use Rattle.std.proofs.lemmas.Bool.Decides.{nat_tests}
 use Rattle.script_reader.specs.Words.{is_separator, is_plain, escaped, put, unquoted, SpellsWord, ends_word, SpellsFirst, SpellsLine}
 use Rattle.script_reader.specs.Scan.{front_by, behind_by, put_front, unquote, ended, first_word}
 
@@ -116,6 +115,7 @@ pair_parts a b c d e = (ap first_of e, ap second_of e)
     first_of : Option (List ℕ × List ℕ) → List ℕ
     first_of None = []
     first_of (Some p) = p.0
+
     second_of : Option (List ℕ × List ℕ) → List ℕ
     second_of None = []
     second_of (Some p) = p.1
@@ -307,3 +307,19 @@ first_sound line word rest e =
 -- no word begins where nothing is left
 pub first_some : (line word rest : List ℕ) → SpellsFirst line word rest → behind_by is_separator line ≢ []
 first_some line word rest s e = let f : None ≡ some_pair word rest = sym (ap first_word e) ∙ first_found line word rest s in cc
+
+-- ---- the words of a line are one list
+same_words : (u v : List ℕ) (us vs : List (List ℕ)) → u ≡ v → us ≡ vs → u ∷ us ≡ v ∷ vs
+same_words u v us vs e f = ap (λ w. w ∷ us) e ∙ ap (λ ws. v ∷ ws) f
+
+pub one_reading : (line : List ℕ) (us vs : List (List ℕ)) → SpellsLine line us → SpellsLine line vs → us ≡ vs
+one_reading line [] [] h k = refl
+one_reading line [] (v ∷ vs) h k = absurd (first_some line v k.0 k.1 (blank_behind line h))
+one_reading line (u ∷ us) [] h k = absurd (first_some line u h.0 h.1 (blank_behind line k))
+one_reading line (u ∷ us) (v ∷ vs) h k =
+    let p : (u ≡ v) × (h.0 ≡ k.0) = pair_parts u h.0 v k.0 (sym (first_found line u h.0 h.1) ∙ first_found line v k.0 k.1) in
+    same_words u v us vs p.0 (one_reading k.0 us vs (subst (λ (l : List ℕ). SpellsLine l us) p.1 h.2) k.2)
+
+-- a bare word and the same word in quotes
+pub quoted_too : (word : List ℕ) → 0 < length word → list_all is_plain word ≡ true → unquoted word ≡ Some word → SpellsWord word word × SpellsWord (34 ∷ (word ++ 34 ∷ [])) word
+quoted_too word s h e = (inl (s, h, refl), inr (word, refl, e))

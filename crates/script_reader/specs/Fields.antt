@@ -1,12 +1,12 @@
 -- One word as an object, a number or a choice. The forms are this project's own.
-use Rattle.std.specs.Prelude.{◌≡◌, ℕ, ◌<◌, ◌≤◌, Bool, true, false, List, ◌∷◌, ◌++◌, codes, ◌⊎◌, Result, Ok, Err}
+use Rattle.std.specs.Prelude.{◌≡◌, ℕ, ◌≤◌, Bool, true, false, List, ◌∷◌, ◌++◌, codes, ◌⊎◌, Result, Ok, Err}
 use Rattle.std.specs.Str.Parse.{digits_value}
 use Rattle.fractions.specs.Numeral.{IsWholePart}
 use Rattle.plan_base.specs.declared.shape.Kind.{Kind}
 use Rattle.plan_base.specs.declared.shape.Kind.TheVariants.{Special, Item, Fluid, Recipe, Source, Machine, Tech}
 use Rattle.script_reader.specs.declared.change.Object.{Object}
 use Rattle.script_reader.specs.declared.command.ScriptFault.{ScriptFault}
-use Rattle.script_reader.specs.declared.command.ScriptFault.TheVariants.{UnknownCommand, WrongWords, BadNumber, BadQuoting, BadObject, NoMemory}
+use Rattle.script_reader.specs.declared.command.ScriptFault.TheVariants.{BadObject, NoMemory}
 use Rattle.script_reader.specs.declared.fields.Place.{Place}
 use Rattle.script_reader.specs.declared.fields.Place.TheVariants.{Node, Good, OneRecipe, OneTech, OneItem, OneMachine, Activity}
 

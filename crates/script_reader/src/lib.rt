@@ -4,7 +4,8 @@
 mod change;
 mod command;
 mod fields;
-mod words;
+pub mod words;
 
 pub use change::{BeaconWords, Change, Object, Parts};
 pub use command::{Command, ScriptFault};
+pub use fields::{Place, count_at, kind_of, object_at};

@@ -1,4 +1,4 @@
-use Rattle.std.proofs.Common.{◌≡◌, ◌∙◌, sym, ap}
+use Rattle.std.proofs.Common.{◌∙◌, sym, ap}
 use Rattle.fractions.specs.Digits.{front_digits, behind_digits}
 use Rattle.script_reader.proofs.Whole.{whole_iff, not_whole}
 use Rattle.script_reader.proofs.fields.is_whole.Goals as goal
