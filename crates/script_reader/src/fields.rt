@@ -1,0 +1,278 @@
+//! One word as an object, a number or a choice.
+ghost use Rattle.std.specs.Prelude.{◌≡◌, ℕ, ◌<◌, ◌^◌, List, ◌++◌, ◌∷◌, IfSome, IfNone, Some, Ok, Err, IsTrue, ◌↔◌, IfOk, codes, MatchOption, IsSomeAnd, length, ◌==◌};
+ghost use Rattle.std.specs.List.{position_or_len, before_first, after_first};
+ghost use Rattle.std.specs.Str.Parse.{AllDigits, digits_value};
+ghost use Rattle.fractions.specs.Numeral.{IsWholePart};
+ghost use Rattle.plan_base.specs.declared.shape.Kind.{Kind};
+ghost use Rattle.script_reader.specs.Fields.{kind_word, IsName, WritesObject, IsObjectAt, ReadsObject, WritesCount, takes};
+
+use crate::{Object, ScriptFault};
+use fractions::{is_whole_part, split_digits};
+use plan_base::{Kind, Text};
+use std::alloc::Global;
+
+/// Where an object stands in a line.
+#[derive(Clone, Copy)]
+pub enum Place {
+    Node,
+    Good,
+    OneRecipe,
+    OneTech,
+    OneItem,
+    OneMachine,
+    Activity,
+}
+
+impl Place {
+    // Whether objects of a kind may stand there.
+    fn takes(self, kind: Kind) -> bool
+        ensures { result ≡ takes self kind }
+    {
+        match self {
+            Place::Node => true,
+            Place::Good => match kind {
+                Kind::Item => true,
+                Kind::Fluid => true,
+                _ => false,
+            },
+            Place::OneRecipe => match kind {
+                Kind::Recipe => true,
+                _ => false,
+            },
+            Place::OneTech => match kind {
+                Kind::Tech => true,
+                _ => false,
+            },
+            Place::OneItem => match kind {
+                Kind::Item => true,
+                _ => false,
+            },
+            Place::OneMachine => match kind {
+                Kind::Machine => true,
+                _ => false,
+            },
+            Place::Activity => match kind {
+                Kind::Recipe => true,
+                Kind::Source => true,
+                Kind::Fluid => true,
+                _ => false,
+            },
+        }
+    }
+}
+
+/// The kind that a word names.
+pub fn kind_of(word: &str) -> Option<Kind>
+    ensures found { IfSome result (λ kind. word.now ≡ kind_word kind) }
+    ensures every { (kind : Kind) → word.now ≡ kind_word kind → result ≡ Some kind }
+{
+    match word {
+        "special" => Some(Kind::Special),
+        "item" => Some(Kind::Item),
+        "fluid" => Some(Kind::Fluid),
+        "recipe" => Some(Kind::Recipe),
+        "source" => Some(Kind::Source),
+        "machine" => Some(Kind::Machine),
+        "tech" => Some(Kind::Tech),
+        _ => None,
+    }
+}
+
+// The parts of a word before and behind its first colon.
+fn split_colon(word: &str) -> Option<(&str, &str)>
+    ensures { MatchOption result (position_or_len (λ b. b == 58) word.now ≡ length word.now) (λ p. (p.0.now ≡ before_first (λ b. b == 58) word.now) × (p.1.now ≡ after_first (λ b. b == 58) word.now) × (position_or_len (λ b. b == 58) word.now < length word.now)) }
+{
+    word.split_once(':')
+}
+
+// Whether there may be an object of a kind with this name.
+fn is_name(kind: Kind, name: &str) -> bool
+    ensures { IsTrue result ↔ IsName kind name.now }
+{
+    match kind {
+        Kind::Special => match name {
+            "character" => true,
+            "electricity" => true,
+            "heat" => true,
+            _ => false,
+        },
+        _ => true,
+    }
+}
+
+// The kind and the name of an object.
+fn object_parts(word: &str) -> Option<(Kind, &str)>
+    ensures found { IfSome result (λ p. WritesObject word.now p.0 p.1.now) }
+    ensures every { (kind : Kind) (name : List ℕ) → WritesObject word.now kind name → IsSomeAnd result (λ p. (p.0 ≡ kind) × (p.1.now ≡ name)) }
+{
+    let Some((first, name)) = split_colon(word) else {
+        return None;
+    };
+    let Some(kind) = kind_of(first) else {
+        return None;
+    };
+    if is_name(kind, name) {
+        Some((kind, name))
+    } else {
+        None
+    }
+}
+
+/// The object that a word names.
+pub fn object_at(alloc: Global, word: &str, place: Place) -> Result<Object, ScriptFault>
+    ensures { ReadsObject place word.now result }
+{
+    let Some((kind, name)) = object_parts(word) else {
+        return Err(ScriptFault::BadObject);
+    };
+    if !place.takes(kind) {
+        return Err(ScriptFault::BadObject);
+    }
+    match Text::copy(alloc, name) {
+        Ok(name) => Ok(Object { kind, name }),
+        Err(_) => Err(ScriptFault::NoMemory),
+    }
+}
+
+// Whether a word is digits with no leading zero.
+fn is_whole(word: &str) -> bool
+    ensures { IsTrue result ↔ IsWholePart word.now }
+{
+    let (digits, rest) = split_digits(word.as_bytes());
+    rest.is_empty() && is_whole_part(digits)
+}
+
+/// The whole number from `least` to `most` that a word writes.
+pub fn count_at(word: &str, least: u32, most: u32) -> Option<u32>
+    ensures found { IfSome result (WritesCount least most word.now) }
+    ensures every { (count : ℕ) → WritesCount least most word.now count → result ≡ Some count }
+{
+    if !is_whole(word) {
+        return None;
+    }
+    match word.parse::<u32>() {
+        Ok(count) => if least <= count && count <= most {
+            Some(count)
+        } else {
+            None
+        },
+        Err(_) => None,
+    }
+}
+
+#[cfg(test)]
+mod tests {
+    use super::*;
+    use crate::{BeaconWords, Change, Parts};
+    use plan_base::{Items, NoMemory};
+    use std::test::Fail;
+
+    // Each line has a word, and the kind and the name of the object that it names, or a dash.
+    const OBJECTS: &str = "\
+item:iron-plate item iron-plate\n\
+fluid:steam@165 fluid steam@165\n\
+recipe:a:b recipe a:b\n\
+tech:t tech t\n\
+machine:m machine m\n\
+source:s source s\n\
+special:heat special heat\n\
+special:steam -\n\
+Item:a -\n\
+item -\n\
+items:a -\n\
+:a -";
+
+    // Each line has a word and, of those from 1 to 65535, the count that it writes, or a dash.
+    const COUNTS: &str = "\
+1 1\n\
+10 10\n\
+65535 65535\n\
+65536 -\n\
+99999999999 -\n\
+0 -\n\
+01 -\n\
++1 -\n\
+-1 -\n\
+1.0 -\n\
+1e0 -\n\
+x -";
+
+    #[test]
+    fn objects_and_counts(rt: HostRuntime) -> Result<(), Fail> {
+        for line in OBJECTS.lines() {
+            let words: Vec<&str> = line.split(' ').collect(rt.alloc())?;
+            if words.len() < 2 {
+                panic!(rt; "two words");
+            }
+            match object_at(rt.alloc(), words[0], Place::Node) {
+                Ok(object) => {
+                    assert!(rt; words.len() == 3);
+                    assert!(rt; kind_of(words[1]) == Some(object.kind));
+                    assert_eq!(rt; object.name.as_str(), words[2]);
+                }
+                Err(fault) => assert!(rt; fault == ScriptFault::BadObject && words[1] == "-"),
+            }
+        }
+        for line in COUNTS.lines() {
+            let Some((word, wanted)) = line.split_once(' ') else {
+                panic!(rt; "two words");
+            };
+            match count_at(word, 1, 65535) {
+                Some(count) => assert_eq!(rt; format!(in rt.alloc(); "{count}")?.as_str(), wanted),
+                None => assert_eq!(rt; "-", wanted),
+            }
+        }
+        Ok(())
+    }
+
+    fn item(rt: &HostRuntime, name: &str) -> Result<Object, NoMemory> {
+        Ok(Object {
+            kind: Kind::Item,
+            name: Text::copy(rt.alloc(), name)?,
+        })
+    }
+
+    #[test]
+    fn rows_are_copied(rt: HostRuntime) -> Result<(), Fail> {
+        let mut modules = Vec::new(rt.alloc());
+        modules.push((item(&rt, "speed")?, 2))?;
+        let mut beacons = Vec::new(rt.alloc());
+        beacons.push(BeaconWords {
+            machine: item(&rt, "beacon")?,
+            count: 4,
+            share: 2,
+            modules: Items::from_vec(modules),
+        })?;
+        let change = Change::Row {
+            table: Text::copy(rt.alloc(), "t")?,
+            label: Text::copy(rt.alloc(), "l")?,
+            activity: item(&rt, "a")?,
+            machine: item(&rt, "m")?,
+            parts: Parts {
+                fuel: Some(item(&rt, "coal")?),
+                modules: Items::from_vec(Vec::new(rt.alloc())),
+                beacons: Items::from_vec(beacons),
+            },
+        };
+        match change.copy(rt.alloc()) {
+            Ok(
+                Change::Row {
+                    table,
+                    label,
+                    activity,
+                    machine,
+                    parts,
+                },
+            ) => {
+                assert_eq!(rt; table.as_str(), "t");
+                assert_eq!(rt; label.as_str(), "l");
+                assert_eq!(rt; activity.name.as_str(), "a");
+                assert_eq!(rt; machine.name.as_str(), "m");
+                assert!(rt; parts.fuel.is_some());
+                assert!(rt; parts.beacons.len() == 1);
+            }
+            _ => panic!(rt; "no copy"),
+        }
+        Ok(())
+    }
+}
