@@ -1,8 +1,7 @@
 -- The members of the rows of a game are nodes.
-use Rattle.std.proofs.Common.{◌≡◌, ◌∙◌, ◌<◌, ◌≤◌, ◌+◌, ◌++◌, ℕ, zero, suc, Bool, true, false, cond, List, [], ◌∷◌, length, map, get_or, refl, ap, sym, subst, arith, length-append}
+use Rattle.std.proofs.Common.{◌≡◌, ◌<◌, ◌≤◌, ◌+◌, ◌++◌, ℕ, zero, suc, Bool, true, false, cond, List, [], ◌∷◌, length, map, refl, ap, arith, length-append}
 use Rattle.std.specs.Prelude.{◌==◌, All, filter, is_some, if◌then◌else◌, nat_le, Some, None}
 use Rattle.std.specs.List.{list_any, range_with_len, AllByRecursion}
-use Rattle.std.proofs.lemmas.Grind.{common_steps}
 use Rattle.std.proofs.lemmas.List.Elements.{All-head, All-tail}
 use Rattle.plan_base.specs.declared.NodeId.{NodeId}
 use Rattle.graph_store.specs.declared.Group.{Group}
@@ -12,7 +11,7 @@ use Rattle.name_table.specs.Names.{place_of}
 use Rattle.planner_cli.specs.declared.game.FirstGame.{FirstGame}
 use Rattle.planner_cli.specs.declared.game.FirstRecipe.{FirstRecipe}
 use Rattle.planner_cli.specs.declared.game.TheConstants.{MEMBER_LIMIT}
-use Rattle.planner_cli.specs.FirstRows.{IsSound, IsRecipeWithin, node, givers, item_nodes, crafters, item_row, recipe_row, row_of, any_of, all_of, special_rows, rows_of, with_few_members}
+use Rattle.planner_cli.specs.FirstRows.{IsSound, IsRecipeWithin, node, givers, item_nodes, crafters, item_row, recipe_row, any_of, all_of, special_rows, rows_of, with_few_members}
 
 pub all_from : {X : Type 0} (P : X → Type 0) → (xs : List X) → AllByRecursion P xs → All P xs
 all_from P [] each k d within = absurd (omega (arith, within))

@@ -1,7 +1,6 @@
 -- Names of a section, one by one.
-use Rattle.std.proofs.Common.{◌≡◌, ◌≢◌, ◌∙◌, ◌<◌, ◌≤◌, ◌+◌, ◌++◌, ℕ, Bool, true, false, not, List, [], ◌∷◌, Option, Some, None, length, drop, get_or, map, refl, ap, sym, length-append, append_assoc, append-nil, arith}
-use Rattle.std.specs.Prelude.{is_some, ◌&&◌}
-use Rattle.std.specs.List.{list_all}
+use Rattle.std.proofs.Common.{◌≡◌, ◌≢◌, ◌∙◌, ◌<◌, ◌≤◌, ◌+◌, ◌++◌, ℕ, true, false, List, [], ◌∷◌, Option, Some, None, length, drop, get_or, map, refl, ap, sym, length-append, append_assoc, append-nil, arith}
+use Rattle.std.specs.Prelude.{is_some}
 use Rattle.std.proofs.lemmas.Grind.{common_steps}
 use Rattle.name_table.specs.Names.{place_of, with_name}
 use Rattle.name_table.proofs.NamesLemmas.{place_of-append, bytes_eq-same}

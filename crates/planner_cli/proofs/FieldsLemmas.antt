@@ -4,7 +4,7 @@ use Rattle.std.specs.Prelude.{◌||◌}
 use Rattle.std.specs.List.{list_any}
 use Rattle.std.specs.Str.{bytes_eq}
 use Rattle.json_text.specs.Kept.{is_among}
-use Rattle.json_text.specs.Seen.{seen, members_seen}
+use Rattle.json_text.specs.Seen.{members_seen}
 use Rattle.json_text.specs.declared.tree.Tree.{Tree}
 use Rattle.planner_cli.specs.FirstGame.{has_field}
 

@@ -1,11 +1,10 @@
 -- A run over a dump that is refused.
-use Rattle.std.proofs.Common.{◌≡◌, ◌∙◌, ℕ, List, inl, subst, sym}
+use Rattle.std.proofs.Common.{ℕ, List, inl, subst, sym}
 use Rattle.std.specs.Prelude.{Option}
 use Rattle.plan_io.specs.Store.{Shelf}
 use Rattle.json_text.specs.declared.fault.JsonFault.{JsonFault}
 use Rattle.json_text.specs.Accepted.{IsFault}
 use Rattle.planner_cli.specs.declared.status.Status.{Status}
-use Rattle.planner_cli.specs.declared.status.Status.TheVariants.{BadDump}
 use Rattle.planner_cli.specs.Ending.{EndsBytes, IsPartOfBytes, Writes}
 use Rattle.planner_cli.specs.Faults.{IsFaultText, IsNothing}
 use Rattle.planner_cli.specs.Keys.{dump_wishes}

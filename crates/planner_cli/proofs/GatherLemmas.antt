@@ -3,7 +3,7 @@ use Rattle.std.proofs.Common.{◌≡◌, ◌∙◌, ◌<◌, ◌≤◌, ◌+◌,
 use Rattle.std.proofs.Common.{drop-cons, add-one}
 use Rattle.std.proofs.lemmas.Grind.{common_steps}
 use Rattle.std.proofs.lemmas.List.{get_or_default}
-use Rattle.planner_cli.specs.FirstGame.{gather, joined, just}
+use Rattle.planner_cli.specs.FirstGame.{gather, joined}
 
 pub gather-map : {X Z Y : Type 0} (f : Z → Option (List Y)) (g : X → Z) → (xs : List X) → gather f (map g xs) ≡ gather (λ x. f (g x)) xs
 gather-map f g [] = refl

@@ -1,8 +1,7 @@
 -- Names that are put in one after the other.
-use Rattle.std.proofs.Common.{◌≡◌, ◌∙◌, ◌<◌, ◌≤◌, ◌+◌, ◌++◌, ℕ, Bool, true, false, List, [], ◌∷◌, length, drop, get_or, map, refl, ap, sym, length-append, arith}
-use Rattle.std.specs.Prelude.{is_some}
+use Rattle.std.proofs.Common.{◌≡◌, ◌∙◌, ◌<◌, ◌≤◌, ◌+◌, ℕ, List, [], ◌∷◌, length, drop, get_or, map, refl, ap, sym, length-append, arith}
 use Rattle.std.proofs.lemmas.Grind.{common_steps}
-use Rattle.name_table.specs.Names.{place_of, with_name}
+use Rattle.name_table.specs.Names.{with_name}
 use Rattle.planner_cli.specs.FirstGame.{names_after}
 use Rattle.planner_cli.proofs.GatherLemmas.{next, drop_all}
 

@@ -1,12 +1,12 @@
 -- What is read of the trees that the reader makes.
-use Rattle.std.proofs.Common.{◌≡◌, ◌≢◌, ◌∙◌, ◌==◌, ℕ, List, [], ◌∷◌, Vec, Option, None, Some, refl, ap, sym, length, rules, arith, true, false}
+use Rattle.std.proofs.Common.{◌≡◌, ◌≢◌, ◌∙◌, ℕ, List, [], ◌∷◌, Vec, None, Some, refl, ap, length, rules, arith}
 use Rattle.std.specs.declared.alloc.Global.{Global}
 use Rattle.json_text.specs.Kept.{Kept}
 use Rattle.json_text.specs.Kept as kept
 use Rattle.json_text.specs.Machine.{list_of, object_of}
 use Rattle.json_text.specs.Seen.{seen, seen_node, all_seen, members_seen}
 use Rattle.json_text.specs.declared.tree.Tree.{Tree}
-use Rattle.json_text.specs.declared.tree.JsonNode.{JsonNode, the_lemmas, Number, Str, List as ListNode, Object, Skipped}
+use Rattle.json_text.specs.declared.tree.JsonNode.{the_lemmas, List as ListNode, Object}
 use Rattle.planner_cli.specs.Trees.{Member, elements_of, members_of, as_object, as_list}
 
 -- what lists and objects are seen as

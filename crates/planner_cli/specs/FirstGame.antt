@@ -1,6 +1,6 @@
 -- The first game: what a dump of items, recipes and characters means. A dump that has more than those has no first game.
 -- Sections, fields and defaults are those of the prototype documentation of Factorio 1.1; an empty name counts as absent.
-use Rattle.std.specs.Prelude.{ℕ, ◌+◌, ◌==◌, ◌&&◌, ◌||◌, ◌++◌, Bool, true, false, not, if◌then◌else◌, List, [], ◌∷◌, Option, None, Some, is_some, option_map, option_and_then, length, map, filter, fold, codes, nat_le}
+use Rattle.std.specs.Prelude.{ℕ, ◌+◌, ◌==◌, ◌&&◌, ◌||◌, ◌++◌, Bool, true, false, not, if◌then◌else◌, List, [], ◌∷◌, Option, None, Some, is_some, option_map, option_and_then, length, map, fold, codes, nat_le}
 use Rattle.std.specs.List.{list_all, list_any}
 use Rattle.std.specs.Str.{bytes_eq}
 use Rattle.json_text.specs.Kept.{Kept, is_among}

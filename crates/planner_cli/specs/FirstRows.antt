@@ -1,6 +1,6 @@
 -- The dependency rows of the first game, and the ranks of its nodes. The nodes are the character, electricity and heat,
 -- then the items, then the recipes.
-use Rattle.std.specs.Prelude.{ℕ, ◌≡◌, ◌<◌, ◌≤◌, All, Vec, ◌+◌, ◌==◌, Bool, true, false, if◌then◌else◌, List, [], ◌∷◌, ◌++◌, Option, None, Some, is_some, option_and_then, length, map, filter, replicate, nat_le}
+use Rattle.std.specs.Prelude.{ℕ, ◌≡◌, ◌<◌, ◌≤◌, All, Vec, ◌+◌, ◌==◌, true, false, if◌then◌else◌, List, [], ◌∷◌, ◌++◌, Option, None, Some, is_some, option_and_then, length, map, filter, replicate, nat_le}
 use Rattle.std.specs.List.{list_any, range_with_len}
 use Rattle.json_text.specs.Kept.{Kept}
 use Rattle.std.specs.declared.alloc.Global.{Global}

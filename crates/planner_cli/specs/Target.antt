@@ -1,6 +1,6 @@
 -- A line of a script of the first form: `reach item:NAME` or `reach recipe:NAME`. A name is one or more bytes from 33 to
 -- 126 other than a quote and a backslash.
-use Rattle.std.specs.Prelude.{ℕ, ◌+◌, ◌==◌, ◌&&◌, ◌||◌, Bool, not, if◌then◌else◌, List, Option, None, Some, is_some, is_none, option_map, option_and_then, length, take, drop, codes, nat_le, nat_lt}
+use Rattle.std.specs.Prelude.{ℕ, ◌+◌, ◌==◌, ◌&&◌, Bool, not, if◌then◌else◌, List, Option, None, Some, is_some, is_none, option_map, option_and_then, length, take, drop, codes, nat_le, nat_lt}
 use Rattle.std.specs.List.{list_all}
 use Rattle.std.specs.Str.{bytes_eq}
 use Rattle.name_table.specs.Names.{place_of}

@@ -1,9 +1,9 @@
-use Rattle.std.proofs.Common.{◌≡◌, ◌∙◌, ◌<◌, ap, sym, subst, Some, None, map, List, ℕ, [], length, arith}
+use Rattle.std.proofs.Common.{◌≡◌, ◌∙◌, ap, sym, subst, Some, None, map, length, arith}
 use Rattle.std.specs.Prelude.{option_map, All}
 use Rattle.planner_cli.specs.FirstRows.{IsRecipeWithin}
 use Rattle.std.proofs.lemmas.Grind.{common_steps}
 use Rattle.json_text.specs.Seen.{members_seen}
-use Rattle.planner_cli.specs.FirstGame.{gather, just, recipe_of, names_after, keys_of}
+use Rattle.planner_cli.specs.FirstGame.{gather, just, recipe_of}
 use Rattle.planner_cli.proofs.SectionLemmas.{no_plain, no_items, no_names, no_recipes, no_crafting, too_many, the_game_is, crafting_full, length-keys}
 use Rattle.planner_cli.proofs.draft.game_of.Goals as goal
 

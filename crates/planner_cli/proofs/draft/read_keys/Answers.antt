@@ -1,4 +1,4 @@
-use Rattle.std.proofs.Common.{◌≡◌, ◌∙◌, ap, sym, subst, List, ℕ, Result, true, false}
+use Rattle.std.proofs.Common.{◌≡◌, sym, subst, List, ℕ, Result, true, false}
 use Rattle.std.specs.Prelude.{MatchResult}
 use Rattle.planner_cli.specs.declared.form.FormFault.{FormFault}
 use Rattle.planner_cli.specs.declared.form.FormFault.TheVariants.{NotFirst}

@@ -1,4 +1,4 @@
-use Rattle.std.proofs.Common.{◌≡◌, ◌∙◌, ◌≤◌, ◌+◌, ap, sym, subst, length, replicate, false, true, List, None, arith}
+use Rattle.std.proofs.Common.{◌∙◌, ap, sym, subst, length, replicate, false, true, List, None, arith}
 use Rattle.std.specs.Prelude.{nat_le}
 use Rattle.graph_store.specs.declared.Row.{Row}
 use Rattle.graph_store.specs.Rows.{AreMembersBelow, member_count}

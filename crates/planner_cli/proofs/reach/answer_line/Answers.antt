@@ -1,4 +1,4 @@
-use Rattle.std.proofs.Common.{◌≡◌, subst, Option, Some, List, ℕ}
+use Rattle.std.proofs.Common.{◌≡◌, subst, Option}
 use Rattle.std.specs.Prelude.{IfOk}
 use Rattle.planner_cli.specs.Target.{Target}
 use Rattle.planner_cli.specs.Report.{reply_to, reply_for}

@@ -1,8 +1,8 @@
-use Rattle.std.proofs.Common.{◌≡◌, ◌∙◌, ap, sym, refl, Some, None, ◌∷◌, [], arith}
+use Rattle.std.proofs.Common.{◌∙◌, ap, sym, arith}
 use Rattle.std.specs.Prelude.{option_map}
 use Rattle.json_text.specs.Seen.{seen}
 use Rattle.planner_cli.specs.FirstGame.{ingredient_of, just}
-use Rattle.planner_cli.proofs.GatherLemmas.{gather-map, gathers_more, gathers_none, gathers_all}
+use Rattle.planner_cli.proofs.GatherLemmas.{gather-map, gathers_none, gathers_all}
 use Rattle.planner_cli.proofs.recipes.ingredients_of.Goals as goal
 
 pub returns-in-None-clause-numbers : goal.returns-in-None-clause-numbers

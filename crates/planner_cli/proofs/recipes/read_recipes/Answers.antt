@@ -1,4 +1,4 @@
-use Rattle.std.proofs.Common.{◌≡◌, ◌∙◌, ◌+◌, ap, sym, subst, refl, Some, None, ◌∷◌, [], arith}
+use Rattle.std.proofs.Common.{◌∙◌, ◌+◌, ap, sym, subst, ◌∷◌, [], arith}
 use Rattle.std.specs.Prelude.{option_map}
 use Rattle.std.proofs.lemmas.Grind.{common_steps}
 use Rattle.json_text.specs.Seen.{seen}

@@ -1,4 +1,4 @@
-use Rattle.std.proofs.Common.{◌≡◌, length, replicate, []}
+use Rattle.std.proofs.Common.{◌≡◌, replicate, []}
 use Rattle.planner_cli.specs.FirstRows.{contents}
 use Rattle.planner_cli.proofs.rows.empty_lists.Given as goal
 

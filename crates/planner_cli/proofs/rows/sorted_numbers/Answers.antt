@@ -1,4 +1,4 @@
-use Rattle.std.proofs.Common.{◌≡◌, ◌∙◌, sym, subst, eqb, List, ℕ, ◌<◌}
+use Rattle.std.proofs.Common.{◌∙◌, sym, subst, eqb, List, ℕ, ◌<◌}
 use Rattle.std.specs.Prelude.{All}
 use Rattle.std.proofs.lemmas.List.Filters.{dedup_is}
 use Rattle.planner_cli.proofs.NumbersLemmas.{sorted_numbers, sorted_below}
