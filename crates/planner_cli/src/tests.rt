@@ -90,7 +90,16 @@ fn ranks_are_reported(rt: HostRuntime) -> Result<(), Fail> {
 fn later_forms_are_not_yet_answered(rt: HostRuntime) -> Result<(), Fail> {
     let words = WORDS.as_slice();
     let not_yet = "not yet\n";
-    check(&rt, words, "{} {}", "", 0, 0, Status::NotYet, not_yet)?;
+    check(
+        &rt,
+        words,
+        "{\"tool\":{}}",
+        "",
+        0,
+        0,
+        Status::NotYet,
+        not_yet,
+    )?;
     check(
         &rt,
         words,
