@@ -1,0 +1,21 @@
+//! The typed game: what the prototypes of a dump mean to the planner, and the set-up of one row of a table.
+//!
+//! Energies are in joules, powers in watts, times in seconds, pollution in units per minute, temperatures in degrees.
+//! Ids are places in the lists of the game that holds them; a category is its number among the names of the categories.
+#![tactic(auto)]
+
+mod effects;
+mod games;
+mod goods;
+mod machinery;
+mod recipes;
+mod research;
+mod setups;
+
+pub use effects::{Allowed, BeaconSum, Bonus, EffectKind, Effects, Wide};
+pub use games::Game;
+pub use goods::{Fluid, Fuel, Item, Module};
+pub use machinery::{Energy, Machine, MachineKind};
+pub use recipes::{Part, Product, Recipe, Source};
+pub use research::{Character, Tech};
+pub use setups::{Activity, BeaconGroup, Setup};
