@@ -1,5 +1,5 @@
 -- Places of names in a list of strings.
-use Rattle.std.proofs.Common.{◌≡◌, ℕ, ◌+◌, ◌∙◌, sym, Bool, true, false, cond, List, [], ◌∷◌, ◌++◌, None, Some, String, length, map, not, string_bytes, refl, ap, arith}
+use Rattle.std.proofs.Common.{◌≡◌, ℕ, ◌+◌, ◌∙◌, sym, Bool, true, false, cond, List, [], ◌∷◌, ◌++◌, None, Some, String, length, ◌<◌, map, not, string_bytes, refl, ap, arith}
 use Rattle.std.specs.List.{prefix_len, position, position_or_len, list_any, IsDistinct, AllByRecursion}
 use Rattle.std.specs.Str.{bytes_eq}
 use Rattle.std.specs.String.{string_eq}
@@ -8,7 +8,12 @@ use Rattle.std.proofs.lemmas.Grind.{common_steps}
 use Rattle.std.proofs.lemmas.List.{map-append}
 use Rattle.std.proofs.lemmas.List.Folds.{prefix_len-append}
 use Rattle.std.proofs.lemmas.List.Sums.{prefix_len-le-length}
-use Rattle.std.proofs.lemmas.Map.Keys.{IsDistinct-head, IsDistinct-tail, IsDistinct-cons}
+use Rattle.std.proofs.lemmas.List.Quantifiers.{position-Some}
+use Rattle.std.proofs.lemmas.List.Sums.{position_or_len_is}
+use Rattle.std.proofs.lemmas.Slice.Eq.{bytes_eq-Decides}
+use Rattle.std.proofs.lemmas.Option.{slice_get-get_or, slice_get_within, get_or_from_slice_get}
+use Rattle.std.specs.Prelude.{slice_get, get_or}
+use Rattle.std.proofs.lemmas.Map.Keys.{apart_from_distinct, IsDistinct-head, IsDistinct-tail, IsDistinct-cons}
 use Rattle.name_table.specs.Names.{place_of, AreDifferent}
 
 -- how many pass from the front on, of what f gives
@@ -69,3 +74,27 @@ append-names keys new key none is =
 pub bytes_eq-same : (bytes : List ℕ) → bytes_eq bytes bytes ≡ true
 bytes_eq-same [] = refl
 bytes_eq-same (byte ∷ bytes) = grind (arith, common_steps, bytes_eq-same bytes)
+
+-- what stands at the place of a name is that name
+pub named_at : (names : List (List ℕ)) (name : List ℕ) (k : ℕ) → place_of names name ≡ Some k → slice_get names k ≡ Some name
+named_at names name k found =
+    let at = position-Some (bytes_eq name) names k [] found in
+    let same : name ≡ get_or names k [] = (bytes_eq-Decides name (get_or names k [])).0 at.1 in
+    slice_get-get_or names k [] at.0 ∙ ap Some (sym same)
+
+differs_back : (a b : List ℕ) → bytes_eq a b ≡ false → bytes_eq b a ≡ false
+differs_back a b differ = by_test (bytes_eq b a) refl
+  where
+    by_test : (t : Bool) → bytes_eq b a ≡ t → bytes_eq b a ≡ false
+    by_test false is = is
+    by_test true is = let same : b ≡ a = (bytes_eq-Decides b a).0 is in is ∙ sym (bytes_eq-same a) ∙ sym (ap (bytes_eq a) same) ∙ differ
+
+-- among different names, the place of what stands at a place is that place
+pub placed_at : (names : List (List ℕ)) (name : List ℕ) (k : ℕ) → AreDifferent names → slice_get names k ≡ Some name → place_of names name ≡ Some k
+placed_at names name k different at =
+    let within : k < length names = slice_get_within names k name at in
+    let same : get_or names k [] ≡ name = get_or_from_slice_get names k name [] at in
+    let is : position_or_len (bytes_eq name) names ≡ k = position_or_len_is (bytes_eq name) names k [] (omega (arith, within))
+    (λ i before. ap (λ n. bytes_eq n (get_or names i [])) (sym same) ∙ differs_back (get_or names i []) (get_or names k []) (apart_from_distinct bytes_eq names i k [] different before within))
+    (λ _. ap (bytes_eq name) same ∙ bytes_eq-same name) in
+    grind (arith, common_steps, is, within)

@@ -107,6 +107,7 @@ impl Names {
     pub fn find(&self, name: &str) -> Option<u32>
         ensures place { result ≡ place_of self.now name.now }
         ensures within { IfSome result (λ id. id < length self.now) }
+        ensures named { IfSome result (λ id. slice_get self.now id ≡ Some name.now) }
     {
         match place_in(&self.set, name) {
             Some(place) => Some(place as u32),
@@ -117,8 +118,11 @@ impl Names {
     /// The name of a number.
     pub fn name_of(&self, id: u32) -> &str
         requires { id < length self.now }
-        ensures { slice_get self.now id ≡ Some result.now }
+        ensures name { slice_get self.now id ≡ Some result.now }
+        // No other name is the same.
+        ensures place { place_of self.now result.now ≡ Some id }
     {
+        prove!(id < self.len());
         self.set[id as usize].as_str()
     }
 
