@@ -1,3 +1,4 @@
 pub mod Nodes
 pub mod Sound
 pub mod Making
+pub mod Fitting

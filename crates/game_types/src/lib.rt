@@ -4,16 +4,21 @@
 //! Ids are places in the lists of the game that holds them; a category is its number among the names of the categories.
 #![tactic(auto)]
 
+mod copies;
 mod effects;
+mod fitting;
 mod games;
 mod goods;
 mod machinery;
 mod recipes;
 mod research;
 mod setups;
+#[cfg(test)]
+mod tests;
 
 pub use effects::{Allowed, BeaconSum, Bonus, EffectKind, Effects, Wide};
-pub use games::Game;
+pub use fitting::{FitFault, fits};
+pub use games::{Game, NODE_LIMIT};
 pub use goods::{Fluid, Fuel, Item, Module};
 pub use machinery::{Energy, Machine, MachineKind};
 pub use recipes::{Part, Product, Recipe, Source};
