@@ -1,5 +1,5 @@
 -- The numbers of an accepted text's tree are numerals, its strings and keys UTF-8, and the keys of each object differ.
-use Rattle.std.proofs.Common.{◌≡◌, ℕ, suc, ◌+◌, length, sym, subst, true, false, Bool}
+use Rattle.std.proofs.Common.{ℕ, suc, ◌+◌, length, sym, subst, true, false, Bool}
 use Rattle.std.specs.Prelude.{if◌then◌else◌}
 use Rattle.json_text.specs.Text.{string_value}
 use Rattle.json_text.specs.Json.{Json, Elements, Members, IsJson, AreElements, AreMembers, text}
