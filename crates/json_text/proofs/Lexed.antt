@@ -1,5 +1,5 @@
 -- Strings, numerals and words from a place to another.
-use Rattle.std.proofs.Common.{◌≡◌, ℕ, zero, suc, ◌+◌, ◌-◌, ◌<◌, ◌≤◌, List, [], ◌∷◌, ◌++◌, length, get_or, drop, take, refl, ap, sym, subst, ◌∙◌, add-one, arith, Bool, true, false, inl, inr, append_assoc, append-nil, Some, None, Result, Ok, Err}
+use Rattle.std.proofs.Common.{◌≡◌, ℕ, zero, suc, ◌+◌, ◌-◌, ◌<◌, ◌≤◌, List, [], ◌∷◌, ◌++◌, length, get_or, drop, take, refl, ap, sym, subst, ◌∙◌, add-one, arith, Bool, true, false, inl, inr, append_assoc, append-nil, Some, None, Result, Ok, Err, lit≤}
 use Rattle.std.specs.Prelude.{IfOk, IfErr, slice_range, ◌⊎◌, ◌≢◌, ◌==◌, ◌&&◌, if◌then◌else◌, nat_lt, nat_le}
 use Rattle.std.specs.List.{list_all}
 use Rattle.std.proofs.Math.Seq.{drop-cons}
@@ -10,6 +10,7 @@ use Rattle.std.proofs.lemmas.Bool.{and_parts, and_from}
 use Rattle.json_text.specs.Kept.{Kept, Wishes}
 use Rattle.json_text.specs.Kept as k
 use Rattle.json_text.specs.Accepted.{all_bounds}
+use Rattle.json_text.specs.Lending.{is_unmarked, IsUnmarked, HasEscape}
 use Rattle.json_text.specs.Lexing.{between, ranged, is_plain, lex_next, lex_emits, lex_after, lex_end, lexed, LexRuns, went, number_next, is_whole}
 use Rattle.json_text.specs.Machine as m
 use Rattle.json_text.specs.Machine.{State, Frame, Purpose, Go, to, Outcome, fault, limited, from, run, go_on, class, in_string, in_number, in_word, word_on, finish, if_kept, string_go, string_end, answer_of, number_answer, refused}
@@ -289,15 +290,83 @@ push_at bytes at i lex next le lt runs e g =
     let more = slice-more bytes at i le lt in
     record { runs = subst (LexRuns Between) (sym more) p.runs; end = ap (lex_end Between) more ∙ p.end; value = ap (lexed Between) more ∙ p.value }
 
-pub push_shown : (bytes : List ℕ) (at i : ℕ) (lex next : Lex) → at ≤ i → i < length bytes → PushedAt bytes at i lex next → lex_next lex (get_or bytes i 0) ≡ Goes next → (i ≡ at) ⊎ (lex ≡ Between → ⊥) → (get_or bytes at 0 ≡ 92 → ⊥)
-    → (is_shown lex ≡ true) × (lexed Between (slice_range bytes at i) ≡ slice_range bytes at i) → (is_shown next ≡ true) × (lexed Between (slice_range bytes at (i + 1)) ≡ slice_range bytes at (i + 1))
-push_shown bytes at i lex next le lt p g first ne h =
+-- bytes without a mark
+pub unmarked_append : (xs ys : List ℕ) → IsUnmarked xs → IsUnmarked ys → IsUnmarked (xs ++ ys)
+unmarked_append [] ys h u = u
+unmarked_append (b ∷ xs) ys h u = let parts = and_parts (is_unmarked b) (list_all is_unmarked xs) h in and_from (is_unmarked b) (list_all is_unmarked (xs ++ ys)) parts.0 (unmarked_append xs ys parts.1 u)
+
+pub plain_unmarked : (xs : List ℕ) → list_all is_plain xs ≡ true → IsUnmarked xs
+plain_unmarked [] h = refl
+plain_unmarked (b ∷ xs) h = let parts = and_parts (is_plain b) (list_all is_plain xs) h in and_from (is_unmarked b) (list_all is_unmarked xs) (one b parts.0) (plain_unmarked xs parts.1)
+  where
+    one : (b : ℕ) → is_plain b ≡ true → is_unmarked b ≡ true
+    one b h = grind (arith, nat_tests)
+
+pub unmarked_join : (bytes : List ℕ) (a b c : ℕ) → a ≤ b → b ≤ c → c ≤ length bytes → IsUnmarked (slice_range bytes a b) → IsUnmarked (slice_range bytes b c) → IsUnmarked (slice_range bytes a c)
+unmarked_join bytes a b c ab bc within u v = subst IsUnmarked (slice_join bytes a b c ab bc within) (unmarked_append (slice_range bytes a b) (slice_range bytes b c) u v)
+
+range_unmarked : (low high : ℕ) (later goes : Lex) (b : ℕ) → 128 ≤ low → ranged low high later b ≡ Goes goes → is_unmarked b ≡ true
+range_unmarked low high later goes b le h = split (nat_le low b && nat_le b high) (Goes later) (Bad NotUtf8) (Goes goes) h (λ e g. above low high b le e) (λ e g. absurd (cc))
+  where
+    above : (low high b : ℕ) → 128 ≤ low → (nat_le low b && nat_le b high) ≡ true → is_unmarked b ≡ true
+    above low high b le e = let parts = and_parts (nat_le low b) (nat_le b high) e in far low b le parts.0
+      where
+        far : (low b : ℕ) → 128 ≤ low → nat_le low b ≡ true → is_unmarked b ≡ true
+        far low b le e = grind (arith, nat_tests)
+
+-- in such a state a byte is no mark, but for a backslash at the beginning
+pub shown_unmarked : (lex goes : Lex) (b : ℕ) → is_shown lex ≡ true → (lex ≡ Between → b ≢ 92) → lex_next lex b ≡ Goes goes → is_unmarked b ≡ true
+shown_unmarked Between goes b s n h = split (b == 34) Ends (between_a b) (Goes goes) h (λ e g. absurd (cc)) (λ e g. unmarked b e (n refl))
+  where
+    unmarked : (b : ℕ) → (b == 34) ≡ false → b ≢ 92 → is_unmarked b ≡ true
+    unmarked b e n = grind (arith, nat_tests)
+shown_unmarked Tail1 goes b s n h = range_unmarked 128 191 Between goes b (lit≤ tt) h
+shown_unmarked Tail2 goes b s n h = range_unmarked 128 191 Tail1 goes b (lit≤ tt) h
+shown_unmarked Tail3 goes b s n h = range_unmarked 128 191 Tail2 goes b (lit≤ tt) h
+shown_unmarked BehindE0 goes b s n h = range_unmarked 160 191 Tail1 goes b (lit≤ tt) h
+shown_unmarked BehindEd goes b s n h = range_unmarked 128 159 Tail1 goes b (lit≤ tt) h
+shown_unmarked BehindF0 goes b s n h = range_unmarked 144 191 Tail2 goes b (lit≤ tt) h
+shown_unmarked BehindF4 goes b s n h = range_unmarked 128 143 Tail2 goes b (lit≤ tt) h
+shown_unmarked Escape goes b s n h = absurd (cc)
+shown_unmarked Hex0 goes b s n h = absurd (cc)
+shown_unmarked (Hex1 v) goes b s n h = absurd (cc)
+shown_unmarked (Hex2 v) goes b s n h = absurd (cc)
+shown_unmarked (Hex3 v) goes b s n h = absurd (cc)
+shown_unmarked (Backslash high) goes b s n h = absurd (cc)
+shown_unmarked (LetterU high) goes b s n h = absurd (cc)
+shown_unmarked (Low0 high) goes b s n h = absurd (cc)
+shown_unmarked (Low1 high) goes b s n h = absurd (cc)
+shown_unmarked (Low2 high v) goes b s n h = absurd (cc)
+shown_unmarked (Low3 high v) goes b s n h = absurd (cc)
+
+pub push_unmarked : (bytes : List ℕ) (at i : ℕ) (lex next : Lex) → at ≤ i → i < length bytes → lex_next lex (get_or bytes i 0) ≡ Goes next → (i ≡ at) ⊎ (lex ≡ Between → ⊥) → (get_or bytes at 0 ≡ 92 → ⊥)
+    → (is_shown lex ≡ true) × IsUnmarked (slice_range bytes at i) → (is_shown next ≡ true) × IsUnmarked (slice_range bytes at (i + 1))
+push_unmarked bytes at i lex next le lt g first ne h =
     let s = shown_step lex next (get_or bytes i 0) h.0 (no_back first) g in
-    (s.1, p.value ∙ ap (λ x. x ++ lex_emits lex (get_or bytes i 0)) h.1 ∙ ap (λ x. slice_range bytes at i ++ x) s.0 ∙ sym (slice-more bytes at i le lt))
+    let u = shown_unmarked lex next (get_or bytes i 0) h.0 (no_back first) g in
+    (s.1, subst IsUnmarked (sym (slice-more bytes at i le lt)) (unmarked_append (slice_range bytes at i) (get_or bytes i 0 ∷ []) h.1 (and_from (is_unmarked (get_or bytes i 0)) true u refl)))
   where
     no_back : (i ≡ at) ⊎ (lex ≡ Between → ⊥) → lex ≡ Between → get_or bytes i 0 ≡ 92 → ⊥
     no_back (inl e) b x = ne (ap (λ j. get_or bytes j 0) (sym e) ∙ x)
     no_back (inr n) b x = n b
+
+-- without a mark a string stands for itself
+pub shown_lexed : (lex : Lex) (s : List ℕ) → is_shown lex ≡ true → LexRuns lex s → IsUnmarked s → lexed lex s ≡ s
+shown_lexed lex [] h runs u = refl
+shown_lexed lex (b ∷ s) h runs u =
+    let parts = and_parts (is_unmarked b) (list_all is_unmarked s) u in
+    let one = shown_step lex (lex_after lex b) b h (λ e. no_backslash b parts.0) runs.0 in
+    ap (λ x. x ++ lexed (lex_after lex b) s) one.0 ∙ ap (λ x. b ∷ x) (shown_lexed (lex_after lex b) s one.1 runs.1 parts.1)
+  where
+    no_backslash : (b : ℕ) → is_unmarked b ≡ true → b ≢ 92
+    no_backslash b u = grind (arith, nat_tests)
+
+-- a backslash behind what has no mark, and one that stands further on
+pub escape_here : (bytes : List ℕ) (at i end : ℕ) → at ≤ i → i < end → IsUnmarked (slice_range bytes at i) → get_or bytes i 0 ≡ 92 → HasEscape bytes at end
+escape_here bytes at i end le lt u e = (i, le, lt, u, e)
+
+pub escape_later : (bytes : List ℕ) (at i end : ℕ) → i ≤ end → HasEscape bytes at i → HasEscape bytes at end
+escape_later bytes at i end le h = (h.0, h.1, (let lt : h.0 < i = h.2 in omega arith), h.3, h.4)
 
 pub no_end : (bytes : List ℕ) (at i : ℕ) (lex : Lex) → (get_or bytes at 0 ≡ 34 → ⊥) → (i ≡ at) ⊎ (lex ≡ Between → ⊥) → lex_next lex (get_or bytes i 0) ≡ Ends → ⊥
 no_end bytes at i lex n (inl e) h = n (ap (λ j. get_or bytes j 0) (sym e) ∙ (ends_between lex (get_or bytes i 0) h).1)

@@ -21,6 +21,7 @@ pub enum Phase {
 }
 
 /// The phase behind one byte more; none where no numeral goes on so.
+#[inline(always)]
 pub fn number_next(phase: Phase, byte: u8) -> Option<Phase>
     ensures { result ≡ next_phase phase byte }
 {
@@ -63,6 +64,7 @@ pub fn number_next(phase: Phase, byte: u8) -> Option<Phase>
 }
 
 /// Whether a numeral may end there.
+#[inline(always)]
 pub fn is_whole(phase: Phase) -> bool
     ensures { result ≡ phase_is_whole phase }
 {

@@ -1,8 +1,9 @@
-ghost use Rattle.std.specs.Prelude.{◌≡◌, ◌++◌, ◌≤◌, length, slice_range, IfOk, IfErr, true, false};
+ghost use Rattle.std.specs.Prelude.{◌≡◌, ◌++◌, ◌+◌, ◌<◌, length, slice_index, slice_range, IfOk, IfErr, true, false};
 ghost use Rattle.std.specs.Char.{IsScalar};
 ghost use Rattle.std.specs.Str.{IsUtf8, is_utf8};
 ghost use Rattle.json_text.specs.Text.{short_value as short_letter};
 ghost use Rattle.json_text.specs.Lexing.{LexRuns, lex_end, lex_emits, lexed, is_hex, is_high, more};
+ghost use Rattle.json_text.specs.Lending.{IsUnmarked, HasEscape, IsStringAt};
 ghost use Rattle.json_text.specs.Emitting.{emitted_bytes, CanEmit, IsHighHalf, IsLowHalf};
 ghost use Rattle.json_text.specs.SpanSeen.{text_seen};
 ghost use Rattle.json_text.specs.declared.fault.JsonCode.TheVariants.{NoMemory};
@@ -197,26 +198,30 @@ pub fn unescaped(alloc: Global, bytes: &[u8]) -> Result<Text, JsonFault>
     }
 }
 
-/// The string between two places, lent where it has no escape.
+/// The string between the quotes at two places, lent where it has no escape.
 pub fn string_text<'a>(
     alloc: Global,
     bytes: &'a [u8],
-    at: usize,
+    start: usize,
     end: usize,
     plain: bool,
 ) -> Result<SpanText<'a>, JsonFault>
-    requires behind { at ≤ end }
-    requires within { end ≤ length bytes.now }
-    requires runs { LexRuns Between (slice_range bytes.now at end) }
-    requires whole { lex_end Between (slice_range bytes.now at end) ≡ Between }
-    requires plain { plain ≡ true → lexed Between (slice_range bytes.now at end) ≡ slice_range bytes.now at end }
-    ensures text { IfOk result (λ text. text_seen text ≡ lexed Between (slice_range bytes.now at end)) }
+    requires behind { start < end }
+    requires within { end < length bytes.now }
+    requires opens { slice_index bytes.now start ≡ 34 }
+    requires closes { slice_index bytes.now end ≡ 34 }
+    requires runs { LexRuns Between (slice_range bytes.now (start + 1) end) }
+    requires whole { lex_end Between (slice_range bytes.now (start + 1) end) ≡ Between }
+    requires plain { plain ≡ true → IsUnmarked (slice_range bytes.now (start + 1) end) }
+    requires escape { plain ≡ false → HasEscape bytes.now (start + 1) end }
+    ensures text { IfOk result (λ text. text_seen text ≡ lexed Between (slice_range bytes.now (start + 1) end)) }
+    ensures stands { IfOk result (λ text. IsStringAt bytes.now start end text) }
     ensures memory { IfErr result (λ f. f.code ≡ NoMemory) }
 {
     if plain {
-        return Ok(SpanText::Lent(&bytes[at..end]));
+        return Ok(SpanText::Lent(&bytes[start + 1..end]));
     }
-    match unescaped(alloc, &bytes[at..end]) {
+    match unescaped(alloc, &bytes[start + 1..end]) {
         Ok(text) => Ok(SpanText::Made(text)),
         Err(fault) => Err(fault),
     }

@@ -1,7 +1,7 @@
 use Rattle.std.proofs.Common.{◌≡◌, ◌∙◌, sym, arith, get_or, inr}
 use Rattle.json_text.specs.Lexing.{lex_next}
 use Rattle.json_text.specs.declared.lex.LexGo.TheVariants.{Goes}
-use Rattle.json_text.proofs.Lexed.{push_at, push_shown, no_end, from-bad, from-cut, said}
+use Rattle.json_text.proofs.Lexed.{push_at, push_unmarked, no_end, from-bad, from-cut, said}
 use Rattle.json_text.proofs.scan.char_end.Goals as goal
 
 pub returns-in-Between-clause-runs : goal.returns-in-Between-clause-runs
@@ -10,11 +10,10 @@ returns-in-Between-clause-runs c = (push_at c.args.bytes.now c.args.at c.bytes.i
 pub returns-in-Between-clause-whole : goal.returns-in-Between-clause-whole
 returns-in-Between-clause-whole c = (push_at c.args.bytes.now c.args.at c.bytes.i c.bytes.lex c.in-Goes.next (omega arith) (omega arith) c.bytes.invariant.runs c.bytes.invariant.end (sym c.lex_next.ensures ∙ c.in-Goes.is)).end ∙ c.in-Between.is
 
-pub returns-in-Between-clause-plain : goal.returns-in-Between-clause-plain
-returns-in-Between-clause-plain c = λ ne.
+pub returns-in-Between-clause-unmarked : goal.returns-in-Between-clause-unmarked
+returns-in-Between-clause-unmarked c = λ ne.
     let g : lex_next c.bytes.lex (get_or c.args.bytes.now c.bytes.i 0) ≡ Goes c.in-Goes.next = sym c.lex_next.ensures ∙ c.in-Goes.is in
-    let p = push_at c.args.bytes.now c.args.at c.bytes.i c.bytes.lex c.in-Goes.next (omega arith) (omega arith) c.bytes.invariant.runs c.bytes.invariant.end g in
-    (push_shown c.args.bytes.now c.args.at c.bytes.i c.bytes.lex c.in-Goes.next (omega arith) (omega arith) p g c.bytes.invariant.first ne (c.bytes.invariant.plain ne)).1
+    (push_unmarked c.args.bytes.now c.args.at c.bytes.i c.bytes.lex c.in-Goes.next (omega arith) (omega arith) g c.bytes.invariant.first ne (c.bytes.invariant.unmarked ne)).1
 
 pub bytes-preserved : goal.bytes-preserved
 bytes-preserved c =
@@ -26,7 +25,7 @@ bytes-preserved c =
       runs = p.runs;
       end = p.end;
       first = inr (λ e. c.in_default.not-Between e);
-      plain = λ ne. push_shown c.args.bytes.now c.args.at c.bytes.i c.bytes.lex c.in-Goes.next (omega arith) (omega arith) p g c.bytes.invariant.first ne (c.bytes.invariant.plain ne);
+      unmarked = λ ne. push_unmarked c.args.bytes.now c.args.at c.bytes.i c.bytes.lex c.in-Goes.next (omega arith) (omega arith) g c.bytes.invariant.first ne (c.bytes.invariant.unmarked ne);
     }
 
 pub unreachable-requires : goal.unreachable-requires

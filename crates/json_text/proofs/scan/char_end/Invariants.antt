@@ -1,6 +1,7 @@
 use Rattle.std.proofs.Common.{length, ◌-◌, ◌≡◌, ◌≤◌, true, get_or}
 use Rattle.std.specs.Prelude.{slice_range, ◌⊎◌}
-use Rattle.json_text.specs.Lexing.{LexRuns, lex_end, lexed}
+use Rattle.json_text.specs.Lending.{IsUnmarked}
+use Rattle.json_text.specs.Lexing.{LexRuns, lex_end}
 use Rattle.json_text.specs.declared.lex.Lex.TheVariants.{Between}
 use Rattle.json_text.proofs.Lexed.{is_shown}
 use Rattle.json_text.proofs.scan.char_end.Given as goal
@@ -12,7 +13,7 @@ invariant-bytes l = record {
   runs : LexRuns Between (slice_range l.bytes l.at l.i);
   end : lex_end Between (slice_range l.bytes l.at l.i) ≡ l.lex;
   first : (l.i ≡ l.at) ⊎ (l.lex ≡ Between → ⊥);
-  plain : (get_or l.bytes l.at 0 ≡ 92 → ⊥) → (is_shown l.lex ≡ true) × (lexed Between (slice_range l.bytes l.at l.i) ≡ slice_range l.bytes l.at l.i);
+  unmarked : (get_or l.bytes l.at 0 ≡ 92 → ⊥) → (is_shown l.lex ≡ true) × IsUnmarked (slice_range l.bytes l.at l.i);
 }
 
 abbrev pub decreases-bytes : goal.decreases-bytes

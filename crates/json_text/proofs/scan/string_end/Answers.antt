@@ -1,8 +1,10 @@
-use Rattle.std.proofs.Common.{◌≡◌, ◌∙◌, ap, arith, ◌++◌}
+use Rattle.std.proofs.Common.{◌≡◌, ◌∙◌, ℕ, Bool, true, false, refl, sym, get_or, arith}
+use Rattle.std.specs.Prelude.{◌&&◌, ◌==◌, not}
+use Rattle.std.proofs.lemmas.Bool.Decides.{nat_tests}
 use Rattle.std.specs.Prelude.{slice_range}
 use Rattle.json_text.specs.Lexing.{lexed}
 use Rattle.json_text.specs.declared.lex.Lex.TheVariants.{Between}
-use Rattle.json_text.proofs.Lexed.{plain_runs, join, slice_join, from-cut, from-quote, from-later, said}
+use Rattle.json_text.proofs.Lexed.{plain_runs, plain_unmarked, unmarked_join, escape_here, escape_later, join, from-cut, from-quote, from-later, said}
 use Rattle.json_text.proofs.scan.string_end.Goals as goal
 
 pub returns-then-place-bytes-clause-fault : goal.returns-then-place-bytes-clause-fault
@@ -22,11 +24,10 @@ returns-then-byte-eq34-clause-whole c =
     (join c.args.bytes.now c.args.at c.chars.i c.plain_end-place.result (omega arith) (omega arith) (omega arith) c.chars.invariant.runs c.chars.invariant.whole p.runs p.end_is).whole
 
 pub returns-then-byte-eq34-clause-plain : goal.returns-then-byte-eq34-clause-plain
-returns-then-byte-eq34-clause-plain c = λ e.
-    let bytes = c.args.bytes.now in
-    let p = plain_runs (slice_range bytes c.chars.i c.plain_end-place.result) c.plain_end-place.ensures.plain in
-    let j = join bytes c.args.at c.chars.i c.plain_end-place.result (omega arith) (omega arith) (omega arith) c.chars.invariant.runs c.chars.invariant.whole p.runs p.end_is in
-    j.value ∙ ap (λ x. x ++ lexed Between (slice_range bytes c.chars.i c.plain_end-place.result)) (c.chars.invariant.shown e) ∙ ap (λ x. slice_range bytes c.args.at c.chars.i ++ x) p.value_is ∙ slice_join bytes c.args.at c.chars.i c.plain_end-place.result (omega arith) (omega arith) (omega arith)
+returns-then-byte-eq34-clause-plain c = λ e. unmarked_join c.args.bytes.now c.args.at c.chars.i c.plain_end-place.result (omega arith) (omega arith) (omega arith) (c.chars.invariant.shown e) (plain_unmarked (slice_range c.args.bytes.now c.chars.i c.plain_end-place.result) c.plain_end-place.ensures.plain)
+
+pub returns-then-byte-eq34-clause-escape : goal.returns-then-byte-eq34-clause-escape
+returns-then-byte-eq34-clause-escape c = λ e. escape_later c.args.bytes.now c.args.at c.chars.i c.plain_end-place.result (omega arith) (c.chars.invariant.marked e)
 
 pub returns-then-byte-eq34-clause-text : goal.returns-then-byte-eq34-clause-text
 returns-then-byte-eq34-clause-text c = λ w q n fs.
@@ -40,12 +41,27 @@ returns-in-Err-clause-fault c = λ w q n fs.
     let j = join c.args.bytes.now c.args.at c.chars.i c.plain_end-place.result (omega arith) (omega arith) (omega arith) c.chars.invariant.runs c.chars.invariant.whole p.runs p.end_is in
     from-later w c.args.bytes.now c.args.at c.plain_end-place.result q _ _ n fs (omega arith) (omega arith) j.runs j.whole (c.in-Err.ensures.fault w q (lexed Between (slice_range c.args.bytes.now c.args.at c.plain_end-place.result)) n fs)
 
+plain_left : (plain : Bool) (b : ℕ) → (plain && not (b == 92)) ≡ true → (plain ≡ true) × (b ≡ 92 → ⊥)
+plain_left true b h = (refl, other b h)
+  where
+    other : (b : ℕ) → not (b == 92) ≡ true → b ≡ 92 → ⊥
+    other b h e = grind (arith, nat_tests)
+plain_left false b h = absurd (cc)
+
+escaped : {P : Type 0} → (plain : Bool) (b : ℕ) → (plain && not (b == 92)) ≡ false → (plain ≡ false → P) → (plain ≡ true → b ≡ 92 → P) → P
+escaped true b h f g = g refl (back b h)
+  where
+    back : (b : ℕ) → not (b == 92) ≡ false → b ≡ 92
+    back b h = grind (arith, nat_tests)
+escaped false b h f g = f refl
+
 pub chars-preserved : goal.chars-preserved
 chars-preserved c =
     let bytes = c.args.bytes.now in
     let place = c.plain_end-place.result in
     let p = plain_runs (slice_range bytes c.chars.i place) c.plain_end-place.ensures.plain in
     let j = join bytes c.args.at c.chars.i place (omega arith) (omega arith) (omega arith) c.chars.invariant.runs c.chars.invariant.whole p.runs p.end_is in
+    let before = (λ (yes : c.chars.plain ≡ true). unmarked_join bytes c.args.at c.chars.i place (omega arith) (omega arith) (omega arith) (c.chars.invariant.shown yes) (plain_unmarked (slice_range bytes c.chars.i place) c.plain_end-place.ensures.plain)) in
     let k = join bytes c.args.at place c.in-Ok.end (omega arith) (omega (arith, c.in-Ok.ensures.within)) (omega (arith, c.in-Ok.ensures.within)) j.runs j.whole c.in-Ok.ensures.runs c.in-Ok.ensures.whole in
     record {
       behind = omega (arith, c.in-Ok.ensures.within);
@@ -53,8 +69,9 @@ chars-preserved c =
       runs = k.runs;
       whole = k.whole;
       shown = λ e.
-          let both = c.stays_plain-plain.ensures e in
-          let first : lexed Between (slice_range bytes c.args.at place) ≡ slice_range bytes c.args.at place =
-          j.value ∙ ap (λ x. x ++ lexed Between (slice_range bytes c.chars.i place)) (c.chars.invariant.shown both.0) ∙ ap (λ x. slice_range bytes c.args.at c.chars.i ++ x) p.value_is ∙ slice_join bytes c.args.at c.chars.i place (omega arith) (omega arith) (omega arith) in
-          k.value ∙ ap (λ x. x ++ lexed Between (slice_range bytes place c.in-Ok.end)) first ∙ ap (λ x. slice_range bytes c.args.at place ++ x) (c.in-Ok.ensures.plain both.1) ∙ slice_join bytes c.args.at place c.in-Ok.end (omega arith) (omega (arith, c.in-Ok.ensures.within)) (omega (arith, c.in-Ok.ensures.within));
+          let both = plain_left c.chars.plain (get_or bytes place 0) (sym c.stays_plain-plain.ensures ∙ e) in
+          unmarked_join bytes c.args.at place c.in-Ok.end (omega arith) (omega (arith, c.in-Ok.ensures.within)) (omega (arith, c.in-Ok.ensures.within)) (before both.0) (c.in-Ok.ensures.unmarked both.1);
+      marked = λ e. escaped c.chars.plain (get_or bytes place 0) (sym c.stays_plain-plain.ensures ∙ e)
+          (λ no. escape_later bytes c.args.at c.chars.i c.in-Ok.end (omega (arith, c.in-Ok.ensures.within)) (c.chars.invariant.marked no))
+          (λ yes back. escape_here bytes c.args.at place c.in-Ok.end (omega arith) (omega (arith, c.in-Ok.ensures.within)) (before yes) back);
     }

@@ -1,6 +1,7 @@
-use Rattle.std.proofs.Common.{length, ◌-◌, ◌≡◌, ◌≤◌, true}
+use Rattle.std.proofs.Common.{length, ◌-◌, ◌≡◌, ◌≤◌, true, false}
 use Rattle.std.specs.Prelude.{slice_range}
-use Rattle.json_text.specs.Lexing.{LexRuns, lex_end, lexed}
+use Rattle.json_text.specs.Lending.{IsUnmarked, HasEscape}
+use Rattle.json_text.specs.Lexing.{LexRuns, lex_end}
 use Rattle.json_text.specs.declared.lex.Lex.TheVariants.{Between}
 use Rattle.json_text.proofs.scan.string_end.Given as goal
 
@@ -10,7 +11,8 @@ invariant-chars l = record {
   within : l.i ≤ length l.bytes;
   runs : LexRuns Between (slice_range l.bytes l.at l.i);
   whole : lex_end Between (slice_range l.bytes l.at l.i) ≡ Between;
-  shown : l.plain ≡ true → lexed Between (slice_range l.bytes l.at l.i) ≡ slice_range l.bytes l.at l.i;
+  shown : l.plain ≡ true → IsUnmarked (slice_range l.bytes l.at l.i);
+  marked : l.plain ≡ false → HasEscape l.bytes l.at l.i;
 }
 
 abbrev pub decreases-chars : goal.decreases-chars
