@@ -1,0 +1,5 @@
+pub mod Edits
+pub mod Session
+pub mod Kept
+pub mod Answers
+pub mod Numbers
