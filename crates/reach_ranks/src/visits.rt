@@ -28,6 +28,7 @@ pub fn refresh<R: Rows<L>, L>(
     ensures key { let by_row = given (world (R.rows rows.now) barred.now granted.now extra) (2 ^ 32 - 1) ranks.now node.0 in
         heap.new ≡ slice_set heap.old node.0 (key_of (slice_index ranks.now node.0) by_row) }
     ensures step { steps.new ≤ steps.old + 1 }
+    ensures later { steps.old ≤ steps.new }
 {
     let by_row = given_rank(ranks, rows, barred, granted, extra, node, steps);
     let kept = ranks[node.0 as usize];
@@ -56,6 +57,7 @@ pub fn refresh_all<R: Rows<L>, L>(
     ensures keys { Refreshes (world (R.rows rows.now) barred.now granted.now extra) (2 ^ 32 - 1) ranks.now nodes.now heap.old heap.new }
     ensures small { (n : ℕ) → slice_index ranks.now n ≤ 2 ^ 32 - 1 }
     ensures steps { steps.new ≤ steps.old + length nodes.now }
+    ensures later { steps.old ≤ steps.new }
 {
     for node in nodes {
         refresh(ranks, rows, barred, granted, extra, heap, *node, steps);
@@ -87,6 +89,7 @@ fn visit_least<R: Rows<L>, L>(
         steps.new + work_left w ranks.new ≤ steps.old + work_left w ranks.old }
     ensures nearer { let w = world (R.rows rows.now) barred.now granted.now extra in
         result ≡ true → work_left w ranks.new < work_left w ranks.old }
+    ensures later { steps.old ≤ steps.new }
 {
     let _count = rows.len();
     match heap.take_least() {
@@ -119,6 +122,7 @@ pub fn settle<R: Rows<L>, L>(
     ensures ranks { AreRanks (world (R.rows rows.now) barred.now granted.now extra) ranks.new }
     ensures heap { heap.new ≡ replicate (length (R.rows rows.now)) None }
     ensures steps { steps.new ≤ steps.old + work_left (world (R.rows rows.now) barred.now granted.now extra) ranks.old }
+    ensures later { steps.old ≤ steps.new }
 {
     'visits: while visit_least(ranks, rows, barred, granted, extra, heap, steps) {}
 }

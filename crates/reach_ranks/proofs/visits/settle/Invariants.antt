@@ -7,6 +7,7 @@ abbrev pub invariant-visits : goal.invariant-visits
 invariant-visits g l = record {
   keys : HoldsKeys (world (g.R.Rows.rows l.fn.rows) l.fn.barred l.fn.granted l.fn.extra) 4294967295 l.ranks l.heap;
   steps : l.steps + work_left (world (g.R.Rows.rows l.fn.rows) l.fn.barred l.fn.granted l.fn.extra) l.ranks ≤ l.initial.steps + work_left (world (g.R.Rows.rows l.fn.rows) l.fn.barred l.fn.granted l.fn.extra) l.initial.ranks;
+  later : l.initial.steps ≤ l.steps;
 }
 
 abbrev pub decreases-visits : goal.decreases-visits
