@@ -80,6 +80,7 @@ impl WorldRanks {
         ensures ranks { AreRanks (world (R.rows rows.now) barred.now granted.now extra) self.new }
         ensures heap { heap.new ≡ heap.old }
         ensures steps { steps.new ≤ steps.old + 6 * size_of (R.rows rows.now) changed.now self.old self.new }
+        ensures later { steps.old ≤ steps.new }
     {
         repair(
             &mut self.ranks,

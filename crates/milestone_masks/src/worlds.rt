@@ -159,6 +159,7 @@ impl Worlds {
         ensures err { OnErr result (self.new ≡ self.old) }
         ensures steps { (ranks : List ℕ) → AreRanks (world (R.rows rows.now) barred.now granted.now (Some node)) ranks
             → steps.new ≤ steps.old + 6 * size_of (R.rows rows.now) (node ∷ []) self.old.base ranks }
+        ensures later { steps.old ≤ steps.new }
     {
         add(
             &mut self.heap,
@@ -211,6 +212,7 @@ impl Worlds {
         ensures worlds { AreWorlds (R.rows rows.now) barred.now granted.now self.new }
         ensures milestones { milestones_of self.new ≡ milestones_of self.old }
         ensures steps { steps.new ≤ steps.old + 6 * size_of_all (R.rows rows.now) changed.now self.old self.new }
+        ensures later { steps.old ≤ steps.new }
     {
         let _count = rows.len();
         self.base.repair(rows, barred, granted, None, &mut self.heap, changed, steps);
@@ -245,6 +247,7 @@ impl Worlds {
         requires node { node.0 < length (R.rows rows.now) }
         ensures why { IfOk result (λ nodes. IsWhy (R.rows rows.now) granted.now self.now.base node.0 nodes.items) }
         ensures steps { IfOk result (λ nodes. steps.new ≤ steps.old + length nodes.items) }
+        ensures later { steps.old ≤ steps.new }
     {
         let nodes = why_of(alloc, &self.base, rows, granted, node, steps)?;
         Ok(nodes)
@@ -267,6 +270,7 @@ impl Worlds {
         requires ranks { length self.now.base ≡ length (R.rows rows.now) }
         ensures missing { IfOk result (λ groups. groups.items ≡ missing_in (ranked self.now.base) (slice_get (R.rows rows.now) node.0)) }
         ensures step { steps.new ≡ min (steps.old + 1) (2 ^ 64 - 1) }
+        ensures later { steps.old ≤ steps.new }
     {
         let _count = rows.len();
         let row = rows.row(node, steps);
@@ -320,6 +324,7 @@ fn add<R: Rows<L>, L>(
     ensures err { OnErr result (milestones.new.items ≡ milestones.old.items) }
     ensures steps { (ranks : List ℕ) → AreRanks (world (R.rows rows.now) barred.now granted.now (Some node)) ranks
         → steps.new ≤ steps.old + 6 * size_of (R.rows rows.now) (node ∷ []) base.now ranks }
+    ensures later { steps.old ≤ steps.new }
 {
     if place_of(milestones, node).is_some() {
         return Err(MilestoneFault::Already);
@@ -356,6 +361,7 @@ fn repair_each<R: Rows<L>, L>(
     ensures heap { heap.new ≡ heap.old }
     ensures steps { steps.new ≤ steps.old
         + 6 * sum_below (size_in_world (R.rows rows.now) changed.now milestones.old milestones.new) (length milestones.old) }
+    ensures later { steps.old ≤ steps.new }
 {
     for i in 0..milestones.len() {
         let m = &mut milestones[i];

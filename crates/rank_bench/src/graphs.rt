@@ -40,7 +40,7 @@ fn is_group_below(count: u32, group: &Group) -> bool
 }
 
 /// Whether each member of the row is one of the first nodes.
-fn is_row_below(count: u32, row: &Row) -> bool
+pub fn is_row_below(count: u32, row: &Row) -> bool
     ensures { result ≡ true → HasMembersBelow count row.now }
 {
     for group in row.groups.as_slice() {
@@ -64,7 +64,7 @@ pub fn are_rows_below(count: u32, rows: &[Row]) -> bool
 }
 
 /// A group of members among the first nodes.
-fn group(
+pub fn group(
     alloc: Global,
     numbers: &mut Numbers,
     all: bool,
@@ -117,4 +117,26 @@ pub fn rows(
         rows.push(row(alloc, numbers, node, count, size)?)?;
     }
     Ok(rows)
+}
+
+/// Rows of which each but the first and last needs the first, and the last needs any one of these.
+pub fn wide_rows(alloc: Global, count: u32) -> Result<Vec<Row>, AllocError> {
+    let mut rows = Vec::new(alloc);
+    let mut members = Vec::new(alloc);
+    rows.push(one_group(alloc, true, Vec::new(alloc))?)?;
+    for node in 1..count {
+        rows.push(one_group(alloc, true, vec![in alloc; NodeId(0)]?)?)?;
+        members.push(NodeId(node))?;
+    }
+    rows.push(one_group(alloc, false, members)?)?;
+    Ok(rows)
+}
+
+/// A row of one group.
+fn one_group(alloc: Global, all: bool, members: Vec<NodeId>) -> Result<Row, AllocError> {
+    let members = Items::from_vec(members);
+    let groups = vec![in alloc; Group { all, members }]?;
+    Ok(Row {
+        groups: Items::from_vec(groups),
+    })
 }

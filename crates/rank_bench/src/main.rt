@@ -1,18 +1,23 @@
 //! Makes a graph from a seed and counts the steps of ranks and repairs over it.
 //!
-//! Words: `graph|rounds|afresh COUNT SIZE`, or `repair|anew COUNT SIZE WORLDS PAIRS`.
+//! Words: `graph|rounds|afresh COUNT SIZE`, or `repair|anew COUNT SIZE WORLDS PAIRS`; or `wide COUNT 0 WORLDS PAIRS` for
+//! a graph whose last node needs any one of all others but the first, on which each of these stands.
 #![tactic(auto)]
 
 mod graphs;
+#[cfg(test)]
+mod random;
+#[cfg(test)]
+mod tests;
 mod worlds;
 
-use graph_store::{Graph, Rows};
-use graphs::{Numbers, are_rows_below, rows};
+use graph_store::{Graph, Row, Rows};
+use graphs::{Numbers, are_rows_below, rows, wide_rows};
 use plan_base::Steps;
 use reach_ranks::{ranks_afresh, ranks_by_rounds};
 use std::alloc::{AllocError, Global};
 use std::{env, io};
-use worlds::{Bench, steps_of_pairs};
+use worlds::{Bench, steps_of_bars, steps_of_pairs};
 
 /// How many nodes have a rank, and a number made of all ranks in turn.
 fn digest(ranks: &[u32]) -> (u32, u64) {
@@ -40,9 +45,8 @@ fn no_memory() -> io::Error {
     io::Error::from(AllocError)
 }
 
-/// The graph of a seed; none where it could not be made.
-fn graph_of(alloc: Global, numbers: &mut Numbers, count: u32, size: u32) -> Option<Graph> {
-    let rows = rows(alloc, numbers, count, size).ok()?;
+/// The graph of rows; none where it could not be made.
+fn graph_of(alloc: Global, rows: Vec<Row>) -> Option<Graph> {
     if rows.len() < 4_000_000_000 && are_rows_below(rows.len() as u32, &rows) {
         Graph::make(alloc, rows).ok()
     } else {
@@ -77,14 +81,26 @@ fn main(rt: HostRuntime) -> io::Result<()> {
     let count = number(&words, 2, 100);
     let size = number(&words, 3, 4);
     let mut numbers = Numbers::of_seed(7);
-    let Some(graph) = graph_of(alloc, &mut numbers, count, size) else {
+    let rows = if mode == "wide" {
+        wide_rows(alloc, count)?
+    } else {
+        rows(alloc, &mut numbers, count, size)?
+    };
+    let Some(graph) = graph_of(alloc, rows) else {
         return Err(no_memory());
     };
-    if mode == "rounds" || mode == "afresh" {
-        let Some((steps, reached, sum)) = ranks_of(alloc, &graph, mode == "afresh") else {
+    if mode == "rounds" || mode == "afresh" || mode == "wide" {
+        let Some((steps, reached, sum)) = ranks_of(alloc, &graph, mode != "rounds") else {
             return Err(no_memory());
         };
         println!(rt; "{mode}: {steps} steps, {reached} reached, digest {sum}")?;
+    }
+    if mode == "wide" {
+        let pairs = number(&words, 5, 4);
+        let Some(steps) = steps_of_bars(alloc, &graph, pairs) else {
+            return Err(no_memory());
+        };
+        println!(rt; "{mode}: {pairs} pairs, {steps} steps")?;
     }
     if mode == "repair" || mode == "anew" {
         let wanted = number(&words, 4, 4);

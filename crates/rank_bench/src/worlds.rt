@@ -15,7 +15,7 @@ use std::alloc::Global;
 pub struct Bench;
 
 /// Bars a node or permits it again, and repairs all worlds.
-fn toggle(
+pub fn toggle(
     worlds: &mut Worlds,
     graph: &Graph,
     barred: &mut [bool],
@@ -203,4 +203,37 @@ pub fn steps_of_pairs(
         pairs,
         repairs,
     )
+}
+
+/// The steps of barring the first node and permitting it again, in the base world.
+fn bars_over(
+    alloc: Global,
+    graph: &Graph,
+    barred: &mut [bool],
+    granted: &[bool],
+    pairs: u32,
+) -> Option<u64>
+    requires { IsWhole (world graph.now barred.old granted.now None) }
+{
+    let count = <Graph as Rows<Bench>>::len(graph);
+    let mut steps = Steps::new(Bench);
+    let base = ranks_afresh(alloc, graph, barred, granted, None, &mut steps).ok()?;
+    let mut worlds = Worlds::make(alloc, base).ok()?;
+    if count == 0 {
+        return None;
+    }
+    let mut taken = Steps::new(Bench);
+    for _ in 0..pairs {
+        toggle(&mut worlds, graph, barred, granted, NodeId(0), &mut taken);
+        toggle(&mut worlds, graph, barred, granted, NodeId(0), &mut taken);
+    }
+    Some(taken.taken())
+}
+
+/// The same over a graph without marks.
+pub fn steps_of_bars(alloc: Global, graph: &Graph, pairs: u32) -> Option<u64> {
+    let count = <Graph as Rows<Bench>>::len(graph);
+    let granted = vec![in alloc; false; count as usize].ok()?;
+    let mut barred = vec![in alloc; false; count as usize].ok()?;
+    bars_over(alloc, graph, &mut barred, &granted, pairs)
 }

@@ -30,6 +30,7 @@ fn repair_slice<R: Rows<L>, L>(
     ensures ranks { AreRanks (world (R.rows rows.now) barred.now granted.now extra) ranks.new }
     ensures heap { heap.new ≡ heap.old }
     ensures steps { steps.new ≤ steps.old + 6 * size_of (R.rows rows.now) changed.now ranks.old ranks.new }
+    ensures later { steps.old ≤ steps.new }
 {
     let _count = rows.len();
     refresh_all(ranks, rows, barred, granted, extra, heap, changed, steps);
@@ -56,6 +57,7 @@ pub fn repair<R: Rows<L>, L>(
     ensures ranks { AreRanks (world (R.rows rows.now) barred.now granted.now extra) ranks.new.of.items }
     ensures heap { heap.new ≡ heap.old }
     ensures steps { steps.new ≤ steps.old + 6 * size_of (R.rows rows.now) changed.now ranks.old.of.items ranks.new.of.items }
+    ensures later { steps.old ≤ steps.new }
 {
     repair_slice(
         &mut ranks.of,

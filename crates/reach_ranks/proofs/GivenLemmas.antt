@@ -1,14 +1,14 @@
 -- What the given rank says, and which ranks are right below the least key.
 use Rattle.std.proofs.Common.{◌≡◌, ℕ, zero, suc, ◌+◌, ◌<◌, ◌≤◌, Bool, true, false, List, Option, Some, None, length, slice_get, get_or, refl, sym, ◌∙◌, ap, subst, arith, inl, inr}
 use Rattle.std.proofs.Math.Path.{fun_ext}
-use Rattle.std.proofs.lemmas.Bool.{cases_lt, false≢true}
+use Rattle.std.proofs.lemmas.Bool.{cases_eq, cases_lt, false≢true}
 use Rattle.std.proofs.lemmas.Bool.Decides.{nat_tests}
 use Rattle.graph_store.specs.declared.Row.{Row}
 use Rattle.reach_ranks.specs.Rounds.{World, Nodes, has_groups, is_barred, is_granted, admits, round, IsWhole}
 use Rattle.reach_ranks.specs.Ranks.{rank, AreRanks, is_one_to, within, Agrees}
 use Rattle.reach_ranks.proofs.RoundLemmas.{round-suc, round-zero, round-past, admits-within}
 use Rattle.reach_ranks.proofs.RankLemmas.{one_to_none, one_to_zero, one_to_yes, one_to_tells, step_rank, step_rank-lower, step_rank-top, step_rank-le, one_to-rank, rank_to-le, within-more, within-past, agrees-admits, admits-barred, admits-granted, admits-by_row}
-use Rattle.reach_ranks.specs.Given.{one_above_least, given, lesser, key_of, HoldsKeys}
+use Rattle.reach_ranks.specs.Given.{one_above_least, given, lesser, key_of, is_by, HoldsBounds}
 use Rattle.index_heap.specs.Keys.{key_at}
 
 -- the first that passes
@@ -137,12 +137,35 @@ key_of-other a b ne = grind (arith, nat_tests)
 
 -- kept and given rank pass the same tests below the least key
 
-pub settled-key : (a b k j : ℕ) (o : Option ℕ) → o ≡ key_of a b → ((x : ℕ) → o ≡ Some x → k ≤ x) → j < k → is_one_to j a ≡ is_one_to j b
-settled-key a b k j None e least lt = ap (is_one_to j) (key_of-none a b (sym e))
-settled-key a b k j (Some x) e least lt =
-    let t = key_of-some a b x (sym e) in lesser-tells a b j k (omega (arith, t.1, least x refl)) lt
+pub is_by-refl : (a : Option ℕ) → is_by a a ≡ true
+is_by-refl None = refl
+is_by-refl (Some x) = grind (arith, nat_tests)
 
-pub settled-from_heap : (w : World) (limit : ℕ) (ranks : List ℕ) (heap : List (Option ℕ)) (k : ℕ) → HoldsKeys w limit ranks heap → ((n x : ℕ) → key_at heap n ≡ Some x → k ≤ x) → AreSettledBelow w limit ranks k
+pub is_by-trans : (a b c : Option ℕ) → is_by a b ≡ true → is_by b c ≡ true → is_by a c ≡ true
+is_by-trans a b None p q = refl
+is_by-trans (Some x) (Some y) (Some z) p q = grind (arith, nat_tests)
+is_by-trans (Some x) None (Some z) p q = absurd (false≢true q)
+is_by-trans None (Some y) (Some z) p q = absurd (false≢true p)
+is_by-trans None None (Some z) p q = absurd (false≢true q)
+
+pub is_by-none : (a : Option ℕ) → is_by None a ≡ true → a ≡ None
+is_by-none None h = refl
+is_by-none (Some x) h = absurd (false≢true h)
+
+pub is_by-some : (y k : ℕ) (o : Option ℕ) → is_by o (Some y) ≡ true → ((x : ℕ) → o ≡ Some x → k ≤ x) → k ≤ y
+is_by-some y k None h least = absurd (false≢true h)
+is_by-some y k (Some x) h least =
+    let le : k ≤ x = least x refl in
+    grind (arith, nat_tests)
+
+pub settled-key : (a b k j : ℕ) (o : Option ℕ) → is_by o (key_of a b) ≡ true → ((x : ℕ) → o ≡ Some x → k ≤ x) → j < k → is_one_to j a ≡ is_one_to j b
+settled-key a b k j o h least lt =
+    elim (cases_eq a b) [
+      | inl same ↦ ap (is_one_to j) same
+      | inr other ↦ lesser-tells a b j k (is_by-some (lesser a b) k o (subst (λ t. is_by o t ≡ true) (key_of-other a b other) h) least) lt
+    ]
+
+pub settled-from_heap : (w : World) (limit : ℕ) (ranks : List ℕ) (heap : List (Option ℕ)) (k : ℕ) → HoldsBounds w limit ranks heap → ((n x : ℕ) → key_at heap n ≡ Some x → k ≤ x) → AreSettledBelow w limit ranks k
 settled-from_heap w limit ranks heap k holds least = record {
   same = λ n j inside lt. settled-key (get_or ranks n 0) (given w limit ranks n) k j (key_at heap n) (holds.keys n inside) (least n) lt;
 }
@@ -152,7 +175,7 @@ none_some o x e f = cc
 
 -- with no key left the ranks are right
 
-pub ranks-from_none : (w : World) → IsWhole w → (limit : ℕ) (ranks : List ℕ) (heap : List (Option ℕ)) → length w.rows ≤ limit → HoldsKeys w limit ranks heap → ((n : ℕ) → key_at heap n ≡ None) → AreRanks w ranks
+pub ranks-from_none : (w : World) → IsWhole w → (limit : ℕ) (ranks : List ℕ) (heap : List (Option ℕ)) → length w.rows ≤ limit → HoldsBounds w limit ranks heap → ((n : ℕ) → key_at heap n ≡ None) → AreRanks w ranks
 unfolding rank
 ranks-from_none w whole limit ranks heap few holds none = record {
   as_long = holds.ranks_long;

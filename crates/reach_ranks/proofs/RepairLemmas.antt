@@ -15,7 +15,7 @@ use Rattle.index_heap.specs.Keys.{key_at, IsLeastAt}
 use Rattle.reach_ranks.specs.Rounds.{World, Nodes, is_satisfied, has_groups, is_barred, is_granted, admits, IsWhole}
 use Rattle.reach_ranks.specs.Ranks.{rank, is_one_to, within, Agrees}
 use Rattle.reach_ranks.proofs.RankLemmas.{one_to_yes, one_to-rank}
-use Rattle.reach_ranks.specs.Given.{one_above_least, given, lesser, key_of, HoldsKeys, Refreshes, next_kept, visits_left, sum_below, work_left}
+use Rattle.reach_ranks.specs.Given.{one_above_least, given, lesser, key_of, HoldsBounds, HoldsKeys, Refreshes, next_kept, visits_left, sum_below, work_left}
 use Rattle.reach_ranks.proofs.GivenLemmas.{none_some, key_of-some, key_of-same, given-from_agrees, given-settled, given-le, settled-from_heap, within-settled}
 
 -- a node whose row does not have the changed one as a member is given the same rank
@@ -90,12 +90,12 @@ lesser-le a g k limit e p q = grind (arith, nat_tests)
 pub right-from : (k r : ℕ) → is_one_to (suc k) r ≡ true → is_one_to k r ≡ false → r ≡ suc k
 right-from k r p q = grind (arith, nat_tests)
 
-pub visits-taken : (w : World) → IsWhole w → (limit : ℕ) (ranks : List ℕ) (heap : List (Option ℕ)) (u k : ℕ) → HoldsKeys w limit ranks heap → u < length w.rows → key_at heap u ≡ Some k → ((n x : ℕ) → key_at heap n ≡ Some x → k ≤ x) → visits_left (next_kept (get_or ranks u 0) k) (rank w u) + 1 ≤ visits_left (get_or ranks u 0) (rank w u)
+pub visits-taken : (w : World) → IsWhole w → (limit : ℕ) (ranks : List ℕ) (heap : List (Option ℕ)) (u k : ℕ) → HoldsBounds w limit ranks heap → u < length w.rows → key_of (get_or ranks u 0) (given w limit ranks u) ≡ Some k → ((n x : ℕ) → key_at heap n ≡ Some x → k ≤ x) → visits_left (next_kept (get_or ranks u 0) k) (rank w u) + 1 ≤ visits_left (get_or ranks u 0) (rank w u)
 visits-taken w whole limit ranks heap u zero holds inside here least =
-    let t = key_of-some (get_or ranks u 0) (given w limit ranks u) zero (sym (holds.keys u inside) ∙ here) in
+    let t = key_of-some (get_or ranks u 0) (given w limit ranks u) zero here in
     absurd (omega (arith, lesser-of (get_or ranks u 0) (given w limit ranks u) zero t.0 t.1))
 visits-taken w whole limit ranks heap u (suc k) holds inside here least =
-    let t = key_of-some (get_or ranks u 0) (given w limit ranks u) (suc k) (sym (holds.keys u inside) ∙ here) in
+    let t = key_of-some (get_or ranks u 0) (given w limit ranks u) (suc k) here in
     let le : suc k ≤ limit = lesser-le (get_or ranks u 0) (given w limit ranks u) (suc k) limit t.1 (holds.small u inside) (given-le w limit ranks u) in
     let s = settled-from_heap w limit ranks heap (suc k) holds least in
     let right = given-settled w whole limit ranks holds.ranks_long k s u (omega arith) in
@@ -141,7 +141,7 @@ sum_below-drop f h u c (suc m) lt same less =
 pub scaled : (a b c : ℕ) → a + 1 ≤ b → a * c + c ≤ b * c
 scaled a b c le = grind arith
 
-pub work_left-taken : (w : World) → IsWhole w → (limit : ℕ) (ranks : List ℕ) (heap : List (Option ℕ)) (u k : ℕ) → HoldsKeys w limit ranks heap → u < length w.rows → key_at heap u ≡ Some k → ((n x : ℕ) → key_at heap n ≡ Some x → k ≤ x) → work_left w (set ranks u (next_kept (get_or ranks u 0) k)) + (2 + user_count w.rows u) ≤ work_left w ranks
+pub work_left-taken : (w : World) → IsWhole w → (limit : ℕ) (ranks : List ℕ) (heap : List (Option ℕ)) (u k : ℕ) → HoldsBounds w limit ranks heap → u < length w.rows → key_of (get_or ranks u 0) (given w limit ranks u) ≡ Some k → ((n x : ℕ) → key_at heap n ≡ Some x → k ≤ x) → work_left w (set ranks u (next_kept (get_or ranks u 0) k)) + (2 + user_count w.rows u) ≤ work_left w ranks
 unfolding work_left
 work_left-taken w whole limit ranks heap u k holds inside here least =
     sum_below-drop
@@ -192,7 +192,7 @@ refresh-more w limit ranks nodes i d old heap new lt long r e =
           ap (λ (xs : List (Option ℕ)). get_or xs n None) e ∙ (get_or-set_other heap u n k None other ∙ r.others n parts.0);
     }
 
--- the nodes hold their keys again once the node that was taken out and its users have theirs
+-- a node that is not among the users
 
 pub count_by-none : {X : Type 0} (p : X → Bool) (xs : List X) → list_any p xs ≡ false → count_by p xs ≡ 0
 count_by-none p [] h = refl
@@ -207,33 +207,6 @@ bit-false false h = refl
 pub not_user : (rows : List Row) (u : ℕ) (users : List NodeId) (n : ℕ) → AreUsers rows u users → has_node users n ≡ false → is_user (slice_get rows n) u ≡ false
 not_user rows u users n are h =
     bit-false (is_user (slice_get rows n) u) (sym (are.once n) ∙ count_by-none (λ v. eqb v.0 n) users h)
-
-pub holds-visited : (w : World) (limit : ℕ) (ranks : List ℕ) (heap : List (Option ℕ)) (u x : ℕ) (users : List NodeId) (new : List (Option ℕ)) → HoldsKeys w limit ranks heap → u < length w.rows → x ≤ limit → AreUsers w.rows u users → Refreshes w limit (set ranks u x) users (set (set heap u None) u (key_of (get_or (set ranks u x) u 0) (given w limit (set ranks u x) u))) new → HoldsKeys w limit (set ranks u x) new
-holds-visited w limit ranks heap u x users new holds inside le are r =
-    let k : Option ℕ = key_of (get_or (set ranks u x) u 0) (given w limit (set ranks u x) u) in
-    let long : length (set heap u None) ≡ length w.rows = length-set heap u None ∙ holds.heap_long in
-    record {
-      ranks_long = length-set ranks u x ∙ holds.ranks_long;
-      heap_long = r.as_long ∙ (length-set (set heap u None) u k ∙ long);
-      small = λ n in_n. elim (cases_eq n u) [
-        | inl same ↦ subst (λ m. get_or (set ranks u x) m 0 ≤ limit) (sym same) (omega (arith, get_or-set_same ranks u x 0 (omega (arith, holds.ranks_long))))
-        | inr other ↦ omega (arith, get_or-set_other ranks u n x 0 other, holds.small n in_n)
-      ];
-      keys = λ n in_n. elim (cases_Bool (has_node users n)) [
-        | inl user ↦ r.at_nodes n in_n user
-        | inr no_user ↦ r.others n no_user
-            ∙ elim (cases_eq n u) [
-              | inl same ↦ subst
-                  (λ m. get_or (set (set heap u None) u k) m None ≡ key_of (get_or (set ranks u x) m 0) (given w limit (set ranks u x) m))
-                  (sym same)
-                  (get_or-set_same (set heap u None) u k None (omega (arith, long)))
-              | inr other ↦ get_or-set_other (set heap u None) u n k None other
-                  ∙ (get_or-set_other heap u n None None other
-                  ∙ (holds.keys n in_n
-                  ∙ ap₂ (λ a b. key_of a b) (sym (get_or-set_other ranks u n x 0 other)) (sym (given-same w limit ranks u x n (not_user w.rows u users n are no_user)))))
-            ]
-      ];
-    }
 
 -- at the start only the changed nodes may hold keys
 
@@ -260,32 +233,12 @@ least-everywhere heap u k is n x e =
       | inr past ↦ absurd (none_some (key_at heap n) x (get_or-eq_default heap None past) e)
     ]
 
-pub holds-after : (w : World) (limit : ℕ) (ranks : List ℕ) (heap popped refreshed new : List (Option ℕ)) (u k x : ℕ) (users : List NodeId) → HoldsKeys w limit ranks heap → IsLeastAt heap (length heap) u k → x ≤ limit → popped ≡ set heap u None → refreshed ≡ set popped u (key_of (get_or (set ranks u x) u 0) (given w limit (set ranks u x) u)) → AreUsers w.rows u users → Refreshes w limit (set ranks u x) users refreshed new → HoldsKeys w limit (set ranks u x) new
-holds-after w limit ranks heap popped refreshed new u k x users holds is le pop_is ref_is are r =
-    holds-visited
-    w
-    limit
-    ranks
-    heap
-    u
-    x
-    users
-    new
-    holds
-    (omega (arith, is.inside, holds.heap_long))
-    le
-    are
-    (subst
-    (λ (h : List (Option ℕ)). Refreshes w limit (set ranks u x) users h new)
-    (ref_is ∙ ap (λ (h : List (Option ℕ)). set h u (key_of (get_or (set ranks u x) u 0) (given w limit (set ranks u x) u))) pop_is)
-    r)
-
-pub work_left-after : (w : World) → IsWhole w → (limit : ℕ) (ranks : List ℕ) (heap : List (Option ℕ)) (u k x : ℕ) → HoldsKeys w limit ranks heap → IsLeastAt heap (length heap) u k → x ≡ next_kept (get_or ranks u 0) k → work_left w (set ranks u x) + (2 + user_count w.rows u) ≤ work_left w ranks
-work_left-after w whole limit ranks heap u k x holds is e =
+pub work_left-after : (w : World) → IsWhole w → (limit : ℕ) (ranks : List ℕ) (heap : List (Option ℕ)) (u k x : ℕ) → HoldsBounds w limit ranks heap → IsLeastAt heap (length heap) u k → key_of (get_or ranks u 0) (given w limit ranks u) ≡ Some k → x ≡ next_kept (get_or ranks u 0) k → work_left w (set ranks u x) + (2 + user_count w.rows u) ≤ work_left w ranks
+work_left-after w whole limit ranks heap u k x holds is here e =
     subst
     (λ y. work_left w (set ranks u y) + (2 + user_count w.rows u) ≤ work_left w ranks)
     (sym e)
-    (work_left-taken w whole limit ranks heap u k holds (omega (arith, is.inside, holds.heap_long)) is.here (least-everywhere heap u k is))
+    (work_left-taken w whole limit ranks heap u k holds (omega (arith, is.inside, holds.heap_long)) here (least-everywhere heap u k is))
 
 -- no key is left
 

@@ -1,11 +1,11 @@
 -- The rank that a node's row gives it, and the key of a node whose rank is another.
-use Rattle.std.specs.Prelude.{ℕ, zero, suc, ◌+◌, ◌*◌, ◌<◌, ◌≤◌, ◌==◌, ◌≡◌, Bool, true, false, List, Option, None, Some, min, if◌then◌else◌, length, nat_lt, slice_index, sum_by, ◌||◌}
+use Rattle.std.specs.Prelude.{ℕ, zero, suc, ◌+◌, ◌*◌, ◌<◌, ◌≤◌, ◌==◌, ◌≡◌, ◌^◌, ◌-◌, Bool, true, false, List, Option, None, Some, min, if◌then◌else◌, length, nat_le, nat_lt, slice_index, sum_by, ◌||◌}
 use Rattle.plan_base.specs.declared.NodeId.{NodeId}
 use Rattle.graph_store.specs.declared.Row.{Row}
 use Rattle.graph_store.specs.Rows.{user_count, has_node}
 use Rattle.index_heap.specs.Keys.{key_at}
 use Rattle.reach_ranks.specs.Rounds.{World, admits}
-use Rattle.reach_ranks.specs.Ranks.{rank, within}
+use Rattle.reach_ranks.specs.Ranks.{rank, is_one_to, within}
 
 -- one more than the least number below m that passes the test; 0 where none does
 unfoldable pub one_above_least : (ℕ → Bool) → ℕ → ℕ
@@ -31,6 +31,40 @@ pub record HoldsKeys (w : World) (limit : ℕ) (ranks : List ℕ) (heap : List (
   pub small : (n : ℕ) → n < length w.rows → slice_index ranks n ≤ limit
   pub keys : (n : ℕ) → n < length w.rows → key_at heap n ≡ key_of (slice_index ranks n) (given w limit ranks n)
 
+-- whether the first key is no later than the second, where no key is later than all others
+abbrev pub is_by : Option ℕ → Option ℕ → Bool
+is_by key None = true
+is_by None (Some k) = false
+is_by (Some j) (Some k) = nat_le j k
+
+-- whether the two keys are one
+abbrev pub is_same_key : Option ℕ → Option ℕ → Bool
+is_same_key None None = true
+is_same_key None (Some k) = false
+is_same_key (Some j) None = false
+is_same_key (Some j) (Some k) = j == k
+
+-- each node whose kept rank is not the given one has a key, which may be earlier than the lesser of the two; others may have one too
+pub record HoldsBounds (w : World) (limit : ℕ) (ranks : List ℕ) (heap : List (Option ℕ)) : Type 0 where
+  pub ranks_long : length ranks ≡ length w.rows
+  pub heap_long : length heap ≡ length w.rows
+  pub small : (n : ℕ) → n < length w.rows → slice_index ranks n ≤ limit
+  pub keys : (n : ℕ) → n < length w.rows → is_by (key_at heap n) (key_of (slice_index ranks n) (given w limit ranks n)) ≡ true
+
+-- where a node gets its rank: a user that has no key and a rank of 1 to next keeps both, and any other has a key of next at most
+abbrev pub key_when_comes : Option ℕ → ℕ → ℕ → Option ℕ
+key_when_comes None rank next = if is_one_to next rank then None else Some next
+key_when_comes (Some key) rank next = Some (min key next)
+
+-- where a node loses its rank k: a user of a later rank has a key of that rank at most, and any other keeps its own
+abbrev pub key_when_goes : Option ℕ → ℕ → ℕ → Option ℕ
+key_when_goes None rank k = if nat_le rank k then None else Some rank
+key_when_goes (Some key) rank k = if nat_le rank k then Some key else Some (min key rank)
+
+-- the key of a user after a node got its rank k, or lost it
+abbrev pub key_after : Bool → ℕ → Option ℕ → ℕ → Option ℕ
+key_after comes k key rank = if comes then key_when_comes key rank (min (k + 1) (2 ^ 32 - 1)) else key_when_goes key rank k
+
 -- how often a node may still be taken out: not at all where its rank is right, once where it has none, else twice
 abbrev pub visits_left : ℕ → ℕ → ℕ
 visits_left kept right = if kept == right then 0 else (if kept == 0 then 1 else 2)
@@ -40,10 +74,25 @@ abbrev pub sum_below : (ℕ → ℕ) → ℕ → ℕ
 sum_below f zero = 0
 sum_below f (suc n) = f n + sum_below f n
 
+-- how many nodes have a key that isn't the right one
+unfoldable pub early_keys : World → ℕ → List ℕ → List (Option ℕ) → ℕ
+early_keys w limit ranks heap =
+    sum_below (λ n. if is_same_key (key_at heap n) (key_of (slice_index ranks n) (given w limit ranks n)) then 0 else 1) (length w.rows)
+
 -- the steps that are still to be taken: for each time that a node may be taken out, one for its row, one for its users and one for the row of each user
 unfoldable pub work_left : World → List ℕ → ℕ
 work_left w ranks =
     sum_below (λ n. visits_left (slice_index ranks n) (rank w n) * (2 + user_count w.rows n)) (length w.rows)
+
+-- the steps that are still to be taken, where each key that isn't right takes one more
+abbrev pub left_to_do : World → List ℕ → List (Option ℕ) → ℕ
+left_to_do w ranks heap = work_left w ranks + early_keys w (2 ^ 32 - 1) ranks heap
+
+-- each of the nodes has a key no later than it gets after a node got its rank k or lost it, and the other nodes keep theirs
+pub record Marks (comes : Bool) (k : ℕ) (ranks : List ℕ) (nodes : List NodeId) (old new : List (Option ℕ)) : Type 0 where
+  pub as_long : length new ≡ length old
+  pub at_nodes : (n : ℕ) → has_node nodes n ≡ true → is_by (key_at new n) (key_after comes k (key_at old n) (slice_index ranks n)) ≡ true
+  pub others : (n : ℕ) → has_node nodes n ≡ false → key_at new n ≡ key_at old n
 
 -- the nodes have the keys that these ranks give them, and the other nodes keep theirs
 pub record Refreshes (w : World) (limit : ℕ) (ranks : List ℕ) (nodes : List NodeId) (old new : List (Option ℕ)) : Type 0 where

@@ -1,5 +1,5 @@
 //! The ranks, computed from nothing, round by round, as the definition says it.
-ghost use Rattle.std.specs.Prelude.{◌≡◌, ◌+◌, ◌<◌, false, length, IfOk};
+ghost use Rattle.std.specs.Prelude.{◌≡◌, ◌+◌, ◌<◌, ◌≤◌, false, length, IfOk};
 ghost use Rattle.reach_ranks.specs.Rounds.{admits, world, IsWhole};
 ghost use Rattle.reach_ranks.specs.Ranks.{within, AreRanks, AreRanksTo};
 
@@ -23,7 +23,8 @@ fn comes_in<R: Rows<L>, L>(
     requires node { node.0 < length (R.rows rows.now) }
     requires ranks { length ranks.now ≡ length (R.rows rows.now) }
     requires marks { IsWhole (world (R.rows rows.now) barred.now granted.now extra) }
-    ensures { result ≡ admits (world (R.rows rows.now) barred.now granted.now extra) (within ranks.now k) node.0 }
+    ensures comes { result ≡ admits (world (R.rows rows.now) barred.now granted.now extra) (within ranks.now k) node.0 }
+    ensures later { steps.old ≤ steps.new }
 {
     let _count = rows.len();
     if is_barred(barred, extra, node) {
@@ -50,6 +51,7 @@ fn add_round<R: Rows<L>, L>(
     requires round { k < length (R.rows rows.now) }
     ensures after { AreRanksTo (world (R.rows rows.now) barred.now granted.now extra) (k + 1) ranks.new }
     ensures same { result ≡ false → ranks.new ≡ ranks.old }
+    ensures later { steps.old ≤ steps.new }
 {
     let mut grew = false;
     for n in 0..rows.len() {
@@ -74,7 +76,8 @@ fn add_rounds<R: Rows<L>, L>(
 )
     requires before { AreRanksTo (world (R.rows rows.now) barred.now granted.now extra) 0 ranks.old }
     requires marks { IsWhole (world (R.rows rows.now) barred.now granted.now extra) }
-    ensures { AreRanks (world (R.rows rows.now) barred.now granted.now extra) ranks.new }
+    ensures ranks { AreRanks (world (R.rows rows.now) barred.now granted.now extra) ranks.new }
+    ensures later { steps.old ≤ steps.new }
 {
     for k in 0..rows.len() {
         if !add_round(ranks, k, rows, barred, granted, extra, steps) {
@@ -99,7 +102,8 @@ pub fn ranks_by_rounds<R: Rows<L>, L>(
     steps: &mut Steps<L>,
 ) -> Result<Ranks, NoMemory>
     requires { IsWhole (world (R.rows rows.now) barred.now granted.now extra) }
-    ensures { IfOk result (λ ranks. AreRanks (world (R.rows rows.now) barred.now granted.now extra) ranks.of.items) }
+    ensures ranks { IfOk result (λ ranks. AreRanks (world (R.rows rows.now) barred.now granted.now extra) ranks.of.items) }
+    ensures later { steps.old ≤ steps.new }
 {
     let mut of = vec![in alloc; 0u32; rows.len() as usize]?;
     add_rounds(&mut of, rows, barred, granted, extra, steps);

@@ -104,6 +104,7 @@ pub fn given_rank<R: Rows<L>, L>(
     requires marks { IsWhole (world (R.rows rows.now) barred.now granted.now extra) }
     ensures given { result ≡ given (world (R.rows rows.now) barred.now granted.now extra) (2 ^ 32 - 1) ranks.now node.0 }
     ensures step { steps.new ≤ steps.old + 1 }
+    ensures later { steps.old ≤ steps.new }
 {
     let _count = rows.len();
     if is_barred(barred, extra, node) {

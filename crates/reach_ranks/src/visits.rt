@@ -1,9 +1,9 @@
 //! Visits: the node of the least key gets its rank, and the nodes that use it get their keys, until none has a key.
-ghost use Rattle.std.specs.Prelude.{◌≡◌, ℕ, ◌+◌, ◌*◌, ◌-◌, ◌^◌, ◌<◌, ◌≤◌, None, false, true, All, length, replicate, slice_index, slice_set};
+ghost use Rattle.std.specs.Prelude.{◌≡◌, ℕ, ◌+◌, ◌*◌, ◌-◌, ◌^◌, ◌<◌, ◌≤◌, None, Some, false, true, All, length, replicate, slice_index, slice_set};
 ghost use Rattle.index_heap.specs.Keys.{key_at};
 ghost use Rattle.reach_ranks.specs.Rounds.{world, IsWhole};
 ghost use Rattle.reach_ranks.specs.Ranks.{AreRanks};
-ghost use Rattle.reach_ranks.specs.Given.{given, key_of, HoldsKeys, Refreshes, next_kept, work_left};
+ghost use Rattle.reach_ranks.specs.Given.{given, key_after, key_of, is_same_key, left_to_do, next_kept, work_left, HoldsBounds, HoldsKeys, Marks, Refreshes};
 
 use crate::given::{earlier, given_rank};
 use graph_store::Rows;
@@ -28,6 +28,7 @@ pub fn refresh<R: Rows<L>, L>(
     ensures key { let by_row = given (world (R.rows rows.now) barred.now granted.now extra) (2 ^ 32 - 1) ranks.now node.0 in
         heap.new ≡ slice_set heap.old node.0 (key_of (slice_index ranks.now node.0) by_row) }
     ensures step { steps.new ≤ steps.old + 1 }
+    ensures later { steps.old ≤ steps.new }
 {
     let by_row = given_rank(ranks, rows, barred, granted, extra, node, steps);
     let kept = ranks[node.0 as usize];
@@ -56,6 +57,7 @@ pub fn refresh_all<R: Rows<L>, L>(
     ensures keys { Refreshes (world (R.rows rows.now) barred.now granted.now extra) (2 ^ 32 - 1) ranks.now nodes.now heap.old heap.new }
     ensures small { (n : ℕ) → slice_index ranks.now n ≤ 2 ^ 32 - 1 }
     ensures steps { steps.new ≤ steps.old + length nodes.now }
+    ensures later { steps.old ≤ steps.new }
 {
     for node in nodes {
         refresh(ranks, rows, barred, granted, extra, heap, *node, steps);
@@ -69,7 +71,84 @@ fn next_kept(kept: u32, key: u32) -> u32
     if kept == key { 0 } else { key }
 }
 
-/// Takes out the node of the least key, where one has a key, and gives it its next rank.
+/// The key of a node by its kept and its given rank.
+fn right_key(kept: u32, by_row: u32) -> Option<u32>
+    ensures { result ≡ key_of kept by_row }
+{
+    if kept == by_row {
+        None
+    } else {
+        Some(earlier(kept, by_row))
+    }
+}
+
+/// Whether this is the key.
+fn is_key(right: Option<u32>, key: u32) -> bool
+    ensures { result ≡ is_same_key right (Some key) }
+{
+    match right {
+        Some(k) => k == key,
+        None => false,
+    }
+}
+
+/// Gives the node this key, or takes its key away.
+fn put(heap: &mut Heap, node: NodeId, key: Option<u32>)
+    requires { node.0 < length heap.old }
+    ensures { heap.new ≡ slice_set heap.old node.0 key }
+{
+    match key {
+        Some(k) => heap.set(node, k),
+        None => heap.drop_key(node),
+    }
+}
+
+/// The key of a user that has this key and rank, after a node got its rank `k` or lost it.
+fn key_after(comes: bool, k: u32, key: Option<u32>, rank: u32) -> Option<u32>
+    ensures { result ≡ key_after comes k key rank }
+{
+    if comes {
+        let next = k.saturating_add(1);
+        match key {
+            None if 0 < rank && rank <= next => None,
+            None => Some(next),
+            Some(other) => Some(other.min(next)),
+        }
+    } else {
+        match key {
+            _ if rank <= k => key,
+            None => Some(rank),
+            Some(other) => Some(other.min(rank)),
+        }
+    }
+}
+
+/// Gives a user its key after a node got its rank `k` or lost it.
+fn mark(ranks: &[u32], heap: &mut Heap, user: NodeId, comes: bool, k: u32)
+    requires node { user.0 < length heap.old }
+    requires ranks { length ranks.now ≡ length heap.old }
+    ensures { heap.new ≡ slice_set heap.old user.0 (key_after comes k (key_at heap.old user.0) (slice_index ranks.now user.0)) }
+{
+    let key = heap.key_of(user);
+    let after = key_after(comes, k, key, ranks[user.0 as usize]);
+    if after != key {
+        put(heap, user, after);
+    }
+}
+
+/// The same for each of the users.
+fn mark_all(ranks: &[u32], heap: &mut Heap, users: &[NodeId], comes: bool, k: u32)
+    requires users { All (λ u. u.0 < length heap.old) users.now }
+    requires ranks { length ranks.now ≡ length heap.old }
+    ensures marks { Marks comes k ranks.now users.now heap.old heap.new }
+{
+    for user in users {
+        mark(ranks, heap, *user, comes, k);
+    }
+}
+
+/// Takes out the node of the least key, where one has a key. Where the key is right the node gets its next rank, and
+/// the nodes that use it get keys by which they are looked at again; else the node gets its right key.
 fn visit_least<R: Rows<L>, L>(
     ranks: &mut [u32],
     rows: &R,
@@ -80,24 +159,30 @@ fn visit_least<R: Rows<L>, L>(
     steps: &mut Steps<L>,
 ) -> bool
     requires marks { IsWhole (world (R.rows rows.now) barred.now granted.now extra) }
-    requires keys { HoldsKeys (world (R.rows rows.now) barred.now granted.now extra) (2 ^ 32 - 1) ranks.old heap.old }
-    ensures keys { HoldsKeys (world (R.rows rows.now) barred.now granted.now extra) (2 ^ 32 - 1) ranks.new heap.new }
+    requires keys { HoldsBounds (world (R.rows rows.now) barred.now granted.now extra) (2 ^ 32 - 1) ranks.old heap.old }
+    ensures keys { HoldsBounds (world (R.rows rows.now) barred.now granted.now extra) (2 ^ 32 - 1) ranks.new heap.new }
     ensures none { result ≡ false → (n : ℕ) → n < length (R.rows rows.now) → key_at heap.new n ≡ None }
     ensures steps { let w = world (R.rows rows.now) barred.now granted.now extra in
-        steps.new + work_left w ranks.new ≤ steps.old + work_left w ranks.old }
+        steps.new + left_to_do w ranks.new heap.new ≤ steps.old + left_to_do w ranks.old heap.old }
     ensures nearer { let w = world (R.rows rows.now) barred.now granted.now extra in
-        result ≡ true → work_left w ranks.new < work_left w ranks.old }
+        result ≡ true → left_to_do w ranks.new heap.new < left_to_do w ranks.old heap.old }
+    ensures later { steps.old ≤ steps.new }
 {
     let _count = rows.len();
     match heap.take_least() {
         None => false,
         Some((node, key)) => {
+            let by_row = given_rank(ranks, rows, barred, granted, extra, node, steps);
             let kept = ranks[node.0 as usize];
+            if !is_key(right_key(kept, by_row), key) {
+                put(heap, node, right_key(kept, by_row));
+                return true;
+            }
             let next = next_kept(kept, key);
             ranks[node.0 as usize] = next;
-            refresh(ranks, rows, barred, granted, extra, heap, node, steps);
+            put(heap, node, right_key(next, by_row));
             let users = rows.users(node, steps);
-            refresh_all(ranks, rows, barred, granted, extra, heap, users, steps);
+            mark_all(ranks, heap, users, next == key, key);
             true
         }
     }
@@ -119,6 +204,7 @@ pub fn settle<R: Rows<L>, L>(
     ensures ranks { AreRanks (world (R.rows rows.now) barred.now granted.now extra) ranks.new }
     ensures heap { heap.new ≡ replicate (length (R.rows rows.now)) None }
     ensures steps { steps.new ≤ steps.old + work_left (world (R.rows rows.now) barred.now granted.now extra) ranks.old }
+    ensures later { steps.old ≤ steps.new }
 {
     'visits: while visit_least(ranks, rows, barred, granted, extra, heap, steps) {}
 }

@@ -28,6 +28,7 @@ loop-i-preserved g c = record {
       c.in_ok-visit.ensures.grows);
   seen = c.in_ok-visit.ensures.seen;
   steps = omega (arith, c.visit.ensures.step, c.loop-i.invariant.steps);
+  later = omega (arith, c.visit.ensures.later, c.loop-i.invariant.later);
 }
 
 pub returns-clause-found : goal.returns-clause-found

@@ -8,6 +8,7 @@ invariant-loop-i g l = record {
   gathered : IsGathered (g.R.Rows.rows l.fn.rows) l.fn.granted l.fn.ranks l.fn.node.0 l.i l.found.items;
   seen : AreSeen l.found.items l.seen;
   steps : l.steps ≤ l.initial.steps + l.i;
+  later : l.initial.steps ≤ l.steps;
 }
 
 abbrev pub decreases-loop-i : goal.decreases-loop-i

@@ -42,6 +42,7 @@ loop-i-preserved g c =
             (c.loop-i.invariant.repaired.left c.loop-i.i c.index-milestones-i.result (omega arith) c.loop-i-test.true
             ∙ get_or_inside c.args.milestones.now c.loop-i.i c.index-milestones-i.result m c.loop-i-test.true)),
       );
+      later = omega (arith, c.repair.ensures.later, c.loop-i.invariant.later);
     }
 
 pub returns-clause-milestones : goal.returns-clause-milestones

@@ -9,4 +9,5 @@ invariant-loop-i g l = record {
   heap : l.heap ≡ l.initial.heap;
   repaired : AreRepairedTo (g.R.Rows.rows l.fn.rows) l.fn.barred l.fn.granted l.i l.initial.milestones l.milestones;
   steps : l.steps ≤ l.initial.steps + 6 * sum_below (size_in_world (g.R.Rows.rows l.fn.rows) l.fn.changed l.initial.milestones l.milestones) l.i;
+  later : l.initial.steps ≤ l.steps;
 }

@@ -9,4 +9,5 @@ invariant-loop-n g l = record {
   long : length l.heap ≡ length (g.R.Rows.rows l.fn.rows);
   keys : (m : ℕ) → m < l.n → key_at l.heap m ≡ key_of (get_or l.fn.ranks m 0) (given (world (g.R.Rows.rows l.fn.rows) l.fn.barred l.fn.granted l.fn.extra) 4294967295 l.fn.ranks m);
   steps : l.steps ≤ l.initial.steps + l.n;
+  later : l.initial.steps ≤ l.steps;
 }

@@ -4,8 +4,8 @@ use Rattle.reach_ranks.specs.Rounds.{world}
 use Rattle.reach_ranks.proofs.Between.{ranks-at_end, ranks-when_same}
 use Rattle.reach_ranks.proofs.by_rounds.add_rounds.Goals as goal
 
-pub returns-then-not-add_round : goal.returns-then-not-add_round
-returns-then-not-add_round g c =
+pub returns-then-not-add_round-clause-ranks : goal.returns-then-not-add_round-clause-ranks
+returns-then-not-add_round-clause-ranks g c =
     ranks-when_same
     (world (g.R.Rows.rows c.args.rows.now) c.args.barred.now c.args.granted.now c.args.extra)
     c.requires.marks
@@ -13,15 +13,15 @@ returns-then-not-add_round g c =
     c.loop-k.ranks
     c.add_round.new.ranks
     (omega arith)
-    c.loop-k.invariant
+    c.loop-k.invariant.are
     c.add_round.ensures.after
     (c.add_round.ensures.same c.if-not-add_round.true)
 
-pub returns : goal.returns
-returns g c =
+pub returns-clause-ranks : goal.returns-clause-ranks
+returns-clause-ranks g c =
     ranks-at_end
     (world (g.R.Rows.rows c.args.rows.now) c.args.barred.now c.args.granted.now c.args.extra)
     c.loop-k.k
     c.loop-k.ranks
     (omega arith)
-    c.loop-k.invariant
+    c.loop-k.invariant.are

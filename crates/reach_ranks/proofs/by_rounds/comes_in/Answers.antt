@@ -6,16 +6,16 @@ use Rattle.reach_ranks.proofs.RankLemmas.{admits-barred, admits-granted, admits-
 use Rattle.reach_ranks.proofs.Between.{members-of_row}
 use Rattle.reach_ranks.proofs.by_rounds.comes_in.Goals as goal
 
-pub returns-then-is_barred : goal.returns-then-is_barred
-returns-then-is_barred g c =
+pub returns-then-is_barred-clause-comes : goal.returns-then-is_barred-clause-comes
+returns-then-is_barred-clause-comes g c =
     sym (admits-barred
     (world (g.R.Rows.rows c.args.rows.now) c.args.barred.now c.args.granted.now c.args.extra)
     (within c.args.ranks.now c.args.k)
     c.args.node.0
     (sym c.is_barred.ensures ∙ c.if-is_barred.true))
 
-pub returns-then-granted-node : goal.returns-then-granted-node
-returns-then-granted-node g c =
+pub returns-then-granted-node-clause-comes : goal.returns-then-granted-node-clause-comes
+returns-then-granted-node-clause-comes g c =
     sym (admits-granted
     (world (g.R.Rows.rows c.args.rows.now) c.args.barred.now c.args.granted.now c.args.extra)
     (within c.args.ranks.now c.args.k)
@@ -36,8 +36,8 @@ satisfies_row-requires g c =
     c.row.ensures.row
     c.requires.ranks
 
-pub returns : goal.returns
-returns g c =
+pub returns-clause-comes : goal.returns-clause-comes
+returns-clause-comes g c =
     c.satisfies_row.ensures
     ∙ (ap (has_groups (within c.args.ranks.now c.args.k)) (sym c.row.ensures.row)
     ∙ sym (admits-by_row

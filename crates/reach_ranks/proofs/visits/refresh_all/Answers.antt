@@ -21,4 +21,5 @@ loop-node-preserved g c = record {
       c.loop-node.invariant.keys
       c.refresh.ensures.key;
   steps = omega arith;
+  later = omega arith;
 }

@@ -7,4 +7,5 @@ abbrev pub invariant-loop-node : goal.invariant-loop-node
 invariant-loop-node g l = record {
   keys : Refreshes (world (g.R.Rows.rows l.fn.rows) l.fn.barred l.fn.granted l.fn.extra) 4294967295 l.fn.ranks (take l.node-index l.nodes) l.initial.heap l.heap;
   steps : l.steps ≤ l.initial.steps + l.node-index;
+  later : l.initial.steps ≤ l.steps;
 }

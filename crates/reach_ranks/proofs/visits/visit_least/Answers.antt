@@ -1,39 +1,89 @@
--- A visit keeps the keys, and takes no more steps than it leaves fewer to do.
-use Rattle.std.proofs.Common.{arith}
+-- A visit keeps each key early enough, and takes no more steps than it leaves fewer to do.
+use Rattle.std.proofs.Common.{◌≡◌, ℕ, Option, Some, refl, sym, ◌∙◌, ap, get_or, arith}
+use Rattle.std.specs.Prelude.{◌==◌, slice_set}
 use Rattle.reach_ranks.specs.Rounds.{world}
-use Rattle.reach_ranks.proofs.RepairLemmas.{holds-after, work_left-after}
+use Rattle.reach_ranks.specs.Given.{given, key_of, is_same_key}
+use Rattle.reach_ranks.proofs.RepairLemmas.{work_left-after}
+use Rattle.reach_ranks.proofs.MarkLemmas.{bounds-after, early-after, early-put, same_key-is}
 use Rattle.reach_ranks.proofs.visits.visit_least.Goals as goal
 
-pub returns-in-Some-clause-keys : goal.returns-in-Some-clause-keys
-returns-in-Some-clause-keys g c =
-    holds-after
+right-is : (kept by_row given_is : ℕ) (right : Option ℕ) (key : Option ℕ) → by_row ≡ given_is → right ≡ key_of kept by_row → right ≡ key → key_of kept given_is ≡ key
+right-is kept by_row given_is right key e f h = ap (λ b. key_of kept b) (sym e) ∙ (sym f ∙ h)
+
+pub returns-then-not-is_key-clause-steps : goal.returns-then-not-is_key-clause-steps
+returns-then-not-is_key-clause-steps g c =
+    omega (
+      arith,
+      c.given_rank-by_row.ensures.step,
+      early-put
+          (world (g.R.Rows.rows c.args.rows.now) c.args.barred.now c.args.granted.now c.args.extra)
+          4294967295
+          c.args.ranks.now
+          c.args.heap.now
+          c.take_least.new.self
+          c.put.new.heap
+          c.in-Some.node.0
+          c.in-Some.key
+          c.requires.keys.heap_long
+          c.in-Some.ensures.least.inside
+          c.in-Some.ensures.least.here
+          (ap (λ (right : Option ℕ). is_same_key right (Some c.in-Some.key)) (ap (λ b. key_of (get_or c.args.ranks.now c.in-Some.node.0 0) b) (sym c.given_rank-by_row.ensures.given) ∙ sym c.right_key.ensures) ∙ (sym c.is_key.ensures ∙ c.if-not-is_key.true))
+          c.in-Some.ensures.some
+          (c.put.ensures ∙ ap (λ (key : Option ℕ). slice_set c.take_least.new.self c.in-Some.node.0 key) (c.right_key-then-not-is_key.ensures ∙ ap (λ b. key_of (get_or c.args.ranks.now c.in-Some.node.0 0) b) c.given_rank-by_row.ensures.given)),
+    )
+
+pub returns-then-not-is_key-clause-nearer : goal.returns-then-not-is_key-clause-nearer
+returns-then-not-is_key-clause-nearer g c = λ _.
+    omega (
+      arith,
+      early-put
+          (world (g.R.Rows.rows c.args.rows.now) c.args.barred.now c.args.granted.now c.args.extra)
+          4294967295
+          c.args.ranks.now
+          c.args.heap.now
+          c.take_least.new.self
+          c.put.new.heap
+          c.in-Some.node.0
+          c.in-Some.key
+          c.requires.keys.heap_long
+          c.in-Some.ensures.least.inside
+          c.in-Some.ensures.least.here
+          (ap (λ (right : Option ℕ). is_same_key right (Some c.in-Some.key)) (ap (λ b. key_of (get_or c.args.ranks.now c.in-Some.node.0 0) b) (sym c.given_rank-by_row.ensures.given) ∙ sym c.right_key.ensures) ∙ (sym c.is_key.ensures ∙ c.if-not-is_key.true))
+          c.in-Some.ensures.some
+          (c.put.ensures ∙ ap (λ (key : Option ℕ). slice_set c.take_least.new.self c.in-Some.node.0 key) (c.right_key-then-not-is_key.ensures ∙ ap (λ b. key_of (get_or c.args.ranks.now c.in-Some.node.0 0) b) c.given_rank-by_row.ensures.given)),
+    )
+
+pub returns-else-not-is_key-clause-keys : goal.returns-else-not-is_key-clause-keys
+returns-else-not-is_key-clause-keys g c =
+    bounds-after
     (world (g.R.Rows.rows c.args.rows.now) c.args.barred.now c.args.granted.now c.args.extra)
     4294967295
     c.args.ranks.now
     c.args.heap.now
     c.take_least.new.self
-    c.refresh.new.heap
-    c.refresh_all.new.heap
+    c.put-in-Some.new.heap
+    c.mark_all.new.heap
     c.in-Some.node.0
     c.in-Some.key
     c.next_kept-next.result
+    (c.next_kept-next.result == c.in-Some.key)
     c.users-users.result.now
     c.requires.keys
     c.in-Some.ensures.least
-    (omega arith)
+    (right-is (get_or c.args.ranks.now c.in-Some.node.0 0) c.given_rank-by_row.result (given (world (g.R.Rows.rows c.args.rows.now) c.args.barred.now c.args.granted.now c.args.extra) 4294967295 c.args.ranks.now c.in-Some.node.0) c.right_key.result (Some c.in-Some.key) c.given_rank-by_row.ensures.given c.right_key.ensures (same_key-is c.right_key.result c.in-Some.key (sym c.is_key.ensures ∙ c.if-not-is_key.false)))
+    c.next_kept-next.ensures
+    refl
     c.in-Some.ensures.some
-    c.refresh.ensures.key
+    (c.put-in-Some.ensures ∙ ap (λ (key : Option ℕ). slice_set c.take_least.new.self c.in-Some.node.0 key) (c.right_key-in-Some.ensures ∙ ap (λ b. key_of c.next_kept-next.result b) c.given_rank-by_row.ensures.given))
     c.users-users.ensures.users
-    c.refresh_all.ensures.keys
+    c.mark_all.ensures.marks
 
-pub returns-in-Some-clause-steps : goal.returns-in-Some-clause-steps
-returns-in-Some-clause-steps g c =
+pub returns-else-not-is_key-clause-steps : goal.returns-else-not-is_key-clause-steps
+returns-else-not-is_key-clause-steps g c =
     omega (
       arith,
-      c.refresh.ensures.step,
+      c.given_rank-by_row.ensures.step,
       c.users-users.ensures.step,
-      c.users-users.ensures.users.count,
-      c.refresh_all.ensures.steps,
       work_left-after
           (world (g.R.Rows.rows c.args.rows.now) c.args.barred.now c.args.granted.now c.args.extra)
           c.requires.marks
@@ -45,11 +95,31 @@ returns-in-Some-clause-steps g c =
           c.next_kept-next.result
           c.requires.keys
           c.in-Some.ensures.least
+          (right-is (get_or c.args.ranks.now c.in-Some.node.0 0) c.given_rank-by_row.result (given (world (g.R.Rows.rows c.args.rows.now) c.args.barred.now c.args.granted.now c.args.extra) 4294967295 c.args.ranks.now c.in-Some.node.0) c.right_key.result (Some c.in-Some.key) c.given_rank-by_row.ensures.given c.right_key.ensures (same_key-is c.right_key.result c.in-Some.key (sym c.is_key.ensures ∙ c.if-not-is_key.false)))
           c.next_kept-next.ensures,
+      early-after
+          (world (g.R.Rows.rows c.args.rows.now) c.args.barred.now c.args.granted.now c.args.extra)
+          4294967295
+          c.args.ranks.now
+          c.args.heap.now
+          c.take_least.new.self
+          c.put-in-Some.new.heap
+          c.mark_all.new.heap
+          c.in-Some.node.0
+          c.in-Some.key
+          c.next_kept-next.result
+          (c.next_kept-next.result == c.in-Some.key)
+          c.users-users.result.now
+          c.requires.keys
+          c.in-Some.ensures.least.inside
+          c.in-Some.ensures.some
+          (c.put-in-Some.ensures ∙ ap (λ (key : Option ℕ). slice_set c.take_least.new.self c.in-Some.node.0 key) (c.right_key-in-Some.ensures ∙ ap (λ b. key_of c.next_kept-next.result b) c.given_rank-by_row.ensures.given))
+          c.users-users.ensures.users
+          c.mark_all.ensures.marks,
     )
 
-pub returns-in-Some-clause-nearer : goal.returns-in-Some-clause-nearer
-returns-in-Some-clause-nearer g c = λ _.
+pub returns-else-not-is_key-clause-nearer : goal.returns-else-not-is_key-clause-nearer
+returns-else-not-is_key-clause-nearer g c = λ _.
     omega (
       arith,
       work_left-after
@@ -63,5 +133,25 @@ returns-in-Some-clause-nearer g c = λ _.
           c.next_kept-next.result
           c.requires.keys
           c.in-Some.ensures.least
+          (right-is (get_or c.args.ranks.now c.in-Some.node.0 0) c.given_rank-by_row.result (given (world (g.R.Rows.rows c.args.rows.now) c.args.barred.now c.args.granted.now c.args.extra) 4294967295 c.args.ranks.now c.in-Some.node.0) c.right_key.result (Some c.in-Some.key) c.given_rank-by_row.ensures.given c.right_key.ensures (same_key-is c.right_key.result c.in-Some.key (sym c.is_key.ensures ∙ c.if-not-is_key.false)))
           c.next_kept-next.ensures,
+      early-after
+          (world (g.R.Rows.rows c.args.rows.now) c.args.barred.now c.args.granted.now c.args.extra)
+          4294967295
+          c.args.ranks.now
+          c.args.heap.now
+          c.take_least.new.self
+          c.put-in-Some.new.heap
+          c.mark_all.new.heap
+          c.in-Some.node.0
+          c.in-Some.key
+          c.next_kept-next.result
+          (c.next_kept-next.result == c.in-Some.key)
+          c.users-users.result.now
+          c.requires.keys
+          c.in-Some.ensures.least.inside
+          c.in-Some.ensures.some
+          (c.put-in-Some.ensures ∙ ap (λ (key : Option ℕ). slice_set c.take_least.new.self c.in-Some.node.0 key) (c.right_key-in-Some.ensures ∙ ap (λ b. key_of c.next_kept-next.result b) c.given_rank-by_row.ensures.given))
+          c.users-users.ensures.users
+          c.mark_all.ensures.marks,
     )

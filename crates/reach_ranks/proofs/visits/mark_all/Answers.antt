@@ -1,0 +1,20 @@
+-- One user more has its key.
+use Rattle.reach_ranks.proofs.MarkLemmas.{marks-more}
+use Rattle.reach_ranks.proofs.visits.mark_all.Goals as goal
+
+pub loop-user-preserved : goal.loop-user-preserved
+loop-user-preserved c =
+    marks-more
+    c.args.comes
+    c.args.k
+    c.args.ranks.now
+    c.args.users.now
+    c.loop-user.user-index
+    (record { 0 = 0 })
+    c.args.heap.now
+    c.loop-user.heap
+    c.mark.new.heap
+    c.loop-user-test.true
+    (c.requires.users c.loop-user.user-index (record { 0 = 0 }) c.loop-user-test.true)
+    c.loop-user.invariant
+    c.mark.ensures
