@@ -45,12 +45,15 @@ Gives meant (Err fault) = fault.code ≢ NoMemory → meant ≡ Err fault
 abbrev pub fault_at : FieldCode → Object → Key → FieldFault
 fault_at code object key = record { code = code; within = object.within; key = Some key }
 
+abbrev pub element_fault : FieldCode → Within → FieldFault
+element_fault code within = record { code = code; within = within; key = None }
+
 -- a fault of a field, and of an object or an element of a list
 abbrev pub wrong : {A : Type 0} → FieldCode → Object → Key → Reading A
 wrong code object key = Err (fault_at code object key)
 
 abbrev pub wrong_element : {A : Type 0} → FieldCode → Within → Reading A
-wrong_element code within = Err (record { code = code; within = within; key = None })
+wrong_element code within = Err (element_fault code within)
 
 abbrev pub or_wrong : {A : Type 0} → FieldCode → Object → Key → Option A → Reading A
 or_wrong code object key None = wrong code object key

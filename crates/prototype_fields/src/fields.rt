@@ -20,20 +20,19 @@ use json_text::{SpanMember, SpanTree};
 /// The most elements that a short list has.
 pub const LIST_LIMIT: usize = 1_024;
 
-/// Where fields are read of.
+// Where fields are read of.
 #[derive(Clone, Copy)]
-pub enum Members<'t, 'b> {
-    /// The members of an object.
+pub(crate) enum Members<'t, 'b> {
     Object(&'t [SpanMember<'b>]),
-    /// A list that stands for an object: a name, and an amount.
+    // A list that stands for an object.
     Pair(&'t [SpanTree<'b>]),
 }
 
-/// An object of a prototype.
+/// The fields of an object of a prototype, and the path of that object.
 #[derive(Clone, Copy)]
 pub struct Fields<'t, 'b> {
-    pub within: Within,
-    pub members: Members<'t, 'b>,
+    within: Within,
+    members: Members<'t, 'b>,
 }
 
 // The value of a list that stands for an object.
@@ -68,6 +67,32 @@ impl<'t, 'b> Members<'t, 'b> {
 }
 
 impl<'t, 'b> Fields<'t, 'b> {
+    /// The fields of an object with these members.
+    #[tactic(auto, unfolding(crate::specs::Seen::object_seen))]
+    pub fn of_members(within: Within, members: &'t [SpanMember<'b>]) -> Fields<'t, 'b>
+        ensures { object_seen result ≡ record { within = within; members = members_seen members.now } }
+    {
+        let members = Members::Object(members);
+        Fields { within, members }
+    }
+
+    /// The fields of the object that a list of a name, or of a name and an amount, stands for.
+    #[tactic(auto, unfolding(crate::specs::Seen::object_seen))]
+    pub fn of_pair(within: Within, elements: &'t [SpanTree<'b>]) -> Fields<'t, 'b>
+        ensures { object_seen result ≡ record { within = within; members = pair_members (spans_seen elements.now) } }
+    {
+        let members = Members::Pair(elements);
+        Fields { within, members }
+    }
+
+    /// The path of the object.
+    #[tactic(auto, unfolding(crate::specs::Seen::object_seen))]
+    pub fn within(&self) -> Within
+        ensures { result ≡ (object_seen self.now).within }
+    {
+        self.within
+    }
+
     /// A field: the value under its key, unless that is null.
     #[tactic(auto, unfolding(crate::specs::Objects::field, crate::specs::Seen::object_seen))]
     pub fn field(&self, key: Key) -> Option<&'t SpanTree<'b>>
@@ -139,7 +164,7 @@ impl<'t, 'b> Fields<'t, 'b> {
     }
 
     // An object.
-    #[tactic(auto, unfolding(crate::specs::Values::object_in, crate::specs::Seen::object_seen))]
+    #[tactic(auto, unfolding(crate::specs::Values::object_in))]
     fn object_in(
         &self,
         key: Key,
@@ -149,10 +174,7 @@ impl<'t, 'b> Fields<'t, 'b> {
         ensures { seen_as object_seen result ≡ object_in within (object_seen self.now) key (span_seen value.now) }
     {
         match as_object(value) {
-            Some(members) => Ok(Fields {
-                within,
-                members: Members::Object(members),
-            }),
+            Some(members) => Ok(Fields::of_members(within, members)),
             None => Err(self.fault(FieldCode::WrongKind, key)),
         }
     }
@@ -394,7 +416,7 @@ impl<'t, 'b> Fields<'t, 'b> {
     }
 
     /// An object, which is empty where it is absent.
-    #[tactic(auto, unfolding(crate::specs::Values::object_or_empty, crate::specs::Seen::object_seen))]
+    #[tactic(auto, unfolding(crate::specs::Values::object_or_empty))]
     pub fn object_or_empty(&self, key: Key, within: Within) -> Result<Fields<'t, 'b>, FieldFault>
         ensures { seen_as object_seen result ≡ object_or_empty (object_seen self.now) key within }
     {
@@ -402,8 +424,7 @@ impl<'t, 'b> Fields<'t, 'b> {
             Some(fields) => Ok(fields),
             None => {
                 let none: &'t [SpanMember<'b>] = no_members();
-                let members = Members::Object(none);
-                Ok(Fields { within, members })
+                Ok(Fields::of_members(within, none))
             }
         }
     }
