@@ -17,7 +17,7 @@ use Rattle.prototype_fields.specs.declared.names.Within.{Within}
 use Rattle.prototype_fields.specs.declared.fault.FieldCode.{FieldCode}
 use Rattle.prototype_fields.specs.declared.fault.FieldCode.TheVariants.{Missing, WrongKind, Number, Energy, Limit, NoMemory}
 use Rattle.prototype_fields.specs.declared.fault.FieldFault.{FieldFault}
-use Rattle.prototype_fields.specs.Objects.{Object, as_object, as_list, as_text, as_bytes, as_flag, as_number, field}
+use Rattle.prototype_fields.specs.Objects.{Object, Member, as_object, as_list, as_text, as_bytes, as_flag, as_number, field}
 use Rattle.prototype_fields.specs.Numbers.{numeral_reading, energy_reading, is_amount, is_positive, small_whole}
 
 -- ---- what reading gives
@@ -89,6 +89,14 @@ energy_in measure object key value = of_kind object key (as_bytes value) ▸ λ 
 
 unfoldable pub object_in : Within → Object → Key → Kept → Reading Object
 object_in within object key value = of_kind object key (as_object value) ▸ λ members. Ok (record { within = within; members = members })
+
+-- a prototype, or an element of a list, that is an object
+abbrev pub with_members : Within → Option (List Member) → Reading Object
+with_members within None = wrong_element WrongKind within
+with_members within (Some members) = Ok (record { within = within; members = members })
+
+unfoldable pub object_element : Within → Kept → Reading Object
+object_element within value = with_members within (as_object value)
 
 -- ---- fields
 -- a field that may be absent

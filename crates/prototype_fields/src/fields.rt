@@ -5,7 +5,7 @@ ghost use Rattle.fractions.specs.Limits.{IsBelow};
 ghost use Rattle.energy_units.specs.declared.Measure.TheVariants.{Joules, Watts};
 ghost use Rattle.prototype_fields.specs.Objects.{field, pair_members, value_at};
 ghost use Rattle.prototype_fields.specs.Seen.{listed_members, object_seen};
-ghost use Rattle.prototype_fields.specs.Values.{Reading, amount, amount_in, amount_or, energy_in, energy_or, fault_at, flag_or, list, list_or_empty, name, name_or, number, number_in, number_or, object_at, object_in, object_or_empty, positive, positive_in, positive_or, power, required, required_amount, required_list, required_name, required_object, required_positive, required_power, required_short_list, seen_as, short_list, short_list_or_empty, text, text_in, unless_empty, whole_or};
+ghost use Rattle.prototype_fields.specs.Values.{Reading, amount, amount_in, amount_or, energy_in, energy_or, fault_at, flag_or, list, list_or_empty, name, name_or, number, number_in, number_or, object_at, object_element, object_in, object_or_empty, positive, positive_in, positive_or, power, required, required_amount, required_list, required_name, required_object, required_positive, required_power, required_short_list, seen_as, short_list, short_list_or_empty, text, text_in, unless_empty, whole_or};
 
 use crate::numbers::{energy, is_amount, is_positive, numeral, small_whole};
 use crate::trees::{
@@ -83,6 +83,24 @@ impl<'t, 'b> Fields<'t, 'b> {
     {
         let members = Members::Pair(elements);
         Fields { within, members }
+    }
+
+    /// The fields of a prototype, or of an element of a list, which is an object.
+    ///
+    /// # Errors
+    ///
+    /// `WrongKind` where it is none.
+    #[tactic(auto, unfolding(crate::specs::Values::object_element))]
+    pub fn of_element(
+        within: Within,
+        element: &'t SpanTree<'b>,
+    ) -> Result<Fields<'t, 'b>, FieldFault>
+        ensures { seen_as object_seen result ≡ object_element within (span_seen element.now) }
+    {
+        match as_object(element) {
+            Some(members) => Ok(Fields::of_members(within, members)),
+            None => Err(FieldFault::of_element(FieldCode::WrongKind, within)),
+        }
     }
 
     /// The path of the object.
