@@ -38,10 +38,10 @@ int_less a b h = grind (arith, ints)
 int_not_less : (a b : ℤ) → b ≤ℤ a → int_lt a b ≡ false
 int_not_less a b h = grind (arith, ints)
 
-less : (x y : Fraction) → x <ʳ y → is_less x y ≡ true
+pub less : (x y : Fraction) → x <ʳ y → is_less x y ≡ true
 less x y h = int_less _ _ h.cross
 
-not_less : (x y : Fraction) → y ≤ʳ x → is_less x y ≡ false
+pub not_less : (x y : Fraction) → y ≤ʳ x → is_less x y ≡ false
 not_less x y h = int_not_less _ _ h.cross
 
 -- ---- numerals

@@ -17,7 +17,7 @@ use Rattle.prototype_fields.specs.declared.names.Within.{Within}
 use Rattle.prototype_fields.specs.declared.fault.FieldCode.{FieldCode}
 use Rattle.prototype_fields.specs.declared.fault.FieldCode.TheVariants.{Missing, WrongKind, Number, Energy, Limit, NoMemory}
 use Rattle.prototype_fields.specs.declared.fault.FieldFault.{FieldFault}
-use Rattle.prototype_fields.specs.Objects.{Object, as_object, as_list, as_text, as_bytes, as_flag, as_number, field}
+use Rattle.prototype_fields.specs.Objects.{Object, Member, as_object, as_list, as_text, as_bytes, as_flag, as_number, field}
 use Rattle.prototype_fields.specs.Numbers.{numeral_reading, energy_reading, is_amount, is_positive, small_whole}
 
 -- ---- what reading gives
@@ -45,12 +45,15 @@ Gives meant (Err fault) = fault.code ≢ NoMemory → meant ≡ Err fault
 abbrev pub fault_at : FieldCode → Object → Key → FieldFault
 fault_at code object key = record { code = code; within = object.within; key = Some key }
 
+abbrev pub element_fault : FieldCode → Within → FieldFault
+element_fault code within = record { code = code; within = within; key = None }
+
 -- a fault of a field, and of an object or an element of a list
 abbrev pub wrong : {A : Type 0} → FieldCode → Object → Key → Reading A
 wrong code object key = Err (fault_at code object key)
 
 abbrev pub wrong_element : {A : Type 0} → FieldCode → Within → Reading A
-wrong_element code within = Err (record { code = code; within = within; key = None })
+wrong_element code within = Err (element_fault code within)
 
 abbrev pub or_wrong : {A : Type 0} → FieldCode → Object → Key → Option A → Reading A
 or_wrong code object key None = wrong code object key
@@ -86,6 +89,14 @@ energy_in measure object key value = of_kind object key (as_bytes value) ▸ λ 
 
 unfoldable pub object_in : Within → Object → Key → Kept → Reading Object
 object_in within object key value = of_kind object key (as_object value) ▸ λ members. Ok (record { within = within; members = members })
+
+-- a prototype, or an element of a list, that is an object
+abbrev pub with_members : Within → Option (List Member) → Reading Object
+with_members within None = wrong_element WrongKind within
+with_members within (Some members) = Ok (record { within = within; members = members })
+
+unfoldable pub object_element : Within → Kept → Reading Object
+object_element within value = with_members within (as_object value)
 
 -- ---- fields
 -- a field that may be absent

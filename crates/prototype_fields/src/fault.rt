@@ -2,6 +2,7 @@
 ghost use Rattle.std.specs.Prelude.{◌≡◌, IfOk};
 ghost use Rattle.prototype_fields.specs.declared.fault.FieldCode.TheVariants.{NoMemory as OutOfMemory};
 ghost use Rattle.prototype_fields.specs.Names.{fault_path};
+ghost use Rattle.prototype_fields.specs.Values.{element_fault};
 
 use crate::{Key, Within};
 use plan_base::{NoMemory, Text};
@@ -45,6 +46,17 @@ impl FieldFault {
         FieldFault {
             code: FieldCode::NoMemory,
             within: Within::Prototype,
+            key: None,
+        }
+    }
+
+    /// A fault of an object or of an element of a list.
+    pub fn of_element(code: FieldCode, within: Within) -> FieldFault
+        ensures { result ≡ element_fault code within }
+    {
+        FieldFault {
+            code,
+            within,
             key: None,
         }
     }

@@ -5,7 +5,7 @@ ghost use Rattle.fractions.specs.Limits.{IsBelow};
 ghost use Rattle.energy_units.specs.declared.Measure.TheVariants.{Joules, Watts};
 ghost use Rattle.prototype_fields.specs.Objects.{field, pair_members, value_at};
 ghost use Rattle.prototype_fields.specs.Seen.{listed_members, object_seen};
-ghost use Rattle.prototype_fields.specs.Values.{Reading, amount, amount_in, amount_or, energy_in, energy_or, fault_at, flag_or, list, list_or_empty, name, name_or, number, number_in, number_or, object_at, object_in, object_or_empty, positive, positive_in, positive_or, power, required, required_amount, required_list, required_name, required_object, required_positive, required_power, required_short_list, seen_as, short_list, short_list_or_empty, text, text_in, unless_empty, whole_or};
+ghost use Rattle.prototype_fields.specs.Values.{Reading, amount, amount_in, amount_or, energy_in, energy_or, fault_at, flag_or, list, list_or_empty, name, name_or, number, number_in, number_or, object_at, object_element, object_in, object_or_empty, positive, positive_in, positive_or, power, required, required_amount, required_list, required_name, required_object, required_positive, required_power, required_short_list, seen_as, short_list, short_list_or_empty, text, text_in, unless_empty, whole_or};
 
 use crate::numbers::{energy, is_amount, is_positive, numeral, small_whole};
 use crate::trees::{
@@ -20,20 +20,19 @@ use json_text::{SpanMember, SpanTree};
 /// The most elements that a short list has.
 pub const LIST_LIMIT: usize = 1_024;
 
-/// Where fields are read of.
+// Where fields are read of.
 #[derive(Clone, Copy)]
-pub enum Members<'t, 'b> {
-    /// The members of an object.
+pub(crate) enum Members<'t, 'b> {
     Object(&'t [SpanMember<'b>]),
-    /// A list that stands for an object: a name, and an amount.
+    // A list that stands for an object.
     Pair(&'t [SpanTree<'b>]),
 }
 
-/// An object of a prototype.
+/// The fields of an object of a prototype, and the path of that object.
 #[derive(Clone, Copy)]
 pub struct Fields<'t, 'b> {
-    pub within: Within,
-    pub members: Members<'t, 'b>,
+    within: Within,
+    members: Members<'t, 'b>,
 }
 
 // The value of a list that stands for an object.
@@ -68,6 +67,50 @@ impl<'t, 'b> Members<'t, 'b> {
 }
 
 impl<'t, 'b> Fields<'t, 'b> {
+    /// The fields of an object with these members.
+    #[tactic(auto, unfolding(crate::specs::Seen::object_seen))]
+    pub fn of_members(within: Within, members: &'t [SpanMember<'b>]) -> Fields<'t, 'b>
+        ensures { object_seen result ≡ record { within = within; members = members_seen members.now } }
+    {
+        let members = Members::Object(members);
+        Fields { within, members }
+    }
+
+    /// The fields of the object that a list of a name, or of a name and an amount, stands for.
+    #[tactic(auto, unfolding(crate::specs::Seen::object_seen))]
+    pub fn of_pair(within: Within, elements: &'t [SpanTree<'b>]) -> Fields<'t, 'b>
+        ensures { object_seen result ≡ record { within = within; members = pair_members (spans_seen elements.now) } }
+    {
+        let members = Members::Pair(elements);
+        Fields { within, members }
+    }
+
+    /// The fields of a prototype, or of an element of a list, which is an object.
+    ///
+    /// # Errors
+    ///
+    /// `WrongKind` where it is none.
+    #[tactic(auto, unfolding(crate::specs::Values::object_element))]
+    pub fn of_element(
+        within: Within,
+        element: &'t SpanTree<'b>,
+    ) -> Result<Fields<'t, 'b>, FieldFault>
+        ensures { seen_as object_seen result ≡ object_element within (span_seen element.now) }
+    {
+        match as_object(element) {
+            Some(members) => Ok(Fields::of_members(within, members)),
+            None => Err(FieldFault::of_element(FieldCode::WrongKind, within)),
+        }
+    }
+
+    /// The path of the object.
+    #[tactic(auto, unfolding(crate::specs::Seen::object_seen))]
+    pub fn within(&self) -> Within
+        ensures { result ≡ (object_seen self.now).within }
+    {
+        self.within
+    }
+
     /// A field: the value under its key, unless that is null.
     #[tactic(auto, unfolding(crate::specs::Objects::field, crate::specs::Seen::object_seen))]
     pub fn field(&self, key: Key) -> Option<&'t SpanTree<'b>>
@@ -139,7 +182,7 @@ impl<'t, 'b> Fields<'t, 'b> {
     }
 
     // An object.
-    #[tactic(auto, unfolding(crate::specs::Values::object_in, crate::specs::Seen::object_seen))]
+    #[tactic(auto, unfolding(crate::specs::Values::object_in))]
     fn object_in(
         &self,
         key: Key,
@@ -149,10 +192,7 @@ impl<'t, 'b> Fields<'t, 'b> {
         ensures { seen_as object_seen result ≡ object_in within (object_seen self.now) key (span_seen value.now) }
     {
         match as_object(value) {
-            Some(members) => Ok(Fields {
-                within,
-                members: Members::Object(members),
-            }),
+            Some(members) => Ok(Fields::of_members(within, members)),
             None => Err(self.fault(FieldCode::WrongKind, key)),
         }
     }
@@ -394,7 +434,7 @@ impl<'t, 'b> Fields<'t, 'b> {
     }
 
     /// An object, which is empty where it is absent.
-    #[tactic(auto, unfolding(crate::specs::Values::object_or_empty, crate::specs::Seen::object_seen))]
+    #[tactic(auto, unfolding(crate::specs::Values::object_or_empty))]
     pub fn object_or_empty(&self, key: Key, within: Within) -> Result<Fields<'t, 'b>, FieldFault>
         ensures { seen_as object_seen result ≡ object_or_empty (object_seen self.now) key within }
     {
@@ -402,8 +442,7 @@ impl<'t, 'b> Fields<'t, 'b> {
             Some(fields) => Ok(fields),
             None => {
                 let none: &'t [SpanMember<'b>] = no_members();
-                let members = Members::Object(none);
-                Ok(Fields { within, members })
+                Ok(Fields::of_members(within, none))
             }
         }
     }

@@ -4,10 +4,11 @@ ghost use Rattle.fractions.specs.Fraction.{◌/ʳ◌, whole_fraction};
 ghost use Rattle.fractions.specs.Limits.{IsBelow};
 ghost use Rattle.fractions.specs.Reading.{ReadsNumeral};
 ghost use Rattle.energy_units.specs.Energy.{Reads};
-ghost use Rattle.prototype_fields.specs.Numbers.{energy_reading, is_amount, is_positive, numeral_reading, small_whole};
+ghost use Rattle.prototype_fields.specs.Numbers.{energy_reading, is_amount, is_less, is_positive, numeral_reading, small_whole};
 
 use energy_units::{EnergyFault, Measure, read_energy, read_power};
 use fractions::{NumeralFault, Ratio, read_numeral};
+use std::cmp::Ordering;
 
 /// The value of a numeral.
 ///
@@ -83,5 +84,16 @@ pub fn small_whole(number: &Ratio) -> Option<u32>
         Some(numerator as u32)
     } else {
         None
+    }
+}
+
+/// Whether a number is less than another.
+pub fn is_less(number: &Ratio, other: &Ratio) -> bool
+    ensures { result ≡ is_less number.now other.now }
+{
+    match number.cmp(other) {
+        Ordering::Less => true,
+        Ordering::Equal => false,
+        Ordering::Greater => false,
     }
 }
