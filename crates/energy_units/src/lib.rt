@@ -28,8 +28,10 @@ pub enum EnergyFault {
 
 /// What a text measures.
 #[derive(Clone, Copy, Debug, PartialEq, Eq)]
-enum Measure {
+pub enum Measure {
+    /// An energy: `J`.
     Joules,
+    /// A power: `W`, or `J` a tick.
     Watts,
 }
 

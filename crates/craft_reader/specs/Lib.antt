@@ -1,0 +1,5 @@
+pub mod Faults
+pub mod Goods
+pub mod Recipes
+pub mod Seen
+pub mod Technologies

@@ -1,0 +1,15 @@
+//! Recipes and technologies of a dump, by the fields of their prototypes, with names in place of ids.
+#![tactic(auto)]
+
+mod fault;
+mod goods;
+mod recipes;
+mod technologies;
+
+pub use fault::{DumpCode, DumpFault};
+pub use goods::{
+    GoodKind, NamedGood, RawPack, RawPart, RawProduct, ingredient, ingredients, pack, packs,
+    product, products,
+};
+pub use recipes::{RawRecipe, chosen, is_switched_off, raw_recipe, read_recipe};
+pub use technologies::{RawTech, raw_tech, read_tech};

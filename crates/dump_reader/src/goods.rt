@@ -1,0 +1,175 @@
+//! Items and fluids.
+ghost use Rattle.std.specs.Prelude.{◌≡◌, ◌<◌, ◌*◌, ◌/◌, ◌≤◌, ◌^◌, pos, true, IfOk, option_map, ℤ, unsigned_abs};
+ghost use Rattle.fractions.specs.Limits.{IsBelow};
+ghost use Rattle.prototype_fields.specs.Seen.{object_seen};
+ghost use Rattle.prototype_fields.specs.Values.{Gives, with_names};
+ghost use Rattle.dump_reader.specs.Goods.{fluid_of, is_bonus, hundredths_of, bonus_in, bonus_of, module_of, optional_module, fuel_of, item_of};
+
+use crate::raw::{RawItem, RawModule};
+use crate::sections::Section;
+use fractions::Ratio;
+use game_types::{Bonus, Fluid, Fuel};
+use name_table::Names;
+use plan_base::{NoMemory, Text};
+use prototype_fields::{FieldCode, FieldFault, Fields, Key, Within};
+use std::alloc::Global;
+
+/// A fluid.
+pub fn read_fluid(fields: &Fields<'_, '_>) -> Result<Fluid, FieldFault>
+    ensures { result ≡ fluid_of (object_seen fields.now) }
+{
+    let fuel_value = fields.energy_or(Key::FuelValue, Ratio::zero())?;
+    let heat_capacity = fields.energy_or(Key::HeatCapacity, Ratio::whole(1000))?;
+    let default_temperature = fields.number_or(Key::DefaultTemperature, Ratio::whole(15))?;
+    Ok(Fluid {
+        fuel_value,
+        heat_capacity,
+        default_temperature,
+    })
+}
+
+/// A name of its own, where one is given.
+pub fn owned(alloc: Global, name: Option<&str>) -> Result<Option<Text>, NoMemory>
+    ensures { IfOk result (λ text. text ≡ option_map (λ name. name.now) name.entry) }
+{
+    match name {
+        Some(name) => Ok(Some(Text::copy(alloc, name)?)),
+        None => Ok(None),
+    }
+}
+
+// Denominators above this are past every numerator over 1,000,000.
+const LARGE: u128 = 1 << 108;
+
+// Whether a number is at most 1,000,000 in magnitude.
+fn is_bonus(number: &Ratio) -> bool
+    ensures { result ≡ is_bonus number.now }
+{
+    let numerator = number.numerator().unsigned_abs();
+    let denominator = number.denominator() as u128;
+    LARGE <= denominator || numerator <= 1_000_000 * denominator
+}
+
+// The hundredths of a magnitude, cut.
+fn cut_hundredths(numerator: u128, denominator: u128) -> i64
+    requires positive { 0 < denominator }
+    requires small { numerator < 2 ^ 120 }
+    requires bonus { numerator ≤ 1_000_000 * denominator }
+    ensures value { result ≡ pos (numerator * 100 / denominator) }
+    ensures limit { numerator * 100 / denominator ≤ 100_000_000 }
+{
+    let cut = numerator * 100 / denominator;
+    prove!(cut <= 100_000_000);
+    cut as i64
+}
+
+// The hundredths of a number, cut toward zero.
+fn hundredths_of(number: &Ratio) -> i64
+    requires small { IsBelow 120 number.now }
+    requires bonus { is_bonus number.now ≡ true }
+    ensures { result ≡ hundredths_of number.now }
+{
+    let numerator = number.numerator();
+    let cut = cut_hundredths(numerator.unsigned_abs(), number.denominator() as u128);
+    if numerator < 0 { -cut } else { cut }
+}
+
+// The bonus of one kind.
+#[tactic(auto, unfolding(crate::specs::Goods::bonus_in))]
+fn read_bonus(effect: &Fields<'_, '_>, key: Key, within: Within) -> Result<i64, FieldFault>
+    ensures value { result ≡ bonus_in (object_seen effect.now) key within }
+{
+    let kind = effect.object_or_empty(key, within)?;
+    let Some(bonus) = kind.number(Key::Bonus)? else {
+        return Ok(0);
+    };
+    if is_bonus(&bonus) {
+        Ok(hundredths_of(&bonus))
+    } else {
+        Err(kind.fault(FieldCode::Limit, Key::Bonus))
+    }
+}
+
+fn read_effect(effect: &Fields<'_, '_>) -> Result<Bonus, FieldFault>
+    ensures { result ≡ bonus_of (object_seen effect.now) }
+{
+    let speed = read_bonus(effect, Key::Speed, Within::EffectSpeed)?;
+    let productivity = read_bonus(effect, Key::Productivity, Within::EffectProductivity)?;
+    let consumption = read_bonus(effect, Key::Consumption, Within::EffectConsumption)?;
+    let pollution = read_bonus(effect, Key::Pollution, Within::EffectPollution)?;
+    Ok(Bonus {
+        speed,
+        productivity,
+        consumption,
+        pollution,
+    })
+}
+
+#[tactic(auto, unfolding(crate::specs::Goods::module_of))]
+fn read_module(alloc: Global, fields: &Fields<'_, '_>) -> Result<RawModule, FieldFault>
+    ensures { Gives (module_of (object_seen fields.now)) result }
+{
+    let effect = fields.object_or_empty(Key::Effect, Within::Effect)?;
+    let bonus = read_effect(&effect)?;
+    let recipes = fields.list_or_empty(Key::Limitation)?;
+    let limitation = fields.names_in(alloc, Key::Limitation, recipes)?;
+    let others = fields.list_or_empty(Key::LimitationBlacklist)?;
+    let blacklist = fields.names_in(alloc, Key::LimitationBlacklist, others)?;
+    Ok(RawModule {
+        bonus,
+        limitation,
+        blacklist,
+    })
+}
+
+#[tactic(auto, unfolding(crate::specs::Goods::optional_module))]
+fn optional_module(
+    alloc: Global,
+    section: Section,
+    fields: &Fields<'_, '_>,
+) -> Result<Option<RawModule>, FieldFault>
+    ensures { Gives (optional_module section (object_seen fields.now)) result }
+{
+    match section {
+        Section::Module => Ok(Some(read_module(alloc, fields)?)),
+        _ => Ok(None),
+    }
+}
+
+fn fuel_of(category: Option<u32>, value: Ratio, emissions: Ratio) -> Option<Fuel>
+    ensures { result ≡ fuel_of category value emissions }
+{
+    match category {
+        Some(category) => Some(Fuel {
+            category,
+            value,
+            emissions,
+        }),
+        None => None,
+    }
+}
+
+/// An item.
+pub fn read_item(
+    alloc: Global,
+    section: Section,
+    fields: &Fields<'_, '_>,
+    names: &mut Names,
+) -> Result<RawItem, FieldFault>
+    ensures { Gives (item_of section (object_seen fields.now) names.old) (with_names names.new result) }
+{
+    let place = owned(alloc, fields.name(Key::PlaceResult)?)?;
+    let category = fields.name(Key::FuelCategory)?;
+    let category = fields.optional_category(Key::FuelCategory, category, names)?;
+    let value = fields.energy_or(Key::FuelValue, Ratio::zero())?;
+    let emissions = fields.amount_or(Key::FuelEmissionsMultiplier, Ratio::one())?;
+    let burnt = owned(alloc, fields.name(Key::BurntResult)?)?;
+    let module = optional_module(alloc, section, fields)?;
+    Ok(RawItem {
+        section,
+        place,
+        fuel: fuel_of(category, value, emissions),
+        burnt,
+        module,
+    })
+}

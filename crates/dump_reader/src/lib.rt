@@ -1,0 +1,11 @@
+//! The whole dump: from its bytes to the typed game.
+#![tactic(auto)]
+
+mod energy;
+mod goods;
+mod machines;
+mod raw;
+mod sections;
+
+pub use raw::{RawEnergy, RawItem, RawKind, RawMachine, RawModule};
+pub use sections::Section;

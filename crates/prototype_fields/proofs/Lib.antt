@@ -1,0 +1,3 @@
+pub mod Each
+pub mod NumbersLemmas
+pub mod TreesLemmas

@@ -1,0 +1,535 @@
+//! The fields of an object of a prototype.
+ghost use Rattle.std.specs.Prelude.{◌≡◌, IfOk, IfSome, option_map, length};
+ghost use Rattle.json_text.specs.SpanSeen.{members_seen, span_seen, spans_seen};
+ghost use Rattle.fractions.specs.Limits.{IsBelow};
+ghost use Rattle.energy_units.specs.declared.Measure.TheVariants.{Joules, Watts};
+ghost use Rattle.prototype_fields.specs.Objects.{field, pair_members, value_at};
+ghost use Rattle.prototype_fields.specs.Seen.{listed_members, object_seen};
+ghost use Rattle.prototype_fields.specs.Values.{Reading, amount, amount_in, amount_or, energy_in, energy_or, fault_at, flag_or, list, list_or_empty, name, name_or, number, number_in, number_or, object_at, object_element, object_in, object_or_empty, positive, positive_in, positive_or, power, required, required_amount, required_list, required_name, required_object, required_positive, required_power, required_short_list, seen_as, short_list, short_list_or_empty, text, text_in, unless_empty, whole_or};
+
+use crate::numbers::{energy, is_amount, is_positive, numeral, small_whole};
+use crate::trees::{
+    as_bytes, as_flag, as_list, as_number, as_object, as_text, no_elements, no_members,
+    unless_null, value_at,
+};
+use crate::{FieldCode, FieldFault, Key, Within};
+use energy_units::Measure;
+use fractions::{NumeralFault, Ratio};
+use json_text::{SpanMember, SpanTree};
+
+/// The most elements that a short list has.
+pub const LIST_LIMIT: usize = 1_024;
+
+// Where fields are read of.
+#[derive(Clone, Copy)]
+pub(crate) enum Members<'t, 'b> {
+    Object(&'t [SpanMember<'b>]),
+    // A list that stands for an object.
+    Pair(&'t [SpanTree<'b>]),
+}
+
+/// The fields of an object of a prototype, and the path of that object.
+#[derive(Clone, Copy)]
+pub struct Fields<'t, 'b> {
+    within: Within,
+    members: Members<'t, 'b>,
+}
+
+// The value of a list that stands for an object.
+fn in_pair<'t, 'b>(key: &str, elements: &'t [SpanTree<'b>]) -> Option<&'t SpanTree<'b>>
+    ensures { option_map (λ value. span_seen value.now) result ≡ value_at key.now (pair_members (spans_seen elements.now)) }
+{
+    match elements {
+        [] => None,
+        [name] => if key == "name" { Some(name) } else { None },
+        [name, amount, ..] => {
+            if key == "name" {
+                Some(name)
+            } else if key == "amount" {
+                Some(amount)
+            } else {
+                None
+            }
+        }
+    }
+}
+
+impl<'t, 'b> Members<'t, 'b> {
+    // The value under a key.
+    fn value_at(&self, key: &str) -> Option<&'t SpanTree<'b>>
+        ensures { option_map (λ value. span_seen value.now) result ≡ value_at key.now (listed_members self.now) }
+    {
+        match *self {
+            Members::Object(members) => value_at(key, members),
+            Members::Pair(elements) => in_pair(key, elements),
+        }
+    }
+}
+
+impl<'t, 'b> Fields<'t, 'b> {
+    /// The fields of an object with these members.
+    #[tactic(auto, unfolding(crate::specs::Seen::object_seen))]
+    pub fn of_members(within: Within, members: &'t [SpanMember<'b>]) -> Fields<'t, 'b>
+        ensures { object_seen result ≡ record { within = within; members = members_seen members.now } }
+    {
+        let members = Members::Object(members);
+        Fields { within, members }
+    }
+
+    /// The fields of the object that a list of a name, or of a name and an amount, stands for.
+    #[tactic(auto, unfolding(crate::specs::Seen::object_seen))]
+    pub fn of_pair(within: Within, elements: &'t [SpanTree<'b>]) -> Fields<'t, 'b>
+        ensures { object_seen result ≡ record { within = within; members = pair_members (spans_seen elements.now) } }
+    {
+        let members = Members::Pair(elements);
+        Fields { within, members }
+    }
+
+    /// The fields of a prototype, or of an element of a list, which is an object.
+    ///
+    /// # Errors
+    ///
+    /// `WrongKind` where it is none.
+    #[tactic(auto, unfolding(crate::specs::Values::object_element))]
+    pub fn of_element(
+        within: Within,
+        element: &'t SpanTree<'b>,
+    ) -> Result<Fields<'t, 'b>, FieldFault>
+        ensures { seen_as object_seen result ≡ object_element within (span_seen element.now) }
+    {
+        match as_object(element) {
+            Some(members) => Ok(Fields::of_members(within, members)),
+            None => Err(FieldFault::of_element(FieldCode::WrongKind, within)),
+        }
+    }
+
+    /// The path of the object.
+    #[tactic(auto, unfolding(crate::specs::Seen::object_seen))]
+    pub fn within(&self) -> Within
+        ensures { result ≡ (object_seen self.now).within }
+    {
+        self.within
+    }
+
+    /// A field: the value under its key, unless that is null.
+    #[tactic(auto, unfolding(crate::specs::Objects::field, crate::specs::Seen::object_seen))]
+    pub fn field(&self, key: Key) -> Option<&'t SpanTree<'b>>
+        ensures { option_map (λ value. span_seen value.now) result ≡ field (object_seen self.now) key }
+    {
+        match self.members.value_at(key.text()) {
+            Some(value) => unless_null(value),
+            None => None,
+        }
+    }
+
+    /// A fault of a field.
+    #[tactic(auto, unfolding(crate::specs::Seen::object_seen))]
+    pub fn fault(&self, code: FieldCode, key: Key) -> FieldFault
+        ensures { result ≡ fault_at code (object_seen self.now) key }
+    {
+        FieldFault {
+            code,
+            within: self.within,
+            key: Some(key),
+        }
+    }
+
+    // A text.
+    #[tactic(auto, unfolding(crate::specs::Values::text_in))]
+    pub(crate) fn text_in(&self, key: Key, value: &'t SpanTree<'b>) -> Result<&'t str, FieldFault>
+        ensures { seen_as (λ text. text.now) result ≡ text_in (object_seen self.now) key (span_seen value.now) }
+    {
+        match as_text(value) {
+            Some(text) => Ok(text),
+            None => Err(self.fault(FieldCode::WrongKind, key)),
+        }
+    }
+
+    // A number of any sign.
+    #[tactic(auto, unfolding(crate::specs::Values::number_in))]
+    fn number_in(&self, key: Key, value: &'t SpanTree<'b>) -> Result<Ratio, FieldFault>
+        ensures value { result ≡ number_in (object_seen self.now) key (span_seen value.now) }
+        ensures small { IfOk result (IsBelow 120) }
+    {
+        let Some(digits) = as_number(value) else {
+            return Err(self.fault(FieldCode::WrongKind, key));
+        };
+        match numeral(digits) {
+            Ok(number) => Ok(number),
+            Err(NumeralFault::TooLarge) => Err(self.fault(FieldCode::Number, key)),
+            Err(NumeralFault::NotNumeral) => Err(self.fault(FieldCode::WrongKind, key)),
+        }
+    }
+
+    // An energy or a power.
+    #[tactic(auto, unfolding(crate::specs::Values::energy_in))]
+    fn energy_in(
+        &self,
+        measure: Measure,
+        key: Key,
+        value: &'t SpanTree<'b>,
+    ) -> Result<Ratio, FieldFault>
+        ensures value { result ≡ energy_in measure (object_seen self.now) key (span_seen value.now) }
+        ensures small { IfOk result (IsBelow 120) }
+    {
+        let Some(text) = as_bytes(value) else {
+            return Err(self.fault(FieldCode::WrongKind, key));
+        };
+        match energy(measure, text) {
+            Ok(number) => Ok(number),
+            Err(_) => Err(self.fault(FieldCode::Energy, key)),
+        }
+    }
+
+    // An object.
+    #[tactic(auto, unfolding(crate::specs::Values::object_in))]
+    fn object_in(
+        &self,
+        key: Key,
+        within: Within,
+        value: &'t SpanTree<'b>,
+    ) -> Result<Fields<'t, 'b>, FieldFault>
+        ensures { seen_as object_seen result ≡ object_in within (object_seen self.now) key (span_seen value.now) }
+    {
+        match as_object(value) {
+            Some(members) => Ok(Fields::of_members(within, members)),
+            None => Err(self.fault(FieldCode::WrongKind, key)),
+        }
+    }
+
+    /// A text, which may be absent.
+    #[tactic(auto, unfolding(crate::specs::Values::text))]
+    pub fn text(&self, key: Key) -> Result<Option<&'t str>, FieldFault>
+        ensures { seen_as (option_map (λ text. text.now)) result ≡ text (object_seen self.now) key }
+    {
+        match self.field(key) {
+            Some(value) => Ok(Some(self.text_in(key, value)?)),
+            None => Ok(None),
+        }
+    }
+
+    /// A name, which may be absent or empty.
+    #[tactic(auto, unfolding(crate::specs::Values::name))]
+    pub fn name(&self, key: Key) -> Result<Option<&'t str>, FieldFault>
+        ensures { seen_as (option_map (λ text. text.now)) result ≡ name (object_seen self.now) key }
+    {
+        match self.text(key)? {
+            Some(text) => Ok(unless_empty(text)),
+            None => Ok(None),
+        }
+    }
+
+    /// A name that is required.
+    #[tactic(auto, unfolding(crate::specs::Values::required_name))]
+    pub fn required_name(&self, key: Key) -> Result<&'t str, FieldFault>
+        ensures { seen_as (λ text. text.now) result ≡ required_name (object_seen self.now) key }
+    {
+        match self.name(key)? {
+            Some(name) => Ok(name),
+            None => Err(self.fault(FieldCode::Missing, key)),
+        }
+    }
+
+    /// A name with a default.
+    #[tactic(auto, unfolding(crate::specs::Values::name_or))]
+    pub fn name_or(&self, key: Key, default: &'static str) -> Result<&'t str, FieldFault>
+        ensures { seen_as (λ text. text.now) result ≡ name_or (object_seen self.now) key default.now }
+    {
+        match self.name(key)? {
+            Some(name) => Ok(name),
+            None => Ok(default),
+        }
+    }
+
+    /// A truth value with a default.
+    #[tactic(auto, unfolding(crate::specs::Values::flag_or))]
+    pub fn flag_or(&self, key: Key, default: bool) -> Result<bool, FieldFault>
+        ensures { result ≡ flag_or (object_seen self.now) key default }
+    {
+        let Some(value) = self.field(key) else {
+            return Ok(default);
+        };
+        match as_flag(value) {
+            Some(flag) => Ok(flag),
+            None => Err(self.fault(FieldCode::WrongKind, key)),
+        }
+    }
+
+    /// A number of any sign, which may be absent.
+    #[tactic(auto, unfolding(crate::specs::Values::number))]
+    pub fn number(&self, key: Key) -> Result<Option<Ratio>, FieldFault>
+        ensures value { result ≡ number (object_seen self.now) key }
+        ensures small { IfOk result (λ found. IfSome found (IsBelow 120)) }
+    {
+        match self.field(key) {
+            Some(value) => Ok(Some(self.number_in(key, value)?)),
+            None => Ok(None),
+        }
+    }
+
+    /// A number of any sign with a default.
+    #[tactic(auto, unfolding(crate::specs::Values::number_or))]
+    pub fn number_or(&self, key: Key, default: Ratio) -> Result<Ratio, FieldFault>
+        ensures { result ≡ number_or (object_seen self.now) key default }
+    {
+        Ok(self.number(key)?.unwrap_or(default))
+    }
+
+    // A number of at least 0.
+    fn amount_in(&self, key: Key, value: &'t SpanTree<'b>) -> Result<Ratio, FieldFault>
+        ensures value { result ≡ amount_in (object_seen self.now) key (span_seen value.now) }
+        ensures small { IfOk result (IsBelow 120) }
+    {
+        let number = self.number_in(key, value)?;
+        if is_amount(&number) {
+            Ok(number)
+        } else {
+            Err(self.fault(FieldCode::Limit, key))
+        }
+    }
+
+    /// A number of at least 0, which may be absent.
+    #[tactic(auto, unfolding(crate::specs::Values::amount))]
+    pub fn amount(&self, key: Key) -> Result<Option<Ratio>, FieldFault>
+        ensures value { result ≡ amount (object_seen self.now) key }
+        ensures small { IfOk result (λ found. IfSome found (IsBelow 120)) }
+    {
+        match self.field(key) {
+            Some(value) => Ok(Some(self.amount_in(key, value)?)),
+            None => Ok(None),
+        }
+    }
+
+    /// A number of at least 0 that is required.
+    #[tactic(auto, unfolding(crate::specs::Values::required_amount))]
+    pub fn required_amount(&self, key: Key) -> Result<Ratio, FieldFault>
+        ensures { result ≡ required_amount (object_seen self.now) key }
+    {
+        match self.amount(key)? {
+            Some(number) => Ok(number),
+            None => Err(self.fault(FieldCode::Missing, key)),
+        }
+    }
+
+    /// A number of at least 0 with a default.
+    #[tactic(auto, unfolding(crate::specs::Values::amount_or))]
+    pub fn amount_or(&self, key: Key, default: Ratio) -> Result<Ratio, FieldFault>
+        ensures { result ≡ amount_or (object_seen self.now) key default }
+    {
+        Ok(self.amount(key)?.unwrap_or(default))
+    }
+
+    // A number above 0.
+    fn positive_in(&self, key: Key, value: &'t SpanTree<'b>) -> Result<Ratio, FieldFault>
+        ensures { result ≡ positive_in (object_seen self.now) key (span_seen value.now) }
+    {
+        let number = self.number_in(key, value)?;
+        if is_positive(&number) {
+            Ok(number)
+        } else {
+            Err(self.fault(FieldCode::Limit, key))
+        }
+    }
+
+    /// A number above 0, which may be absent.
+    #[tactic(auto, unfolding(crate::specs::Values::positive))]
+    pub fn positive(&self, key: Key) -> Result<Option<Ratio>, FieldFault>
+        ensures { result ≡ positive (object_seen self.now) key }
+    {
+        match self.field(key) {
+            Some(value) => Ok(Some(self.positive_in(key, value)?)),
+            None => Ok(None),
+        }
+    }
+
+    /// A number above 0 that is required.
+    #[tactic(auto, unfolding(crate::specs::Values::required_positive))]
+    pub fn required_positive(&self, key: Key) -> Result<Ratio, FieldFault>
+        ensures { result ≡ required_positive (object_seen self.now) key }
+    {
+        match self.positive(key)? {
+            Some(number) => Ok(number),
+            None => Err(self.fault(FieldCode::Missing, key)),
+        }
+    }
+
+    /// A number above 0 with a default.
+    #[tactic(auto, unfolding(crate::specs::Values::positive_or))]
+    pub fn positive_or(&self, key: Key, default: Ratio) -> Result<Ratio, FieldFault>
+        ensures { result ≡ positive_or (object_seen self.now) key default }
+    {
+        Ok(self.positive(key)?.unwrap_or(default))
+    }
+
+    /// A whole number of at most 65,535, with a default.
+    #[tactic(auto, unfolding(crate::specs::Values::whole_or))]
+    pub fn whole_or(&self, key: Key, default: u32) -> Result<u32, FieldFault>
+        ensures { result ≡ whole_or (object_seen self.now) key default }
+    {
+        let Some(value) = self.field(key) else {
+            return Ok(default);
+        };
+        let number = self.number_in(key, value)?;
+        match small_whole(&number) {
+            Some(whole) => Ok(whole),
+            None => Err(self.fault(FieldCode::Limit, key)),
+        }
+    }
+
+    /// An energy in joules, with a default.
+    #[tactic(auto, unfolding(crate::specs::Values::energy_or))]
+    pub fn energy_or(&self, key: Key, default: Ratio) -> Result<Ratio, FieldFault>
+        ensures { result ≡ energy_or (object_seen self.now) key default }
+    {
+        match self.field(key) {
+            Some(value) => self.energy_in(Measure::Joules, key, value),
+            None => Ok(default),
+        }
+    }
+
+    /// A power in watts, which may be absent.
+    #[tactic(auto, unfolding(crate::specs::Values::power))]
+    pub fn power(&self, key: Key) -> Result<Option<Ratio>, FieldFault>
+        ensures value { result ≡ power (object_seen self.now) key }
+        ensures small { IfOk result (λ found. IfSome found (IsBelow 120)) }
+    {
+        match self.field(key) {
+            Some(value) => Ok(Some(self.energy_in(Measure::Watts, key, value)?)),
+            None => Ok(None),
+        }
+    }
+
+    /// A power in watts that is required.
+    #[tactic(auto, unfolding(crate::specs::Values::required_power))]
+    pub fn required_power(&self, key: Key) -> Result<Ratio, FieldFault>
+        ensures value { result ≡ required_power (object_seen self.now) key }
+        ensures small { IfOk result (IsBelow 120) }
+    {
+        match self.power(key)? {
+            Some(number) => Ok(number),
+            None => Err(self.fault(FieldCode::Missing, key)),
+        }
+    }
+
+    /// An object, which may be absent, and the path that it has.
+    #[tactic(auto, unfolding(crate::specs::Values::object_at))]
+    pub fn object(&self, key: Key, within: Within) -> Result<Option<Fields<'t, 'b>>, FieldFault>
+        ensures { seen_as (option_map object_seen) result ≡ object_at (object_seen self.now) key within }
+    {
+        match self.field(key) {
+            Some(value) => Ok(Some(self.object_in(key, within, value)?)),
+            None => Ok(None),
+        }
+    }
+
+    /// An object that is required.
+    #[tactic(auto, unfolding(crate::specs::Values::required_object))]
+    pub fn required_object(&self, key: Key, within: Within) -> Result<Fields<'t, 'b>, FieldFault>
+        ensures { seen_as object_seen result ≡ required_object (object_seen self.now) key within }
+    {
+        match self.object(key, within)? {
+            Some(fields) => Ok(fields),
+            None => Err(self.fault(FieldCode::Missing, key)),
+        }
+    }
+
+    /// An object, which is empty where it is absent.
+    #[tactic(auto, unfolding(crate::specs::Values::object_or_empty))]
+    pub fn object_or_empty(&self, key: Key, within: Within) -> Result<Fields<'t, 'b>, FieldFault>
+        ensures { seen_as object_seen result ≡ object_or_empty (object_seen self.now) key within }
+    {
+        match self.object(key, within)? {
+            Some(fields) => Ok(fields),
+            None => {
+                let none: &'t [SpanMember<'b>] = no_members();
+                Ok(Fields::of_members(within, none))
+            }
+        }
+    }
+
+    /// A list, which may be absent.
+    #[tactic(auto, unfolding(crate::specs::Values::list))]
+    pub fn list(&self, key: Key) -> Result<Option<&'t [SpanTree<'b>]>, FieldFault>
+        ensures { seen_as (option_map (λ elements. spans_seen elements.now)) result ≡ list (object_seen self.now) key }
+    {
+        let Some(value) = self.field(key) else {
+            return Ok(None);
+        };
+        match as_list(value) {
+            Some(elements) => Ok(Some(elements)),
+            None => Err(self.fault(FieldCode::WrongKind, key)),
+        }
+    }
+
+    /// A list that is required.
+    #[tactic(auto, unfolding(crate::specs::Values::required_list))]
+    pub fn required_list(&self, key: Key) -> Result<&'t [SpanTree<'b>], FieldFault>
+        ensures { seen_as (λ elements. spans_seen elements.now) result ≡ required_list (object_seen self.now) key }
+    {
+        match self.list(key)? {
+            Some(elements) => Ok(elements),
+            None => Err(self.fault(FieldCode::Missing, key)),
+        }
+    }
+
+    /// A list, which is empty where it is absent.
+    #[tactic(auto, unfolding(crate::specs::Values::list_or_empty))]
+    pub fn list_or_empty(&self, key: Key) -> Result<&'t [SpanTree<'b>], FieldFault>
+        ensures { seen_as (λ elements. spans_seen elements.now) result ≡ list_or_empty (object_seen self.now) key }
+    {
+        match self.list(key)? {
+            Some(elements) => Ok(elements),
+            None => {
+                let none: &'t [SpanTree<'b>] = no_elements();
+                Ok(none)
+            }
+        }
+    }
+
+    /// A list of at most 1,024 elements, which may be absent.
+    #[tactic(auto, unfolding(crate::specs::Values::short_list))]
+    pub fn short_list(&self, key: Key) -> Result<Option<&'t [SpanTree<'b>]>, FieldFault>
+        ensures { seen_as (option_map (λ elements. spans_seen elements.now)) result ≡ short_list (object_seen self.now) key }
+    {
+        let Some(elements) = self.list(key)? else {
+            return Ok(None);
+        };
+        if elements.len() <= LIST_LIMIT {
+            Ok(Some(elements))
+        } else {
+            Err(self.fault(FieldCode::Limit, key))
+        }
+    }
+
+    /// A list of at most 1,024 elements that is required.
+    #[tactic(auto, unfolding(crate::specs::Values::required_short_list))]
+    pub fn required_short_list(&self, key: Key) -> Result<&'t [SpanTree<'b>], FieldFault>
+        ensures { seen_as (λ elements. spans_seen elements.now) result ≡ required_short_list (object_seen self.now) key }
+    {
+        match self.short_list(key)? {
+            Some(elements) => Ok(elements),
+            None => Err(self.fault(FieldCode::Missing, key)),
+        }
+    }
+
+    /// A list of at most 1,024 elements, which is empty where it is absent.
+    #[tactic(auto, unfolding(crate::specs::Values::short_list_or_empty))]
+    pub fn short_list_or_empty(&self, key: Key) -> Result<&'t [SpanTree<'b>], FieldFault>
+        ensures { seen_as (λ elements. spans_seen elements.now) result ≡ short_list_or_empty (object_seen self.now) key }
+    {
+        match self.short_list(key)? {
+            Some(elements) => Ok(elements),
+            None => {
+                let none: &'t [SpanTree<'b>] = no_elements();
+                Ok(none)
+            }
+        }
+    }
+}
+
+// A text, unless it is empty.
+pub(crate) fn unless_empty(text: &str) -> Option<&str>
+    ensures { option_map (λ text. text.now) result ≡ unless_empty text.now }
+{
+    if text.is_empty() { None } else { Some(text) }
+}
