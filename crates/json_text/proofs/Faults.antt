@@ -654,7 +654,7 @@ number_answer_fault keep a digits p [] true code at h = absurd (cc)
 number_answer_fault keep a digits p [] false code at h = (cc, cc)
 number_answer_fault keep a digits p (f ∷ fs) whole code at h = (cc, cc)
 
-answer_fault : (p : ℕ) (σ : State) (code : JsonCode) (at : ℕ) → IsWell σ → answer_of p σ ≡ fault code at → (code ≡ NotJson) × (at ≡ p)
+pub answer_fault : (p : ℕ) (σ : State) (code : JsonCode) (at : ℕ) → IsWell σ → answer_of p σ ≡ fault code at → (code ≡ NotJson) × (at ≡ p)
 answer_fault p (value keep n fs) code at w h = (cc, cc)
 answer_fault p (first_element n f fs) code at w h = (cc, cc)
 answer_fault p (after n f fs) code at w h = (cc, cc)
@@ -668,7 +668,7 @@ answer_fault p (in_word v a rest n fs) code at w h = (cc, cc)
 answer_fault p (done v) code at w h = absurd (cc)
 answer_fault p (faulted c a) code at w h = absurd w
 
-same_fault : (l : Bounds) (w : Wishes) (p : ℕ) (c code : JsonCode) (a at : ℕ) (bytes : List ℕ) → run l w p (faulted c a) bytes ≡ fault code at → (c ≡ code) × (a ≡ at)
+pub same_fault : (l : Bounds) (w : Wishes) (p : ℕ) (c code : JsonCode) (a at : ℕ) (bytes : List ℕ) → run l w p (faulted c a) bytes ≡ fault code at → (c ≡ code) × (a ≡ at)
 same_fault l w p c code a at bytes h = let f = run-faulted l w p c a bytes in (cc, cc)
 
 -- by the kind that the byte has

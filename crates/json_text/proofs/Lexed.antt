@@ -403,3 +403,19 @@ ok_then (Err e) h f = tt
 pub err_then : {T E : Type 0} {P Q : E → Type 0} → (r : Result T E) → IfErr r P → ((x : E) → P x → Q x) → IfErr r Q
 err_then (Ok x) h f = tt
 err_then (Err e) h f = f e h
+
+pub ok_then2 : {T E : Type 0} {P Q R : T → Type 0} → (r : Result T E) → IfOk r P → IfOk r Q → ((x : T) → P x → Q x → R x) → IfOk r R
+ok_then2 (Ok x) h g f = f x h g
+ok_then2 (Err e) h g f = tt
+
+pub err_then2 : {T E : Type 0} {P Q R : E → Type 0} → (r : Result T E) → IfErr r P → IfErr r Q → ((x : E) → P x → Q x → R x) → IfErr r R
+err_then2 (Ok x) h g f = tt
+err_then2 (Err e) h g f = f e h g
+
+pub ok_then3 : {T E : Type 0} {P Q R S : T → Type 0} → (r : Result T E) → IfOk r P → IfOk r Q → IfOk r R → ((x : T) → P x → Q x → R x → S x) → IfOk r S
+ok_then3 (Ok x) h g i f = f x h g i
+ok_then3 (Err e) h g i f = tt
+
+pub err_then4 : {T E : Type 0} {P Q R S U : E → Type 0} → (r : Result T E) → IfErr r P → IfErr r Q → IfErr r R → IfErr r S → ((x : E) → P x → Q x → R x → S x → U x) → IfErr r U
+err_then4 (Ok x) h g i j f = tt
+err_then4 (Err e) h g i j f = f e h g i j

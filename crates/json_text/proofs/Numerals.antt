@@ -9,6 +9,7 @@ use Rattle.json_text.specs.Text.{IsDigits, IsWhole, IsFraction, IsSign, IsExpone
 use Rattle.json_text.specs.Lexing.{number_next, is_whole, is_digit, is_nonzero, is_mark, is_sign}
 use Rattle.json_text.specs.declared.number.Phase.{Phase}
 use Rattle.json_text.specs.declared.number.Phase.TheVariants.{Minus, Zero, Whole, Dot, Fraction, Mark, Sign, Exponent}
+use Rattle.json_text.specs.Cutting.{Phases, Starts, starts_zero, starts_whole, starts_minus}
 use Rattle.json_text.proofs.Chars.{split}
 
 abbrev pub IsMinus : List ℕ → Type 0
@@ -172,11 +173,7 @@ number_read raw Sign p h = absurd (cc)
 number_read raw Exponent p h = numeral raw p.0 p.1 p.2 (p.3 ∷ (p.4 ++ p.5)) p.6 p.7 p.8 (exponent_of p.3 p.4 p.5 p.9 p.10 p.11) p.12
 
 -- The other way: a numeral is read whole.
-abbrev pub Phases : Phase → List ℕ → Phase → Type 0
-Phases p [] q = p ≡ q
-Phases p (b ∷ bytes) q = (next : Phase) × (number_next p b ≡ Some next) × Phases next bytes q
-
-phases_append : (p q r : Phase) (xs ys : List ℕ) → Phases p xs q → Phases q ys r → Phases p (xs ++ ys) r
+pub phases_append : (p q r : Phase) (xs ys : List ℕ) → Phases p xs q → Phases q ys r → Phases p (xs ++ ys) r
 phases_append p q r [] ys h i = subst (λ x. Phases x ys r) (sym h) i
 phases_append p q r (b ∷ xs) ys h i = (h.0, h.1, phases_append h.0 q r xs ys h.2 i)
 
@@ -258,12 +255,6 @@ fraction_ends p f e t dot (inr x) ie =
     let spelled : f ≡ 46 ∷ x.0 = x.2 in
     record { last = r.last; phases = subst (λ y. Phases p (y ++ e) r.last) (sym spelled) (Dot, dot, phases_append Dot Fraction r.last x.0 e (dot_digits x.0 x.1) r.phases); whole = r.whole }
 
--- how a numeral begins
-pub data Starts : ℕ → Phase → Type 0 where
-  starts_zero : Starts 48 Zero
-  starts_whole : (b : ℕ) → is_nonzero b ≡ true → Starts b Whole
-  starts_minus : Starts 45 Minus
-
 pub record NumberRuns (digits : List ℕ) : Type 0 where
   pub first : ℕ
   pub rest : List ℕ
@@ -275,7 +266,7 @@ pub record NumberRuns (digits : List ℕ) : Type 0 where
 nonzero_first : (d : ℕ) → d ≢ 48 → is_ascii_digit d ≡ true → is_nonzero d ≡ true
 nonzero_first d n h = grind (arith, nat_tests)
 
-nonzero_unsigned : (b : ℕ) → is_nonzero b ≡ true → number_next Minus b ≡ Some Whole
+pub nonzero_unsigned : (b : ℕ) → is_nonzero b ≡ true → number_next Minus b ≡ Some Whole
 nonzero_unsigned b h = let no : (b == 48) ≡ false = grind (arith, nat_tests) in rw (no, h) refl
 
 record WholeRuns (digits : List ℕ) : Type 0 where

@@ -2,6 +2,8 @@ use Rattle.std.proofs.Common.{◌≡◌, ◌∙◌, sym, arith, get_or, inr}
 use Rattle.json_text.specs.Lexing.{lex_next}
 use Rattle.json_text.specs.declared.lex.LexGo.TheVariants.{Goes}
 use Rattle.json_text.proofs.Lexed.{push_at, push_unmarked, no_end, from-bad, from-cut, said}
+use Rattle.std.specs.Prelude.{slice_range}
+use Rattle.json_text.proofs.Cuts.{lex_code}
 use Rattle.json_text.proofs.scan.char_end.Goals as goal
 
 pub returns-in-Between-clause-runs : goal.returns-in-Between-clause-runs
@@ -36,3 +38,6 @@ returns-in-Bad-clause-fault c = λ w q s n fs. from-bad w c.args.bytes.now c.arg
 
 pub returns-clause-fault : goal.returns-clause-fault
 returns-clause-fault c = λ w q s n fs. from-cut w c.args.bytes.now c.args.at c.bytes.i q s n fs (omega arith) (omega arith) (omega arith) c.bytes.invariant.runs ∙ said _ _ _ _ c.not_json.ensures.code c.not_json.ensures.at
+
+pub returns-in-Bad-clause-code : goal.returns-in-Bad-clause-code
+returns-in-Bad-clause-code c = lex_code c.bytes.lex (slice_range c.args.bytes.now c.args.at c.bytes.i) (get_or c.args.bytes.now c.bytes.i 0) c.in-Bad.code c.bytes.invariant.runs c.bytes.invariant.end (sym c.lex_next.ensures ∙ c.in-Bad.is)

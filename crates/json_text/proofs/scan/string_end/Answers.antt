@@ -5,6 +5,9 @@ use Rattle.std.specs.Prelude.{slice_range}
 use Rattle.json_text.specs.Lexing.{lexed}
 use Rattle.json_text.specs.declared.lex.Lex.TheVariants.{Between}
 use Rattle.json_text.proofs.Lexed.{plain_runs, plain_unmarked, unmarked_join, escape_here, escape_later, join, from-cut, from-quote, from-later, said}
+use Rattle.std.proofs.Common.{subst, length, ◌≤◌}
+use Rattle.json_text.specs.Lexing.{LexRuns}
+use Rattle.json_text.proofs.Cuts.{runs_join}
 use Rattle.json_text.proofs.scan.string_end.Goals as goal
 
 pub returns-then-place-bytes-clause-fault : goal.returns-then-place-bytes-clause-fault
@@ -75,3 +78,16 @@ chars-preserved c =
           (λ no. escape_later bytes c.args.at c.chars.i c.in-Ok.end (omega (arith, c.in-Ok.ensures.within)) (c.chars.invariant.marked no))
           (λ yes back. escape_here bytes c.args.at place c.in-Ok.end (omega arith) (omega (arith, c.in-Ok.ensures.within)) (before yes) back);
     }
+
+pub returns-then-place-bytes-clause-cut : goal.returns-then-place-bytes-clause-cut
+returns-then-place-bytes-clause-cut c =
+    let p = plain_runs (slice_range c.args.bytes.now c.chars.i c.plain_end-place.result) c.plain_end-place.ensures.plain in
+    let j = join c.args.bytes.now c.args.at c.chars.i c.plain_end-place.result (omega arith) (omega arith) (omega arith) c.chars.invariant.runs c.chars.invariant.whole p.runs p.end_is in
+    subst (λ k. (c.args.at ≤ k) × (k ≤ length c.args.bytes.now) × LexRuns Between (slice_range c.args.bytes.now c.args.at k)) (sym c.not_json.ensures.at) (omega arith, omega arith, j.runs)
+
+pub returns-in-Err-clause-cut : goal.returns-in-Err-clause-cut
+returns-in-Err-clause-cut c =
+    let p = plain_runs (slice_range c.args.bytes.now c.chars.i c.plain_end-place.result) c.plain_end-place.ensures.plain in
+    let j = join c.args.bytes.now c.args.at c.chars.i c.plain_end-place.result (omega arith) (omega arith) (omega arith) c.chars.invariant.runs c.chars.invariant.whole p.runs p.end_is in
+    let h = c.in-Err.ensures.cut in
+    (omega (arith, h.0), h.1, runs_join c.args.bytes.now c.args.at c.plain_end-place.result c.in-Err.fault.at (omega arith) h.0 h.1 j.runs j.whole h.2)

@@ -1,4 +1,5 @@
-use Rattle.std.proofs.Common.{length, ◌-◌, ◌≡◌, ◌≤◌, ◌+◌, ℕ, List, drop}
+use Rattle.std.proofs.Common.{length, ◌-◌, ◌≡◌, ◌≤◌, ◌+◌, ℕ, List, drop, take}
+use Rattle.std.specs.Prelude.{slice_range}
 use Rattle.json_text.specs.Kept.{Kept, Wishes}
 use Rattle.json_text.specs.Machine.{Frame, word_on, from}
 use Rattle.json_text.proofs.scan.word_end.Given as goal
@@ -8,6 +9,7 @@ invariant-loop-k l = record {
   place : l.i ≡ l.at + l.k;
   within : l.i ≤ length l.bytes;
   short : l.k ≤ length l.rest;
+  read : slice_range l.bytes l.at l.i ≡ take l.k l.rest;
   word : (w : Wishes) (v : Kept) (n : ℕ) (fs : List Frame) → from w l.bytes l.at (word_on v l.rest n fs) ≡ from w l.bytes l.i (word_on v (drop l.k l.rest) n fs);
 }
 
