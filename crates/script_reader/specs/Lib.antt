@@ -1,3 +1,7 @@
 pub mod Fields
 pub mod Words
 pub mod Scan
+pub mod Commands
+pub mod Reading
+pub mod PartWords
+pub mod Arguments

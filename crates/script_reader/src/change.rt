@@ -96,7 +96,8 @@ pub enum Change {
     },
 }
 
-fn copy_text(alloc: Global, text: &Text) -> Result<Text, NoMemory>
+/// An equal text of its own.
+pub fn copy_text(alloc: Global, text: &Text) -> Result<Text, NoMemory>
     ensures { IfOk result (λ copy. copy ≡ text.now) }
 {
     Text::copy(alloc, text.as_str())

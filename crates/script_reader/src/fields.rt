@@ -4,7 +4,9 @@ ghost use Rattle.std.specs.List.{position_or_len, before_first, after_first};
 ghost use Rattle.std.specs.Str.Parse.{AllDigits, digits_value};
 ghost use Rattle.fractions.specs.Numeral.{IsWholePart};
 ghost use Rattle.plan_base.specs.declared.shape.Kind.{Kind};
-ghost use Rattle.script_reader.specs.Fields.{kind_word, IsName, WritesObject, IsObjectAt, ReadsObject, WritesCount, takes};
+ghost use Rattle.script_reader.specs.Fields.{kind_word, IsName, WritesObject, IsObjectAt, WritesCount, takes};
+ghost use Rattle.script_reader.specs.Reading.{Answers};
+ghost use Rattle.script_reader.specs.Arguments.{object};
 
 use crate::{Object, ScriptFault};
 use fractions::{is_whole_part, split_digits};
@@ -119,8 +121,9 @@ fn object_parts(word: &str) -> Option<(Kind, &str)>
 }
 
 /// The object that a word names.
+#[tactic(auto, unfolding(crate::specs::Reading::Answers, crate::specs::Reading::the_one, crate::specs::Reading::gives, crate::specs::Reading::refuses, crate::specs::Reading::no_word))]
 pub fn object_at(alloc: Global, word: &str, place: Place) -> Result<Object, ScriptFault>
-    ensures { ReadsObject place word.now result }
+    ensures { Answers (object place word.now) result }
 {
     let Some((kind, name)) = object_parts(word) else {
         return Err(ScriptFault::BadObject);

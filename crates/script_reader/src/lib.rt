@@ -1,11 +1,17 @@
 //! The script's lines as commands.
 #![tactic(auto)]
 
+mod arguments;
 mod change;
 mod command;
+mod command_words;
+mod commands;
 mod fields;
+mod parts;
 pub mod words;
 
 pub use change::{BeaconWords, Change, Object, Parts};
+pub use command_words::{CommandWord, command_of};
 pub use command::{Command, ScriptFault};
+pub use commands::read_words;
 pub use fields::{Place, count_at, kind_of, object_at};

@@ -1,0 +1,6 @@
+use Rattle.std.proofs.Common.{rules, refl}
+use Rattle.script_reader.proofs.Readings.{answers_one, answers_two, answers_three, answers_first, answers_next, answers_gives, pairs, triples}
+use Rattle.script_reader.proofs.arguments.text.Goals as goal
+
+pub returns-in-Ok : goal.returns-in-Ok
+returns-in-Ok c = answers_one _ _ _ _ c.in-Some.ensures (answers_gives _ _ c.in-Ok.ensures)

@@ -1,0 +1,85 @@
+//! The words that begin a line.
+ghost use Rattle.std.specs.Prelude.{◌≡◌};
+ghost use Rattle.script_reader.specs.Commands.{command_word};
+
+/// The first word of a line.
+#[derive(Clone, Copy)]
+pub enum CommandWord {
+    Reach,
+    Why,
+    Missing,
+    Mask,
+    List,
+    Milestones,
+    Summary,
+    Rate,
+    Solve,
+    Quiet,
+    Undo,
+    Redo,
+    Batch,
+    End,
+    Cancel,
+    Grant,
+    Revoke,
+    Forbid,
+    Permit,
+    Milestone,
+    Unmilestone,
+    Ingredient,
+    Product,
+    Unlock,
+    Time,
+    Enabled,
+    Table,
+    Untable,
+    Row,
+    Unrow,
+    Price,
+    Want,
+    Import,
+    Surplus,
+}
+
+/// The command that a word names.
+pub fn command_of(word: &str) -> Option<CommandWord>
+    ensures { result ≡ command_word word.now }
+{
+    match word {
+        "reach" => Some(CommandWord::Reach),
+        "why" => Some(CommandWord::Why),
+        "missing" => Some(CommandWord::Missing),
+        "mask" => Some(CommandWord::Mask),
+        "list" => Some(CommandWord::List),
+        "milestones" => Some(CommandWord::Milestones),
+        "summary" => Some(CommandWord::Summary),
+        "rate" => Some(CommandWord::Rate),
+        "solve" => Some(CommandWord::Solve),
+        "quiet" => Some(CommandWord::Quiet),
+        "undo" => Some(CommandWord::Undo),
+        "redo" => Some(CommandWord::Redo),
+        "batch" => Some(CommandWord::Batch),
+        "end" => Some(CommandWord::End),
+        "cancel" => Some(CommandWord::Cancel),
+        "grant" => Some(CommandWord::Grant),
+        "revoke" => Some(CommandWord::Revoke),
+        "forbid" => Some(CommandWord::Forbid),
+        "permit" => Some(CommandWord::Permit),
+        "milestone" => Some(CommandWord::Milestone),
+        "unmilestone" => Some(CommandWord::Unmilestone),
+        "ingredient" => Some(CommandWord::Ingredient),
+        "product" => Some(CommandWord::Product),
+        "unlock" => Some(CommandWord::Unlock),
+        "time" => Some(CommandWord::Time),
+        "enabled" => Some(CommandWord::Enabled),
+        "table" => Some(CommandWord::Table),
+        "untable" => Some(CommandWord::Untable),
+        "row" => Some(CommandWord::Row),
+        "unrow" => Some(CommandWord::Unrow),
+        "price" => Some(CommandWord::Price),
+        "want" => Some(CommandWord::Want),
+        "import" => Some(CommandWord::Import),
+        "surplus" => Some(CommandWord::Surplus),
+        _ => None,
+    }
+}
