@@ -19,15 +19,15 @@ use Rattle.dump_reader.specs.declared.raw.RawEnergy.TheVariants.{Electric, Burne
 -- the fluid that a box is filtered to
 unfoldable pub filter_of : Object → Key → Within → Reading (Option (List ℕ))
 filter_of object key path =
-  object_or_empty object key path ▸ λ box.
-  name box Filter
+    object_or_empty object key path ▸ λ box.
+    name box Filter
 
 -- ---- burners: the list of categories, or where it is absent one category, "chemical" where that is absent too
 abbrev pub one_category : Object → Names → Reading (List ℕ × Names)
 one_category object names =
-  name_or object FuelCategory (codes "chemical") ▸ λ name.
-  category object FuelCategory name names ▸ λ found.
-  Ok (found.0 ∷ [], found.1)
+    name_or object FuelCategory (codes "chemical") ▸ λ name.
+    category object FuelCategory name names ▸ λ found.
+    Ok (found.0 ∷ [], found.1)
 
 abbrev pub fuel_categories_in : Object → Option (List Kept) → Names → Reading (List ℕ × Names)
 fuel_categories_in object (Some elements) names = categories object FuelCategories elements names
@@ -35,37 +35,37 @@ fuel_categories_in object None names = one_category object names
 
 unfoldable pub fuel_categories_of : Object → Names → Reading (List ℕ × Names)
 fuel_categories_of object names =
-  list object FuelCategories ▸ λ elements.
-  fuel_categories_in object elements names
+    list object FuelCategories ▸ λ elements.
+    fuel_categories_in object elements names
 
 unfoldable pub burner_of : Object → Names → Reading (RawEnergy × Names)
 burner_of object names =
-  fuel_categories_of object names ▸ λ found.
-  positive_or object Effectivity one_fraction ▸ λ effectivity.
-  Ok (Burner found.0 effectivity, found.1)
+    fuel_categories_of object names ▸ λ found.
+    positive_or object Effectivity one_fraction ▸ λ effectivity.
+    Ok (Burner found.0 effectivity, found.1)
 
 -- ---- other kinds
 unfoldable pub fluid_energy_of : Object → Reading RawEnergy
 fluid_energy_of object =
-  filter_of object FluidBox within.EnergySourceFluidBox ▸ λ filter.
-  positive_or object Effectivity one_fraction ▸ λ effectivity.
-  Ok (Fluid filter effectivity)
+    filter_of object FluidBox within.EnergySourceFluidBox ▸ λ filter.
+    positive_or object Effectivity one_fraction ▸ λ effectivity.
+    Ok (Fluid filter effectivity)
 
 -- ---- sources
 abbrev pub kind_named : List ℕ → Option EnergyKind
 kind_named text =
-  if bytes_eq text (codes "electric") then Some kind.Electric
-  else if bytes_eq text (codes "burner") then Some kind.Burner
-  else if bytes_eq text (codes "heat") then Some kind.Heat
-  else if bytes_eq text (codes "fluid") then Some kind.Fluid
-  else if bytes_eq text (codes "void") then Some kind.Void
-  else None
+    if bytes_eq text (codes "electric") then Some kind.Electric
+    else if bytes_eq text (codes "burner") then Some kind.Burner
+    else if bytes_eq text (codes "heat") then Some kind.Heat
+    else if bytes_eq text (codes "fluid") then Some kind.Fluid
+    else if bytes_eq text (codes "void") then Some kind.Void
+    else None
 
 unfoldable pub kind_of : Object → Reading EnergyKind
 kind_of object =
-  text object TypeName ▸ λ found.
-  required object TypeName found ▸ λ named.
-  of_kind object TypeName (kind_named named)
+    text object TypeName ▸ λ found.
+    required object TypeName found ▸ λ named.
+    of_kind object TypeName (kind_named named)
 
 -- the energy of a kind, and its drain where one is given
 abbrev pub source_by : Object → Names → Fraction → EnergyKind → Reading (Source × Names)
@@ -77,13 +77,13 @@ source_by object names emissions kind.Void = Ok (record { energy = Void; drain =
 
 unfoldable pub source_of : Object → Names → Reading (Source × Names)
 source_of object names =
-  kind_of object ▸ λ named.
-  number_or object EmissionsPerMinute zero_fraction ▸ λ emissions.
-  source_by object names emissions named
+    kind_of object ▸ λ named.
+    number_or object EmissionsPerMinute zero_fraction ▸ λ emissions.
+    source_by object names emissions named
 
 -- a source that burns, whose kind isn't read
 unfoldable pub burner_source_of : Object → Names → Reading (Source × Names)
 burner_source_of object names =
-  number_or object EmissionsPerMinute zero_fraction ▸ λ emissions.
-  burner_of object names ▸ λ found.
-  Ok (record { energy = found.0; drain = None; emissions = emissions }, found.1)
+    number_or object EmissionsPerMinute zero_fraction ▸ λ emissions.
+    burner_of object names ▸ λ found.
+    Ok (record { energy = found.0; drain = None; emissions = emissions }, found.1)

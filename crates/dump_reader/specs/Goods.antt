@@ -19,10 +19,10 @@ use Rattle.dump_reader.specs.declared.sections.Section.TheVariants.{Module}
 -- ---- fluid
 abbrev pub fluid_of : Object → Reading Fluid
 fluid_of object =
-  energy_or object FuelValue zero_fraction ▸ λ fuel_value.
-  energy_or object HeatCapacity (whole_fraction (pos 1000)) ▸ λ heat_capacity.
-  number_or object DefaultTemperature (whole_fraction (pos 15)) ▸ λ default_temperature.
-  Ok (record { fuel_value = fuel_value; heat_capacity = heat_capacity; default_temperature = default_temperature })
+    energy_or object FuelValue zero_fraction ▸ λ fuel_value.
+    energy_or object HeatCapacity (whole_fraction (pos 1000)) ▸ λ heat_capacity.
+    number_or object DefaultTemperature (whole_fraction (pos 15)) ▸ λ default_temperature.
+    Ok (record { fuel_value = fuel_value; heat_capacity = heat_capacity; default_temperature = default_temperature })
 
 -- ---- module
 -- a bonus is at most 1,000,000 in magnitude, and is cut toward zero to hundredths
@@ -38,27 +38,27 @@ found_bonus kind (Some bonus) = in_range kind BonusKey is_bonus bonus ▸ λ bon
 
 unfoldable pub bonus_in : Object → Key → Within → Reading ℤ
 bonus_in effect key path =
-  object_or_empty effect key path ▸ λ kind.
-  number kind BonusKey ▸ λ bonus.
-  found_bonus kind bonus
+    object_or_empty effect key path ▸ λ kind.
+    number kind BonusKey ▸ λ bonus.
+    found_bonus kind bonus
 
 abbrev pub bonus_of : Object → Reading Bonus
 bonus_of effect =
-  bonus_in effect Speed within.EffectSpeed ▸ λ speed.
-  bonus_in effect Productivity within.EffectProductivity ▸ λ productivity.
-  bonus_in effect Consumption within.EffectConsumption ▸ λ consumption.
-  bonus_in effect Pollution within.EffectPollution ▸ λ pollution.
-  Ok (record { speed = speed; productivity = productivity; consumption = consumption; pollution = pollution })
+    bonus_in effect Speed within.EffectSpeed ▸ λ speed.
+    bonus_in effect Productivity within.EffectProductivity ▸ λ productivity.
+    bonus_in effect Consumption within.EffectConsumption ▸ λ consumption.
+    bonus_in effect Pollution within.EffectPollution ▸ λ pollution.
+    Ok (record { speed = speed; productivity = productivity; consumption = consumption; pollution = pollution })
 
 unfoldable pub module_of : Object → Reading RawModule
 module_of object =
-  object_or_empty object Effect within.Effect ▸ λ effect.
-  bonus_of effect ▸ λ bonus.
-  list_or_empty object Limitation ▸ λ recipes.
-  names_in object Limitation recipes ▸ λ limitation.
-  list_or_empty object LimitationBlacklist ▸ λ others.
-  names_in object LimitationBlacklist others ▸ λ blacklist.
-  Ok (record { bonus = bonus; limitation = limitation; blacklist = blacklist })
+    object_or_empty object Effect within.Effect ▸ λ effect.
+    bonus_of effect ▸ λ bonus.
+    list_or_empty object Limitation ▸ λ recipes.
+    names_in object Limitation recipes ▸ λ limitation.
+    list_or_empty object LimitationBlacklist ▸ λ others.
+    names_in object LimitationBlacklist others ▸ λ blacklist.
+    Ok (record { bonus = bonus; limitation = limitation; blacklist = blacklist })
 
 -- only what stands in the section of modules is one
 unfoldable pub optional_module : Section → Object → Reading (Option RawModule)
@@ -71,11 +71,11 @@ fuel_of category value emissions = option_map (λ number. record { category = nu
 
 abbrev pub item_of : Section → Object → Names → Reading (RawItem × Names)
 item_of section object names =
-  name object PlaceResult ▸ λ place.
-  name object FuelCategory ▸ λ fuel_category.
-  optional_category object FuelCategory fuel_category names ▸ λ category.
-  energy_or object FuelValue zero_fraction ▸ λ value.
-  amount_or object FuelEmissionsMultiplier one_fraction ▸ λ emissions.
-  name object BurntResult ▸ λ burnt.
-  optional_module section object ▸ λ found.
-  Ok (record { section = section; place = place; fuel = fuel_of category.0 value emissions; burnt = burnt; «module» = found }, category.1)
+    name object PlaceResult ▸ λ place.
+    name object FuelCategory ▸ λ fuel_category.
+    optional_category object FuelCategory fuel_category names ▸ λ category.
+    energy_or object FuelValue zero_fraction ▸ λ value.
+    amount_or object FuelEmissionsMultiplier one_fraction ▸ λ emissions.
+    name object BurntResult ▸ λ burnt.
+    optional_module section object ▸ λ found.
+    Ok (record { section = section; place = place; fuel = fuel_of category.0 value emissions; burnt = burnt; «module» = found }, category.1)

@@ -2,3 +2,4 @@ pub mod Sections
 pub mod Goods
 pub mod Energy
 pub mod Machines
+pub mod Sources

@@ -23,8 +23,8 @@ use Rattle.dump_reader.specs.Energy.{source_of, burner_source_of, filter_of}
 -- ---- module slots
 unfoldable pub slots_of : Object → Reading ℕ
 slots_of object =
-  object_or_empty object ModuleSpecification within.ModuleSpecification ▸ λ specification.
-  whole_or specification ModuleSlots 0
+    object_or_empty object ModuleSpecification within.ModuleSpecification ▸ λ specification.
+    whole_or specification ModuleSlots 0
 
 -- ---- allowed effects: a text or a list of texts, of which unknown ones are passed over
 abbrev pub all_allowed : Allowed
@@ -38,17 +38,17 @@ has_text texts wanted = list_any (λ text. bytes_eq text wanted) texts
 
 abbrev pub allowed_by : List (List ℕ) → Allowed
 allowed_by texts = record {
-    speed = has_text texts (codes "speed");
-    productivity = has_text texts (codes "productivity");
-    consumption = has_text texts (codes "consumption");
-    pollution = has_text texts (codes "pollution");
-  }
+  speed = has_text texts (codes "speed");
+  productivity = has_text texts (codes "productivity");
+  consumption = has_text texts (codes "consumption");
+  pollution = has_text texts (codes "pollution");
+}
 
 unfoldable pub allowed_list : Object → Reading Allowed
 allowed_list object =
-  required_list object AllowedEffects ▸ λ elements.
-  names_in object AllowedEffects elements ▸ λ texts.
-  Ok (allowed_by texts)
+    required_list object AllowedEffects ▸ λ elements.
+    names_in object AllowedEffects elements ▸ λ texts.
+    Ok (allowed_by texts)
 
 abbrev pub allowed_text : Object → Option (List ℕ) → Reading Allowed
 allowed_text object (Some text) = Ok (allowed_by (text ∷ []))
@@ -74,66 +74,72 @@ fixed_of section object = name object FixedRecipe
 
 unfoldable pub crafter_of : Section → Object → Names → Reading (RawMachine × Names)
 crafter_of section object names =
-  required_positive object CraftingSpeed ▸ λ speed.
-  required_list object CraftingCategories ▸ λ elements.
-  categories object CraftingCategories elements names ▸ λ found.
-  required_power object EnergyUsage ▸ λ usage.
-  required_object object EnergySource within.EnergySource ▸ λ source_object.
-  source_of source_object found.1 ▸ λ source.
-  slots_of object ▸ λ slots.
-  allowed_of object none_allowed ▸ λ allowed.
-  number_or object BaseProductivity zero_fraction ▸ λ base_productivity.
-  fixed_of section object ▸ λ fixed.
-  Ok (record {
-      section = section;
-      kind = Crafter speed found.0 fixed;
-      energy = source.0.energy;
-      usage = usage;
-      drain = drain_of source.0.energy source.0.drain (usage /ʳ whole_fraction (pos 30));
-      emissions = source.0.emissions;
-      slots = slots;
-      allowed = allowed;
-      base_productivity = base_productivity;
-    }, source.1)
+    required_positive object CraftingSpeed ▸ λ speed.
+    required_list object CraftingCategories ▸ λ elements.
+    categories object CraftingCategories elements names ▸ λ found.
+    required_power object EnergyUsage ▸ λ usage.
+    required_object object EnergySource within.EnergySource ▸ λ source_object.
+    source_of source_object found.1 ▸ λ source.
+    slots_of object ▸ λ slots.
+    allowed_of object none_allowed ▸ λ allowed.
+    number_or object BaseProductivity zero_fraction ▸ λ base_productivity.
+    fixed_of section object ▸ λ fixed.
+    Ok (
+      record {
+        section = section;
+        kind = Crafter speed found.0 fixed;
+        energy = source.0.energy;
+        usage = usage;
+        drain = drain_of source.0.energy source.0.drain (usage /ʳ whole_fraction (pos 30));
+        emissions = source.0.emissions;
+        slots = slots;
+        allowed = allowed;
+        base_productivity = base_productivity;
+      },
+      source.1,
+    )
 
 -- ---- mining-drill
 unfoldable pub drill_of : Section → Object → Names → Reading (RawMachine × Names)
 drill_of section object names =
-  required_positive object MiningSpeed ▸ λ speed.
-  required_list object ResourceCategories ▸ λ elements.
-  categories object ResourceCategories elements names ▸ λ found.
-  required_power object EnergyUsage ▸ λ usage.
-  required_object object EnergySource within.EnergySource ▸ λ source_object.
-  source_of source_object found.1 ▸ λ source.
-  slots_of object ▸ λ slots.
-  number_or object BaseProductivity zero_fraction ▸ λ base_productivity.
-  allowed_of object all_allowed ▸ λ allowed.
-  object_at object InputFluidBox within.FluidBox ▸ λ fluid_box.
-  Ok (record {
-      section = section;
-      kind = Drill speed found.0 (is_some fluid_box);
-      energy = source.0.energy;
-      usage = usage;
-      drain = drain_of source.0.energy source.0.drain zero_fraction;
-      emissions = source.0.emissions;
-      slots = slots;
-      allowed = allowed;
-      base_productivity = base_productivity;
-    }, source.1)
+    required_positive object MiningSpeed ▸ λ speed.
+    required_list object ResourceCategories ▸ λ elements.
+    categories object ResourceCategories elements names ▸ λ found.
+    required_power object EnergyUsage ▸ λ usage.
+    required_object object EnergySource within.EnergySource ▸ λ source_object.
+    source_of source_object found.1 ▸ λ source.
+    slots_of object ▸ λ slots.
+    number_or object BaseProductivity zero_fraction ▸ λ base_productivity.
+    allowed_of object all_allowed ▸ λ allowed.
+    object_at object InputFluidBox within.FluidBox ▸ λ fluid_box.
+    Ok (
+      record {
+        section = section;
+        kind = Drill speed found.0 (is_some fluid_box);
+        energy = source.0.energy;
+        usage = usage;
+        drain = drain_of source.0.energy source.0.drain zero_fraction;
+        emissions = source.0.emissions;
+        slots = slots;
+        allowed = allowed;
+        base_productivity = base_productivity;
+      },
+      source.1,
+    )
 
 -- ---- a machine that has neither slots nor effects
 abbrev pub plain_machine : Section → RawKind → Source → Fraction → RawMachine
 plain_machine section kind source usage = record {
-    section = section;
-    kind = kind;
-    energy = source.energy;
-    usage = usage;
-    drain = drain_of source.energy source.drain zero_fraction;
-    emissions = source.emissions;
-    slots = 0;
-    allowed = none_allowed;
-    base_productivity = zero_fraction;
-  }
+  section = section;
+  kind = kind;
+  energy = source.energy;
+  usage = usage;
+  drain = drain_of source.energy source.drain zero_fraction;
+  emissions = source.emissions;
+  slots = 0;
+  allowed = none_allowed;
+  base_productivity = zero_fraction;
+}
 
 -- what needs no energy
 abbrev pub no_source : Source
@@ -142,9 +148,9 @@ no_source = record { energy = Void; drain = None; emissions = zero_fraction }
 -- ---- offshore-pump
 unfoldable pub pump_of : Section → Object → Reading RawMachine
 pump_of section object =
-  required_name object FluidKey ▸ λ fluid.
-  required_positive object PumpingSpeed ▸ λ speed.
-  Ok (plain_machine section (Pump fluid speed) no_source zero_fraction)
+    required_name object FluidKey ▸ λ fluid.
+    required_positive object PumpingSpeed ▸ λ speed.
+    Ok (plain_machine section (Pump fluid speed) no_source zero_fraction)
 
 -- ---- boiler: in the mode that is the default, what comes out is what went in
 abbrev pub heats_inside : Option (List ℕ) → Bool
@@ -153,89 +159,95 @@ heats_inside (Some mode) = bytes_eq mode (codes "heat-water-inside")
 
 unfoldable pub boiler_of : Section → Object → Names → Reading (RawMachine × Names)
 boiler_of section object names =
-  required_object object EnergySource within.EnergySource ▸ λ source_object.
-  source_of source_object names ▸ λ source.
-  required_power object EnergyConsumption ▸ λ usage.
-  text object Mode ▸ λ mode.
-  amount_or object TargetTemperature zero_fraction ▸ λ temperature.
-  filter_of object FluidBox within.FluidBox ▸ λ input.
-  filter_of object OutputFluidBox within.OutputFluidBox ▸ λ output.
-  Ok (plain_machine section (Boiler input output (heats_inside mode) temperature) source.0 usage, source.1)
+    required_object object EnergySource within.EnergySource ▸ λ source_object.
+    source_of source_object names ▸ λ source.
+    required_power object EnergyConsumption ▸ λ usage.
+    text object Mode ▸ λ mode.
+    amount_or object TargetTemperature zero_fraction ▸ λ temperature.
+    filter_of object FluidBox within.FluidBox ▸ λ input.
+    filter_of object OutputFluidBox within.OutputFluidBox ▸ λ output.
+    Ok (plain_machine section (Boiler input output (heats_inside mode) temperature) source.0 usage, source.1)
 
 -- ---- generator
 unfoldable pub generator_of : Section → Object → Reading RawMachine
 generator_of section object =
-  filter_of object FluidBox within.FluidBox ▸ λ input.
-  positive_or object Effectivity one_fraction ▸ λ effectivity.
-  required_amount object FluidUsagePerTick ▸ λ per_tick.
-  required_amount object MaximumTemperature ▸ λ max_temperature.
-  flag_or object BurnsFluid false ▸ λ burns.
-  power object MaxPowerOutput ▸ λ output.
-  Ok (plain_machine section (Generator input effectivity per_tick max_temperature burns output) no_source zero_fraction)
+    filter_of object FluidBox within.FluidBox ▸ λ input.
+    positive_or object Effectivity one_fraction ▸ λ effectivity.
+    required_amount object FluidUsagePerTick ▸ λ per_tick.
+    required_amount object MaximumTemperature ▸ λ max_temperature.
+    flag_or object BurnsFluid false ▸ λ burns.
+    power object MaxPowerOutput ▸ λ output.
+    Ok (plain_machine section (Generator input effectivity per_tick max_temperature burns output) no_source zero_fraction)
 
 -- ---- burner-generator
 unfoldable pub burner_generator_of : Section → Object → Names → Reading (RawMachine × Names)
 burner_generator_of section object names =
-  required_object object BurnerKey within.Burner ▸ λ burner.
-  burner_source_of burner names ▸ λ source.
-  required_power object MaxPowerOutput ▸ λ output.
-  Ok (plain_machine section (BurnerGenerator output) source.0 zero_fraction, source.1)
+    required_object object BurnerKey within.Burner ▸ λ burner.
+    burner_source_of burner names ▸ λ source.
+    required_power object MaxPowerOutput ▸ λ output.
+    Ok (plain_machine section (BurnerGenerator output) source.0 zero_fraction, source.1)
 
 -- ---- solar-panel
 unfoldable pub solar_of : Section → Object → Reading RawMachine
 solar_of section object =
-  required_power object Production ▸ λ production.
-  Ok (plain_machine section (Solar production) no_source zero_fraction)
+    required_power object Production ▸ λ production.
+    Ok (plain_machine section (Solar production) no_source zero_fraction)
 
 -- ---- reactor
 unfoldable pub reactor_of : Section → Object → Names → Reading (RawMachine × Names)
 reactor_of section object names =
-  required_object object EnergySource within.EnergySource ▸ λ source_object.
-  source_of source_object names ▸ λ source.
-  required_power object Consumption ▸ λ usage.
-  Ok (plain_machine section Reactor source.0 usage, source.1)
+    required_object object EnergySource within.EnergySource ▸ λ source_object.
+    source_of source_object names ▸ λ source.
+    required_power object Consumption ▸ λ usage.
+    Ok (plain_machine section Reactor source.0 usage, source.1)
 
 -- ---- lab
 unfoldable pub lab_of : Section → Object → Names → Reading (RawMachine × Names)
 lab_of section object names =
-  required_list object Inputs ▸ λ elements.
-  names_in object Inputs elements ▸ λ inputs.
-  positive_or object ResearchingSpeed one_fraction ▸ λ speed.
-  required_power object EnergyUsage ▸ λ usage.
-  required_object object EnergySource within.EnergySource ▸ λ source_object.
-  source_of source_object names ▸ λ source.
-  slots_of object ▸ λ slots.
-  allowed_of object all_allowed ▸ λ allowed.
-  number_or object BaseProductivity zero_fraction ▸ λ base_productivity.
-  Ok (record {
-      section = section;
-      kind = Lab inputs speed;
-      energy = source.0.energy;
-      usage = usage;
-      drain = drain_of source.0.energy source.0.drain zero_fraction;
-      emissions = source.0.emissions;
-      slots = slots;
-      allowed = allowed;
-      base_productivity = base_productivity;
-    }, source.1)
+    required_list object Inputs ▸ λ elements.
+    names_in object Inputs elements ▸ λ inputs.
+    positive_or object ResearchingSpeed one_fraction ▸ λ speed.
+    required_power object EnergyUsage ▸ λ usage.
+    required_object object EnergySource within.EnergySource ▸ λ source_object.
+    source_of source_object names ▸ λ source.
+    slots_of object ▸ λ slots.
+    allowed_of object all_allowed ▸ λ allowed.
+    number_or object BaseProductivity zero_fraction ▸ λ base_productivity.
+    Ok (
+      record {
+        section = section;
+        kind = Lab inputs speed;
+        energy = source.0.energy;
+        usage = usage;
+        drain = drain_of source.0.energy source.0.drain zero_fraction;
+        emissions = source.0.emissions;
+        slots = slots;
+        allowed = allowed;
+        base_productivity = base_productivity;
+      },
+      source.1,
+    )
 
 -- ---- beacon
 unfoldable pub beacon_of : Section → Object → Names → Reading (RawMachine × Names)
 beacon_of section object names =
-  required_amount object DistributionEffectivity ▸ λ effectivity.
-  required_power object EnergyUsage ▸ λ usage.
-  required_object object EnergySource within.EnergySource ▸ λ source_object.
-  source_of source_object names ▸ λ source.
-  slots_of object ▸ λ slots.
-  allowed_of object none_allowed ▸ λ allowed.
-  Ok (record {
-      section = section;
-      kind = Beacon effectivity;
-      energy = source.0.energy;
-      usage = usage;
-      drain = drain_of source.0.energy source.0.drain zero_fraction;
-      emissions = source.0.emissions;
-      slots = slots;
-      allowed = allowed;
-      base_productivity = zero_fraction;
-    }, source.1)
+    required_amount object DistributionEffectivity ▸ λ effectivity.
+    required_power object EnergyUsage ▸ λ usage.
+    required_object object EnergySource within.EnergySource ▸ λ source_object.
+    source_of source_object names ▸ λ source.
+    slots_of object ▸ λ slots.
+    allowed_of object none_allowed ▸ λ allowed.
+    Ok (
+      record {
+        section = section;
+        kind = Beacon effectivity;
+        energy = source.0.energy;
+        usage = usage;
+        drain = drain_of source.0.energy source.0.drain zero_fraction;
+        emissions = source.0.emissions;
+        slots = slots;
+        allowed = allowed;
+        base_productivity = zero_fraction;
+      },
+      source.1,
+    )

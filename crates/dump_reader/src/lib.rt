@@ -6,6 +6,7 @@ mod goods;
 mod machines;
 mod raw;
 mod sections;
+mod sources;
 
-pub use raw::{RawEnergy, RawItem, RawKind, RawMachine, RawModule};
+pub use raw::{RawEnergy, RawItem, RawKind, RawMachine, RawModule, RawSource};
 pub use sections::Section;

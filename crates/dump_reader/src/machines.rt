@@ -37,8 +37,10 @@ const NONE_ALLOWED: Allowed = Allowed {
 fn read_slots(fields: &Fields<'_, '_>) -> Result<u32, FieldFault>
     ensures { result ≡ slots_of (object_seen fields.now) }
 {
-    let specification =
-        fields.object_or_empty(Key::ModuleSpecification, Within::ModuleSpecification)?;
+    let specification = fields.object_or_empty(
+        Key::ModuleSpecification,
+        Within::ModuleSpecification,
+    )?;
     specification.whole_or(Key::ModuleSlots, 0)
 }
 

@@ -1,5 +1,6 @@
 //! Prototypes as a dump has them: what they refer to stands by name.
 use crate::Section;
+use craft_reader::RawProduct;
 use fractions::Ratio;
 use game_types::{Allowed, Bonus, Fuel};
 use plan_base::{Items, Text};
@@ -53,7 +54,10 @@ pub enum RawKind {
         categories: Items<u32>,
         fluid_box: bool,
     },
-    Pump { fluid: Text, speed: Ratio },
+    Pump {
+        fluid: Text,
+        speed: Ratio,
+    },
     Boiler {
         input: Option<Text>,
         output: Option<Text>,
@@ -69,11 +73,20 @@ pub enum RawKind {
         burns: bool,
         output: Option<Ratio>,
     },
-    BurnerGenerator { output: Ratio },
-    Solar { production: Ratio },
+    BurnerGenerator {
+        output: Ratio,
+    },
+    Solar {
+        production: Ratio,
+    },
     Reactor,
-    Lab { inputs: Items<Text>, speed: Ratio },
-    Beacon { effectivity: Ratio },
+    Lab {
+        inputs: Items<Text>,
+        speed: Ratio,
+    },
+    Beacon {
+        effectivity: Ratio,
+    },
 }
 
 /// A machine.
@@ -88,4 +101,17 @@ pub struct RawMachine {
     pub slots: u32,
     pub allowed: Allowed,
     pub base_productivity: Ratio,
+}
+
+/// What is mined.
+#[derive(Drop)]
+pub struct RawSource {
+    pub section: Section,
+    pub drilled: bool,
+    pub category: u32,
+    pub time: Ratio,
+    pub placed: bool,
+    pub products: Items<RawProduct>,
+    /// The fluid that one operation takes, and how much of it.
+    pub fluid: Option<(Text, Ratio)>,
 }
