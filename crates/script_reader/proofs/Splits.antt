@@ -66,11 +66,11 @@ pub record SoFar (line rest : List ℕ) (words : List (List ℕ)) : Type 0 where
 
 pub so_far_none : (line rest : List ℕ) (words : List (List ℕ)) → rest ≡ behind_by is_separator line → words ≡ [] → SoFar line rest words
 so_far_none line rest words e n = subst (λ (r : List ℕ). SoFar line r words) (sym e) (subst (λ (w : List (List ℕ)). SoFar line (behind_by is_separator line) w) (sym n) (record {
-    stops = behind_stops is_separator line;
-    texts = tt;
-    ahead = λ more g. g;
-    all = λ every g. (every, refl, g);
-  }))
+  stops = behind_stops is_separator line;
+  texts = tt;
+  ahead = λ more g. g;
+  all = λ every g. (every, refl, g);
+}))
 
 texts_more : (words : List (List ℕ)) (word : List ℕ) → AreTexts words → IsUtf8 word → AreTexts (words ++ word ∷ [])
 texts_more [] word t u = (u, tt)
@@ -110,9 +110,9 @@ so_far_more line rest words new word bytes behind next s h f w u n e =
       texts = texts_more words bytes s.texts u;
       ahead = λ more g. subst (λ (l : List (List ℕ)). Gathers (behind_by is_separator line) l) (sym (append_assoc words (bytes ∷ []) more)) (s.ahead (bytes ∷ more) (behind, f, g));
       all = λ every g.
-        let m : (more : List (List ℕ)) × (every ≡ words ++ more) × Gathers rest more = s.all every g in
-        let k : IsNext bytes behind m.0 = next_one rest bytes behind m.0 h f m.2 in
-        (k.others, m.1 ∙ (ap (λ (l : List (List ℕ)). words ++ l) k.first ∙ sym (append_assoc words (bytes ∷ []) k.others)), k.rest);
+          let m : (more : List (List ℕ)) × (every ≡ words ++ more) × Gathers rest more = s.all every g in
+          let k : IsNext bytes behind m.0 = next_one rest bytes behind m.0 h f m.2 in
+          (k.others, m.1 ∙ (ap (λ (l : List (List ℕ)). words ++ l) k.first ∙ sym (append_assoc words (bytes ∷ []) k.others)), k.rest);
     }))
 
 pub so_far_end : (line rest : List ℕ) (words : List (List ℕ)) → SoFar line rest words → length rest ≡ 0 → Answers (spelled line) (Ok words)
@@ -146,10 +146,13 @@ quoting_fault line rest words BadObject s h i f = absurd i
 
 pub no_text : (line rest : List ℕ) (words : List (List ℕ)) (bytes behind : List ℕ) → SoFar line rest words → 0 < length rest → first_word rest ≡ Some (bytes, behind) → ¬ (IsUtf8 bytes) → Answers (spelled line) (Err BadQuoting)
 unfolding Answers the_one
-no_text line rest words bytes behind s h f u = (refl, λ every t.
-    let m : (more : List (List ℕ)) × (every ≡ words ++ more) × Gathers rest more = s.all every (spelled_gathers line every t.0) in
-    let k : IsNext bytes behind m.0 = next_one rest bytes behind m.0 h f m.2 in
-    u (text_there words k.others bytes (subst (λ (l : List (List ℕ)). AreTexts l) (m.1 ∙ ap (λ (l : List (List ℕ)). words ++ l) k.first) t.1)))
+no_text line rest words bytes behind s h f u = (
+  refl,
+  λ every t.
+      let m : (more : List (List ℕ)) × (every ≡ words ++ more) × Gathers rest more = s.all every (spelled_gathers line every t.0) in
+      let k : IsNext bytes behind m.0 = next_one rest bytes behind m.0 h f m.2 in
+      u (text_there words k.others bytes (subst (λ (l : List (List ℕ)). AreTexts l) (m.1 ∙ ap (λ (l : List (List ℕ)). words ++ l) k.first) t.1)),
+)
 
 behind_length : (p : ℕ → Bool) (text : List ℕ) → length (behind_by p text) ≤ length text
 behind_length p [] = omega arith

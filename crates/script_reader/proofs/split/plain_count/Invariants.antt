@@ -7,7 +7,7 @@ abbrev pub invariant-loop-count : goal.invariant-loop-count
 invariant-loop-count l = record {
   within : l.count ≤ length l.text;
   front : front_by is_plain l.text ≡ take l.count l.text ++ front_by is_plain (drop l.count l.text);
-  behind : behind_by is_plain l.text ≡ behind_by is_plain (drop l.count l.text)
+  behind : behind_by is_plain l.text ≡ behind_by is_plain (drop l.count l.text);
 }
 
 abbrev pub decreases-loop-count : goal.decreases-loop-count
