@@ -5,10 +5,10 @@ use Rattle.script_reader.specs.declared.command.ScriptFault.TheVariants.{Unknown
 use Rattle.script_reader.specs.Reading.{Answers, the_one}
 use Rattle.script_reader.specs.Lines.{AreTexts, spelled, IsQuotingFault}
 use Rattle.script_reader.proofs.Spelling.{Stops, BeginsWord, word_sound, behind_stops, blank_behind, behind_blank, first_found, first_sound, some_pair}
-use Rattle.std.specs.Prelude.{Result, Ok, Err, ◌≤◌, ◌+◌, ◌⊎◌, ◌≡◌, ◌≢◌, ℕ, ◌<◌, Bool, true, false, cond, ◌==◌, List, [], ◌∷◌, ◌++◌, length, Option, Some, None}
-use Rattle.std.proofs.Common.{refl, sym, ap, subst, ◌∙◌, arith, append_assoc, length-append, inl, inr, ⊎_elim}
-use Rattle.script_reader.specs.Words.{is_separator, is_plain, escaped, ends_word, SpellsFirst, SpellsLine}
-use Rattle.script_reader.specs.Scan.{front_by, behind_by, put_front, put_all, unquote, ended, first_word}
+use Rattle.std.specs.Prelude.{Ok, Err, ◌≤◌, ◌≡◌, ℕ, ◌<◌, Bool, true, false, cond, ◌==◌, List, [], ◌∷◌, ◌++◌, length, Option, Some, None}
+use Rattle.std.proofs.Common.{refl, sym, ap, subst, ◌∙◌, arith, append_assoc, length-append, ⊎_elim}
+use Rattle.script_reader.specs.Words.{is_separator, escaped, SpellsLine}
+use Rattle.script_reader.specs.Scan.{behind_by, put_front, put_all, unquote, first_word}
 
 pair_more : (word : List ℕ) (c : ℕ) (q : Option (List ℕ × List ℕ)) → put_all word (put_front (Some c) q) ≡ put_all (word ++ c ∷ []) q
 pair_more word c None = refl

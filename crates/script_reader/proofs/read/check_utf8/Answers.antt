@@ -1,4 +1,4 @@
-use Rattle.std.proofs.Common.{rules, refl}
+use Rattle.std.proofs.Common.{refl}
 use Rattle.script_reader.specs.Reading.{Answers, the_one}
 use Rattle.script_reader.proofs.read.check_utf8.Goals as goal
 

@@ -1,5 +1,5 @@
-use Rattle.std.specs.Prelude.{List, ℕ, Ok, Err, Some}
-use Rattle.std.proofs.Common.{rules, refl, subst}
+use Rattle.std.specs.Prelude.{List, ℕ, Ok, Err}
+use Rattle.std.proofs.Common.{refl, subst}
 use Rattle.script_reader.specs.Reading.{Answers}
 use Rattle.script_reader.specs.Arguments.{command_of_words}
 use Rattle.script_reader.proofs.Readings.{answers_first, answers_next, answers_gives}

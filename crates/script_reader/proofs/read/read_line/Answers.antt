@@ -1,7 +1,7 @@
-use Rattle.std.specs.Prelude.{ℕ, Bool, Ok, None, Option, Result, ◌≡◌}
-use Rattle.std.proofs.Common.{rules, refl, sym, ap, subst, ◌∙◌}
+use Rattle.std.specs.Prelude.{Bool, Ok, None}
+use Rattle.std.proofs.Common.{refl, sym, ap, subst, ◌∙◌}
 use Rattle.script_reader.specs.Reading.{Answers}
-use Rattle.script_reader.specs.Lines.{command_unless, has_no_command, begins_comment}
+use Rattle.script_reader.specs.Lines.{command_unless, begins_comment}
 use Rattle.script_reader.proofs.Readings.{answers_first, answers_next, answers_gives}
 use Rattle.script_reader.proofs.read.read_line.Goals as goal
 

@@ -1,7 +1,5 @@
-use Rattle.std.specs.Prelude.{◌≡◌, ◌==◌, ◌∷◌, ◌++◌, [], true, false, Some}
 use Rattle.std.proofs.Common.{rules, arith, sym, ◌∙◌}
 use Rattle.std.proofs.lemmas.Bool.Decides.{nat_tests}
-use Rattle.script_reader.specs.Words.{escaped}
 use Rattle.script_reader.proofs.Splits.{plain_step, escape_step}
 use Rattle.script_reader.proofs.split.quoted.Goals as goal
 

@@ -1,5 +1,5 @@
 use Rattle.std.specs.Prelude.{List, ℕ, Ok, Err}
-use Rattle.std.proofs.Common.{rules, arith, sym, ap, ◌∙◌, subst}
+use Rattle.std.proofs.Common.{rules, sym, ap, subst}
 use Rattle.script_reader.specs.Reading.{Answers}
 use Rattle.script_reader.specs.Lines.{spelled}
 use Rattle.script_reader.proofs.Readings.{answers_memory}
