@@ -4,3 +4,4 @@ pub mod Readings
 pub mod Ratios
 pub mod Said
 pub mod PartLemmas
+pub mod Splits

@@ -1,5 +1,5 @@
 -- How parts are told apart.
-use Rattle.std.specs.Prelude.{◌≡◌, ◌≢◌, ℕ, ◌+◌, ◌<◌, ◌≤◌, List, [], ◌∷◌, ◌++◌, codes, length, drop, count_by, nat_le, Bool, true, false, Option, Some, Result, Ok, Err}
+use Rattle.std.specs.Prelude.{◌≡◌, ◌≢◌, ℕ, ◌<◌, ◌≤◌, List, [], ◌∷◌, ◌++◌, codes, length, drop, count_by, nat_le, true, false, Some, Result, Ok, Err}
 use Rattle.std.specs.List.{before_first, list_any}
 use Rattle.std.proofs.Common.{refl, sym, ap, subst, ◌∙◌, arith, append_assoc, length-append}
 use Rattle.std.proofs.lemmas.Bool.Decides.{nat_tests}
@@ -12,7 +12,7 @@ use Rattle.script_reader.specs.declared.change.Parts.{Parts}
 use Rattle.script_reader.specs.declared.parts.PartWords.{PartWords}
 use Rattle.script_reader.specs.declared.parts.PartWords.TheVariants.{Fuel, Module, Beacon, In}
 use Rattle.script_reader.specs.Reading.{Answers, the_one, gives, and_then}
-use Rattle.script_reader.specs.PartWords.{written_part, written_parts, first_part, all_parts, is_fuel, is_in, is_beacon, ArePartsOf}
+use Rattle.script_reader.specs.PartWords.{written_part, written_parts, first_part, all_parts, is_fuel, is_in, is_beacon}
 use Rattle.script_reader.specs.Arguments.{add_part, add_parts, in_last, parts_behind}
 use Rattle.script_reader.proofs.Readings.{answers_first, answers_next, answers_gives}
 

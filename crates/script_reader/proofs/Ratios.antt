@@ -1,11 +1,11 @@
 -- Numbers of the script.
-use Rattle.std.specs.Prelude.{◌≡◌, ◌≢◌, ℕ, List, Option, Some, None, Result, Ok, Err, ◌⊎◌, MatchOption}
-use Rattle.std.proofs.Common.{refl, sym, ap, subst, ◌∙◌, ⊎_elim}
+use Rattle.std.specs.Prelude.{◌≡◌, ◌≢◌, ℕ, List, Option, Some, None, Ok, Err, MatchOption}
+use Rattle.std.proofs.Common.{⊎_elim}
 use Rattle.fractions.specs.declared.numeral.NumeralFault.{NumeralFault}
 use Rattle.fractions.specs.declared.numeral.NumeralFault.TheVariants.{NotNumeral, TooLarge}
-use Rattle.fractions.specs.Fraction.{Fraction, ◌≤ʳ◌, ◌<ʳ◌}
+use Rattle.fractions.specs.Fraction.{Fraction}
 use Rattle.fractions.specs.Numeral.{Numeral, Writes, magnitude, limit}
-use Rattle.fractions.specs.Quotient.{Quotient, WritesQuotient, IsModerate}
+use Rattle.fractions.specs.Quotient.{Quotient, WritesQuotient}
 use Rattle.fractions.specs.Reading.{Gives, GivesQuotient, ReadsRatio}
 use Rattle.fractions.proofs.Order.{<ʳ_not_≤ʳ}
 use Rattle.script_reader.specs.declared.command.ScriptFault.{ScriptFault}

@@ -1,9 +1,9 @@
 -- Readings one behind another, and the answers of programs.
-use Rattle.std.specs.Prelude.{◌≡◌, ◌≢◌, ℕ, ◌<◌, List, [], ◌∷◌, length, Result, Ok, Err, ◌⊎◌, MatchResult, IsOkAnd}
+use Rattle.std.specs.Prelude.{◌≡◌, ◌≢◌, ℕ, ◌<◌, List, [], ◌∷◌, length, Result, Ok, Err, MatchResult, IsOkAnd}
 use Rattle.std.proofs.Common.{refl, sym, ap, subst, ◌∙◌, inl, inr, arith}
 use Rattle.script_reader.specs.declared.command.ScriptFault.{ScriptFault}
 use Rattle.script_reader.specs.declared.command.ScriptFault.TheVariants.{UnknownCommand, WrongWords, BadNumber, BadQuoting, BadObject, NoMemory}
-use Rattle.script_reader.specs.Reading.{gives, refuses, the_one, and_then, no_word, one_word, two_words, three_words, five_words, Answers}
+use Rattle.script_reader.specs.Reading.{gives, refuses, and_then, no_word, one_word, two_words, three_words, five_words, Answers}
 
 pub answers_gives : {A : Type 0} (a b : A) → b ≡ a → Answers (gives a) (Ok b)
 unfolding Answers gives

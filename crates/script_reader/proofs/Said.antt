@@ -1,6 +1,6 @@
 -- Lines whose first word is no command.
 use Rattle.std.specs.Prelude.{◌≡◌, ℕ, List, [], ◌∷◌, length, Option, None, Err}
-use Rattle.std.proofs.Common.{refl, sym, ap, subst, ◌∙◌, arith}
+use Rattle.std.proofs.Common.{sym, subst, arith}
 use Rattle.script_reader.specs.declared.command.ScriptFault.TheVariants.{UnknownCommand}
 use Rattle.script_reader.specs.declared.command_words.CommandWord.{CommandWord}
 use Rattle.script_reader.specs.Reading.{Answers}

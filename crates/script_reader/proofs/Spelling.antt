@@ -106,7 +106,7 @@ escape_more c d k body word a b h e =
     ∙ (ap (λ j. cond j (put (escaped d) (unquoted body)) (put (Some c) (unquoted (d ∷ body)))) b
     ∙ (ap (λ o. put o (unquoted body)) h ∙ ap (put (Some k)) e))
 
-abbrev some_pair : List ℕ → List ℕ → Option (List ℕ × List ℕ)
+abbrev pub some_pair : List ℕ → List ℕ → Option (List ℕ × List ℕ)
 some_pair a b = Some (a, b)
 
 pair_parts : (a b c d : List ℕ) → some_pair a b ≡ some_pair c d → (a ≡ c) × (b ≡ d)

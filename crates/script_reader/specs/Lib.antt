@@ -5,3 +5,4 @@ pub mod Commands
 pub mod Reading
 pub mod PartWords
 pub mod Arguments
+pub mod Lines

@@ -1,5 +1,5 @@
 -- How the reader goes along a line. What the words of a line are stands in `Words`; proofs/Spelling.antt ties the two.
-use Rattle.std.specs.Prelude.{ℕ, Bool, not, ◌==◌, ◌||◌, List, [], ◌∷◌, ◌++◌, Option, Some, None, cond, if◌then◌else◌}
+use Rattle.std.specs.Prelude.{◌≡◌, ◌≤◌, length, take, drop, ℕ, Bool, not, ◌==◌, ◌||◌, List, [], ◌∷◌, ◌++◌, Option, Some, None, cond, if◌then◌else◌}
 use Rattle.script_reader.specs.Words.{is_plain, escaped, ends_word}
 
 abbrev pub front_by : (ℕ → Bool) → List ℕ → List ℕ
@@ -37,3 +37,9 @@ is_inner c = not (c == 34 || c == 92)
 abbrev pub put_all : List ℕ → Option (List ℕ × List ℕ) → Option (List ℕ × List ℕ)
 put_all cs None = None
 put_all cs (Some p) = Some (cs ++ p.0, p.1)
+
+-- so many bytes at the front pass, and no more
+pub record AreFront (p : ℕ → Bool) (text : List ℕ) (count : ℕ) : Type 0 where
+  pub within : count ≤ length text
+  pub front : front_by p text ≡ take count text
+  pub behind : behind_by p text ≡ drop count text

@@ -201,8 +201,8 @@ pub fn solve(alloc: Global, words: &[Text]) -> Result<(Text, u32), ScriptFault>
 {
     if let Some(table) = one(words) {
         let Ok(table) = copy_text(alloc, table) else {
-        return Err(ScriptFault::NoMemory);
-    };
+            return Err(ScriptFault::NoMemory);
+        };
         return Ok((table, 20_000));
     }
     let Some((table, budget)) = two(words) else {
@@ -219,7 +219,10 @@ pub fn solve(alloc: Global, words: &[Text]) -> Result<(Text, u32), ScriptFault>
 }
 
 #[tactic(auto, using(crate::proofs::Readings::readings))]
-pub fn good_of_recipe(alloc: Global, words: &[Text]) -> Result<(Object, Object, Option<Ratio>), ScriptFault>
+pub fn good_of_recipe(
+    alloc: Global,
+    words: &[Text],
+) -> Result<(Object, Object, Option<Ratio>), ScriptFault>
     ensures { Answers (good_of_recipe_words words.now) result }
 {
     let Some((recipe, good, amount)) = three(words) else {
@@ -340,7 +343,10 @@ pub fn want(alloc: Global, words: &[Text]) -> Result<(Text, Object, Ratio), Scri
 }
 
 #[tactic(auto, using(crate::proofs::Readings::readings))]
-pub fn price_of_good(alloc: Global, words: &[Text]) -> Result<(Text, Object, Option<Ratio>), ScriptFault>
+pub fn price_of_good(
+    alloc: Global,
+    words: &[Text],
+) -> Result<(Text, Object, Option<Ratio>), ScriptFault>
     ensures { Answers (price_of_good_words words.now) result }
 {
     let Some((table, good, price)) = three(words) else {

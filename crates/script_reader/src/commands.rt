@@ -3,7 +3,10 @@ ghost use Rattle.std.specs.Prelude.{◌≡◌};
 ghost use Rattle.script_reader.specs.Reading.{Answers, and_then, gives};
 ghost use Rattle.script_reader.specs.Arguments.{arguments, command_of_words, no_words};
 
-use crate::arguments::{enabled, good_of_recipe, kind, label, node, nothing_at, price, price_of_good, solve, switch, text, time, unlock, want};
+use crate::arguments::{
+    enabled, good_of_recipe, kind, label, node, nothing_at, price, price_of_good, solve, switch,
+    text, time, unlock, want,
+};
 use crate::command_words::{CommandWord, command_of};
 use crate::parts::row_of;
 use crate::{Change, Command, ScriptFault};
@@ -160,11 +163,7 @@ fn surplus(alloc: Global, words: &[Text]) -> Result<Command, ScriptFault>
 }
 
 /// The command that its first word begins and the words behind it end.
-fn arguments_of(
-    alloc: Global,
-    command: CommandWord,
-    words: &[Text],
-) -> Result<Command, ScriptFault>
+fn arguments_of(alloc: Global, command: CommandWord, words: &[Text]) -> Result<Command, ScriptFault>
     ensures { Answers (arguments command words.now) result }
 {
     match command {
@@ -187,8 +186,12 @@ fn arguments_of(
         CommandWord::Revoke => node(alloc, words).map(Change::Revoke).map(Command::Change),
         CommandWord::Forbid => node(alloc, words).map(Change::Forbid).map(Command::Change),
         CommandWord::Permit => node(alloc, words).map(Change::Permit).map(Command::Change),
-        CommandWord::Milestone => node(alloc, words).map(Change::Milestone).map(Command::Change),
-        CommandWord::Unmilestone => node(alloc, words).map(Change::Unmilestone).map(Command::Change),
+        CommandWord::Milestone => node(alloc, words)
+            .map(Change::Milestone)
+            .map(Command::Change),
+        CommandWord::Unmilestone => node(alloc, words)
+            .map(Change::Unmilestone)
+            .map(Command::Change),
         CommandWord::Ingredient => ingredient(alloc, words),
         CommandWord::Product => product(alloc, words),
         CommandWord::Unlock => unlocking(alloc, words),

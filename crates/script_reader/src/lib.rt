@@ -8,10 +8,15 @@ mod command_words;
 mod commands;
 mod fields;
 mod parts;
+mod read;
+mod split;
+#[cfg(test)]
+mod tests;
 pub mod words;
 
 pub use change::{BeaconWords, Change, Object, Parts};
-pub use command_words::{CommandWord, command_of};
 pub use command::{Command, ScriptFault};
+pub use command_words::{CommandWord, command_of};
 pub use commands::read_words;
 pub use fields::{Place, count_at, kind_of, object_at};
+pub use read::read_line;

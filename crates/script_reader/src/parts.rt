@@ -290,12 +290,7 @@ fn add_fuel(alloc: Global, parts: Parts, item: &Text) -> Result<Parts, ScriptFau
     }
 }
 
-fn add_module(
-    alloc: Global,
-    parts: Parts,
-    item: &Text,
-    number: &Text,
-) -> Result<Parts, ScriptFault>
+fn add_module(alloc: Global, parts: Parts, item: &Text, number: &Text) -> Result<Parts, ScriptFault>
     ensures { Answers (add_part parts (PartWords.Module item.now number.now)) result }
 {
     let added = match module_of(alloc, item, number) {
@@ -335,12 +330,7 @@ fn add_beacon(
     }
 }
 
-fn add_in(
-    alloc: Global,
-    parts: Parts,
-    item: &Text,
-    number: &Text,
-) -> Result<Parts, ScriptFault>
+fn add_in(alloc: Global, parts: Parts, item: &Text, number: &Text) -> Result<Parts, ScriptFault>
     ensures { Answers (add_part parts (PartWords.In item.now number.now)) result }
 {
     let added = match module_of(alloc, item, number) {

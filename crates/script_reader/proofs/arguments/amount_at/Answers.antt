@@ -1,6 +1,5 @@
 use Rattle.std.specs.Prelude.{codes, ◌≢◌}
 use Rattle.std.proofs.Common.{rules}
-use Rattle.std.proofs.lemmas.Grind.{common_steps}
 use Rattle.script_reader.proofs.Ratios.{ratio_other}
 use Rattle.script_reader.proofs.arguments.amount_at.Goals as goal
 

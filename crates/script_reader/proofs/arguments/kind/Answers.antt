@@ -1,5 +1,4 @@
-use Rattle.std.proofs.Common.{rules, refl}
-use Rattle.script_reader.proofs.Readings.{answers_one, answers_two, answers_three, answers_first, answers_next, answers_gives, pairs, triples}
+use Rattle.script_reader.proofs.Readings.{answers_one}
 use Rattle.script_reader.proofs.arguments.kind.Goals as goal
 
 pub returns : goal.returns

@@ -1,5 +1,5 @@
-use Rattle.std.proofs.Common.{rules, refl}
-use Rattle.script_reader.proofs.Readings.{answers_one, answers_two, answers_three, answers_first, answers_next, answers_gives, pairs, triples}
+use Rattle.std.proofs.Common.{refl}
+use Rattle.script_reader.proofs.Readings.{answers_three, answers_first, answers_next, answers_gives, triples}
 use Rattle.script_reader.proofs.arguments.price.Goals as goal
 
 pub returns-in-Err : goal.returns-in-Err

@@ -1,7 +1,5 @@
-use Rattle.std.proofs.Common.{rules, refl, ◌++◌, ◌∷◌, []}
-use Rattle.script_reader.specs.Arguments.{in_last}
-use Rattle.script_reader.proofs.Readings.{answers_first, answers_next, answers_gives, answers_memory, answers_five}
-use Rattle.script_reader.proofs.PartLemmas.{answers_fuel, answers_modules, answers_beacons}
+use Rattle.script_reader.proofs.Readings.{answers_first}
+use Rattle.script_reader.proofs.PartLemmas.{answers_fuel}
 use Rattle.script_reader.proofs.parts.add_fuel.Goals as goal
 
 pub returns-in-Ok : goal.returns-in-Ok

@@ -1,7 +1,6 @@
-use Rattle.std.proofs.Common.{rules, refl, ◌++◌, ◌∷◌, []}
 use Rattle.script_reader.specs.Arguments.{in_last}
-use Rattle.script_reader.proofs.Readings.{answers_first, answers_next, answers_gives, answers_memory, answers_five}
-use Rattle.script_reader.proofs.PartLemmas.{answers_fuel, answers_modules, answers_beacons}
+use Rattle.script_reader.proofs.Readings.{answers_first, answers_memory}
+use Rattle.script_reader.proofs.PartLemmas.{answers_beacons}
 use Rattle.script_reader.proofs.parts.add_in.Goals as goal
 
 pub returns-in-Err : goal.returns-in-Err

@@ -1,7 +1,5 @@
-use Rattle.std.proofs.Common.{rules, refl, ap}
-use Rattle.std.specs.Prelude.{List, ◌≡◌}
-use Rattle.script_reader.specs.declared.change.BeaconWords.{BeaconWords}
-use Rattle.script_reader.proofs.Readings.{answers_first, answers_next, answers_gives, answers_memory, answers_five}
+use Rattle.std.proofs.Common.{rules}
+use Rattle.script_reader.proofs.Readings.{answers_first, answers_next, answers_gives}
 use Rattle.script_reader.proofs.parts.beacon_of.Goals as goal
 
 pub returns-in-Err : goal.returns-in-Err

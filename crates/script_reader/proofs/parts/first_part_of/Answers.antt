@@ -1,4 +1,4 @@
-use Rattle.std.proofs.Common.{rules, drop}
+use Rattle.std.proofs.Common.{rules}
 use Rattle.script_reader.proofs.Readings.{answers_memory}
 use Rattle.script_reader.proofs.PartLemmas.{no_first, no_fuel, no_module, no_in, no_beacon, no_key, fuel_there, module_there, in_there, beacon_there}
 use Rattle.script_reader.proofs.parts.first_part_of.Goals as goal

@@ -1,5 +1,5 @@
-use Rattle.std.proofs.Common.{rules, refl}
-use Rattle.script_reader.proofs.Readings.{answers_first, answers_next, answers_gives, answers_memory, answers_five}
+use Rattle.std.proofs.Common.{refl}
+use Rattle.script_reader.proofs.Readings.{answers_first, answers_next, answers_gives}
 use Rattle.script_reader.proofs.parts.module_of.Goals as goal
 
 pub returns-in-Err : goal.returns-in-Err

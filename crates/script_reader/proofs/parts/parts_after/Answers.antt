@@ -1,6 +1,6 @@
 use Rattle.std.specs.Prelude.{List, nat_le, count_by}
 use Rattle.std.specs.List.{before_first, list_any}
-use Rattle.std.proofs.Common.{rules, arith, sym, ap, ◌∙◌}
+use Rattle.std.proofs.Common.{rules, sym, ap, ◌∙◌}
 use Rattle.script_reader.specs.declared.parts.PartWords.{PartWords}
 use Rattle.script_reader.specs.PartWords.{is_beacon, is_fuel, is_in}
 use Rattle.script_reader.proofs.PartLemmas.{not_by, no_list, the_list, two_fuels, in_first}

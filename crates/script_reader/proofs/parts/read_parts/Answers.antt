@@ -1,5 +1,5 @@
-use Rattle.std.specs.Prelude.{ℕ, List, ◌≡◌, ◌∷◌, ◌+◌, drop, Result, Ok}
-use Rattle.std.proofs.Common.{rules, refl, sym, ap, subst, ◌∙◌, arith}
+use Rattle.std.specs.Prelude.{List, ◌∷◌, ◌+◌, drop, Ok}
+use Rattle.std.proofs.Common.{sym, ap, subst, ◌∙◌}
 use Rattle.std.proofs.lemmas.List.{drop_more}
 use Rattle.script_reader.specs.declared.parts.PartWords.{PartWords}
 use Rattle.script_reader.specs.Reading.{Answers}

@@ -1,4 +1,4 @@
-use Rattle.std.specs.Prelude.{◌≡◌, drop, Result}
+use Rattle.std.specs.Prelude.{drop, Result}
 use Rattle.script_reader.specs.declared.change.Parts.{Parts}
 use Rattle.script_reader.specs.declared.command.ScriptFault.{ScriptFault}
 use Rattle.script_reader.specs.Reading.{Answers}

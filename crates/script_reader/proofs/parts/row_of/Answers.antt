@@ -1,5 +1,5 @@
 use Rattle.std.specs.Prelude.{List, Ok, Err}
-use Rattle.std.proofs.Common.{rules, refl, subst}
+use Rattle.std.proofs.Common.{refl, subst}
 use Rattle.script_reader.specs.declared.parts.PartWords.{PartWords}
 use Rattle.script_reader.specs.Reading.{Answers}
 use Rattle.script_reader.specs.Arguments.{add_parts, no_parts}

@@ -1,5 +1,5 @@
-use Rattle.std.specs.Prelude.{ℕ, List, ◌≡◌, ◌++◌, ◌≤◌, length, Ok}
-use Rattle.std.proofs.Common.{rules, refl, sym, ap, subst, ◌∙◌, arith}
+use Rattle.std.specs.Prelude.{ℕ, List, ◌++◌, ◌≤◌, length, Ok}
+use Rattle.std.proofs.Common.{rules, sym, ap, subst, ◌∙◌, arith}
 use Rattle.script_reader.specs.declared.parts.PartWords.{PartWords}
 use Rattle.script_reader.specs.Reading.{Answers}
 use Rattle.script_reader.specs.PartWords.{written_parts, all_parts}
