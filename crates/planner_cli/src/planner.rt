@@ -27,7 +27,8 @@ pub struct FirstPlanner {
 fn ranks_of<L>(alloc: Global, rows: Vec<Row>, steps: &mut Steps<L>) -> Result<Vec<u32>, NoMemory>
     requires few { length rows.items < 2 ^ 32 - 1 }
     requires members { AreMembersBelow (length rows.items) rows.items }
-    ensures { IfOk result (λ ranks. AreRanks (world rows.items (replicate (length rows.items) false) (replicate (length rows.items) false) None) ranks.items) }
+    ensures later { steps.old ≤ steps.new }
+    ensures ranks { IfOk result (λ ranks. AreRanks (world rows.items (replicate (length rows.items) false) (replicate (length rows.items) false) None) ranks.items) }
 {
     let count = rows.len();
     let none = vec![in alloc; false; count]?;
@@ -39,7 +40,8 @@ fn ranks_of<L>(alloc: Global, rows: Vec<Row>, steps: &mut Steps<L>) -> Result<Ve
 // A game with the ranks of its nodes.
 fn plan<L>(alloc: Global, game: FirstGame, steps: &mut Steps<L>) -> Result<FirstPlanner, FormFault>
     requires { IsSound game }
-    ensures { MatchResult result
+    ensures later { steps.old ≤ steps.new }
+    ensures planner { MatchResult result
         (λ planner. (with_few_members game ≡ Some planner.game) × IsPlanner planner)
         (λ fault. fault ≡ FormFault.NotFirst → with_few_members game ≡ None) }
 {
@@ -58,7 +60,8 @@ fn plan<L>(alloc: Global, game: FirstGame, steps: &mut Steps<L>) -> Result<First
 
 /// The game of a tree of JSON, with the ranks of its nodes.
 pub fn load<L>(alloc: Global, tree: &Tree, steps: &mut Steps<L>) -> Result<FirstPlanner, FormFault>
-    ensures { MatchResult result
+    ensures later { steps.old ≤ steps.new }
+    ensures planner { MatchResult result
         (λ planner. (first_game (seen tree.now) ≡ Some planner.game) × IsPlanner planner)
         (λ fault. fault ≡ FormFault.NotFirst → first_game (seen tree.now) ≡ None) }
 {

@@ -18,13 +18,13 @@ ranks_of-requires-clause-members g c =
     let long = length-rows_of c.args.game in
     subst below (sym c.in-Ok.ensures) (rows_below c.args.game c.requires (length (rows_of c.args.game)) (omega (arith, long)))
 
-pub returns-then-not-have_few_members : goal.returns-then-not-have_few_members
-returns-then-not-have_few_members g c = λ _.
+pub returns-then-not-have_few_members-clause-planner : goal.returns-then-not-have_few_members-clause-planner
+returns-then-not-have_few_members-clause-planner g c = λ _.
     few_members c.args.game false (ap (λ rows. nat_le (member_count rows) MEMBER_LIMIT) (sym c.in-Ok.ensures ∙ sym c.as_slice.ensures.value) ∙ sym c.if-not-have_few_members.ensures)
 
-pub returns-in-Ok-ranks_of : goal.returns-in-Ok-ranks_of
-returns-in-Ok-ranks_of g c =
+pub returns-in-Ok-ranks_of-clause-planner : goal.returns-in-Ok-ranks_of-clause-planner
+returns-in-Ok-ranks_of-clause-planner g c =
     let ranked : List Row → Type 0 = λ rows. AreRanks (world rows (replicate (length rows) false) (replicate (length rows) false) None) c.in-Ok-ranks_of.ranks.items in (
       few_members c.args.game true (ap (λ rows. nat_le (member_count rows) MEMBER_LIMIT) (sym c.in-Ok.ensures ∙ sym c.as_slice.ensures.value) ∙ sym c.if-not-have_few_members.ensures),
-      record { sound = c.requires; ranks = subst ranked c.in-Ok.ensures c.in-Ok-ranks_of.ensures },
+      record { sound = c.requires; ranks = subst ranked c.in-Ok.ensures c.in-Ok-ranks_of.ensures.ranks },
     )
