@@ -1,6 +1,6 @@
 -- Where a module may go: its effects must be allowed there, and the recipe must be one that it may be used for. After the
 -- prototype documentation of Factorio 1.1 (`limitation`, `limitation_blacklist`, `allowed_effects`).
-use Rattle.std.specs.Prelude.{ℕ, ◌==◌, ◌&&◌, ◌||◌, Bool, true, false, not, ℤ, pos, negsuc, List, [], ◌∷◌, Option, Some, None, Result, Ok, Err, if◌then◌else◌, length}
+use Rattle.std.specs.Prelude.{◌==◌, ◌&&◌, ◌||◌, Bool, true, not, ℤ, pos, negsuc, List, Option, Some, None, Result, Ok, Err, if◌then◌else◌, length}
 use Rattle.std.specs.List.{list_any}
 use Rattle.plan_base.specs.declared.RecipeId.{RecipeId}
 use Rattle.game_types.specs.declared.effects.Allowed.{Allowed}
@@ -11,7 +11,7 @@ use Rattle.game_types.specs.declared.fitting.FitFault.{FitFault}
 use Rattle.game_types.specs.declared.fitting.FitFault.TheVariants.{Kind, Limited}
 use Rattle.game_types.specs.declared.goods.Module.{Module}
 use Rattle.game_types.specs.declared.setups.Activity.{Activity}
-use Rattle.game_types.specs.declared.setups.Activity.TheVariants.{Craft, Mine, Pump, Generate, Boil, Research}
+use Rattle.game_types.specs.declared.setups.Activity.TheVariants.{Craft}
 
 abbrev pub is_nonzero : ℤ → Bool
 is_nonzero (pos n) = not (n == 0)

@@ -2,3 +2,9 @@ pub mod Nodes
 pub mod Sound
 pub mod Making
 pub mod Fitting
+pub mod Steps
+pub mod Lookups
+pub mod Modules
+pub mod Beacons
+pub mod Fuels
+pub mod Rates

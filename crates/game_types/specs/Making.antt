@@ -1,6 +1,6 @@
 -- Who makes what: which goods a recipe or a source gives, who crafts a recipe, who mines a source, which fuels are taken.
 -- After the prototype documentation of Factorio 1.1.
-use Rattle.std.specs.Prelude.{ℕ, suc, ◌+◌, ◌==◌, ◌&&◌, ◌||◌, Bool, true, false, not, pos, List, Option, Some, None, length, nat_lt, is_none}
+use Rattle.std.specs.Prelude.{ℕ, ◌==◌, ◌&&◌, ◌||◌, Bool, false, not, pos, List, Option, Some, None, nat_lt, is_none}
 use Rattle.std.specs.List.{list_all, list_any}
 use Rattle.std.specs.Prelude.{ℤ, negsuc}
 use Rattle.fractions.specs.Fraction.{Fraction, ◌+ʳ◌, ◌*ʳ◌, ◌/ʳ◌, whole_fraction}
@@ -8,11 +8,10 @@ use Rattle.plan_base.specs.declared.RecipeId.{RecipeId}
 use Rattle.game_types.specs.declared.recipes.Product.{Product}
 use Rattle.game_types.specs.declared.recipes.Recipe.{Recipe}
 use Rattle.game_types.specs.declared.recipes.Source.{Source}
-use Rattle.game_types.specs.declared.machinery.Machine.{Machine}
 use Rattle.game_types.specs.declared.machinery.MachineKind.{MachineKind}
-use Rattle.game_types.specs.declared.machinery.MachineKind.TheVariants.{Crafter, Drill, Pump, Boiler, Generator, BurnerGenerator, Solar, Reactor, Lab, Beacon}
+use Rattle.game_types.specs.declared.machinery.MachineKind.TheVariants.{Crafter, Drill}
 use Rattle.game_types.specs.declared.machinery.Energy.{Energy}
-use Rattle.game_types.specs.declared.machinery.Energy.TheVariants.{Electric, Burner, Heat, Fluid, Void}
+use Rattle.game_types.specs.declared.machinery.Energy.TheVariants.{Burner}
 use Rattle.game_types.specs.declared.goods.Fuel.{Fuel}
 use Rattle.game_types.specs.declared.research.Character.{Character}
 

@@ -1,6 +1,6 @@
 -- When a game is sound: its numbers name what is there, and what is divided by is above 0. And when a set-up is sound on a
 -- game. Whatever is read from a dump is sound, and edits keep it so.
-use Rattle.std.specs.Prelude.{◌≡◌, ℕ, ◌+◌, ◌<◌, ◌≤◌, ℤ, unsigned_abs, List, All, Option, Some, None, IfSome, length, slice_get, IsSomeAnd, IsSome}
+use Rattle.std.specs.Prelude.{◌≡◌, ℕ, ◌+◌, ◌<◌, ◌≤◌, ℤ, unsigned_abs, All, IfSome, length, slice_get, IsSomeAnd, IsSome}
 use Rattle.fractions.specs.Fraction.{◌<ʳ◌, zero_fraction}
 use Rattle.plan_base.specs.Shape.{node_count}
 use Rattle.plan_base.specs.declared.GoodId.{GoodId}
@@ -9,8 +9,6 @@ use Rattle.game_types.specs.declared.games.TheConstants.{NODE_LIMIT}
 use Rattle.game_types.specs.declared.effects.Bonus.{Bonus}
 use Rattle.game_types.specs.declared.goods.Module.{Module}
 use Rattle.game_types.specs.declared.goods.Item.{Item}
-use Rattle.game_types.specs.declared.recipes.Part.{Part}
-use Rattle.game_types.specs.declared.recipes.Product.{Product}
 use Rattle.game_types.specs.declared.recipes.Recipe.{Recipe}
 use Rattle.game_types.specs.declared.recipes.Source.{Source}
 use Rattle.game_types.specs.declared.machinery.Machine.{Machine}

@@ -47,6 +47,21 @@ pub struct Effects {
     pub pollution: Ratio,
 }
 
+/// What one craft a second takes of a machine.
+#[derive(Clone, Copy)]
+pub struct Rates {
+    /// How many machines.
+    pub machines: Ratio,
+    /// The electric power that they use, in watts.
+    pub power: Ratio,
+    /// The power that each machine takes beside that, in watts.
+    pub drain: Ratio,
+    /// The items of fuel that one craft burns.
+    pub fuel: Ratio,
+    /// What they pollute a minute.
+    pub pollution: Ratio,
+}
+
 /// A number past the limits of fractions, at the step of the rates that forms it.
 #[derive(Clone, Copy, Debug, PartialEq, Eq)]
 pub struct Wide {

@@ -15,8 +15,9 @@ pub enum FitFault {
     Limited,
 }
 
-// The first kind of effect that a module has and that isn't allowed.
-fn first_refused(bonus: &Bonus, allowed: &Allowed) -> Option<EffectKind>
+/// The first kind of effect that a module has and that isn't allowed, in the order speed, productivity, consumption,
+/// pollution.
+pub fn first_refused(bonus: &Bonus, allowed: &Allowed) -> Option<EffectKind>
     ensures { result ≡ first_refused bonus.now allowed.now }
 {
     if bonus.speed != 0 && !allowed.speed {

@@ -9,18 +9,26 @@ mod effects;
 mod fitting;
 mod games;
 mod goods;
+mod installed;
+mod lookups;
 mod machinery;
+mod making;
 mod recipes;
+mod refusals;
 mod research;
 mod setups;
+pub mod steps;
 #[cfg(test)]
 mod tests;
 
-pub use effects::{Allowed, BeaconSum, Bonus, EffectKind, Effects, Wide};
-pub use fitting::{FitFault, fits};
+pub use effects::{Allowed, BeaconSum, Bonus, EffectKind, Effects, Rates, Wide};
+pub use fitting::{FitFault, first_refused, fits};
 pub use games::{Game, NODE_LIMIT};
 pub use goods::{Fluid, Fuel, Item, Module};
+pub use installed::{check_slots, named, total_hundredths};
 pub use machinery::{Energy, Machine, MachineKind};
+pub use making::{holds, is_positive, takes_fuel};
 pub use recipes::{Part, Product, Recipe, Source};
+pub use refusals::{BeaconFault, FuelFault, MachineFault, ModuleFault};
 pub use research::{Character, Tech};
 pub use setups::{Activity, BeaconGroup, Setup};

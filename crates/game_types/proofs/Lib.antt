@@ -1,0 +1,5 @@
+pub mod StepLemmas
+pub mod Walks
+pub mod ModuleLemmas
+pub mod FuelLemmas
+pub mod BeaconLemmas
