@@ -1,6 +1,7 @@
 //! The whole dump: from its bytes to the typed game.
 #![tactic(auto)]
 
+mod draft;
 mod energy;
 mod goods;
 mod machines;
@@ -9,4 +10,5 @@ mod sections;
 mod sources;
 
 pub use raw::{RawEnergy, RawItem, RawKind, RawMachine, RawModule, RawSource};
-pub use sections::Section;
+pub use draft::Draft;
+pub use sections::{Class, Section};
