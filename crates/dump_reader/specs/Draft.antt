@@ -45,31 +45,44 @@ pub record RawGame : Type 0 where
 
 abbrev pub draft_seen : Draft → RawGame
 draft_seen d = record {
-    items = d.items.items;
-    fluids = d.fluids.items;
-    recipes = d.recipes.items;
-    sources = d.sources.items;
-    machines = d.machines.items;
-    techs = d.techs.items;
-    crafting = d.crafting.items;
-    mining = d.mining.items;
-    item_names = d.item_names;
-    fluid_names = d.fluid_names;
-    recipe_names = d.recipe_names;
-    source_names = d.source_names;
-    machine_names = d.machine_names;
-    tech_names = d.tech_names;
-    categories = d.categories;
-    nodes = d.nodes;
-  }
+  items = d.items.items;
+  fluids = d.fluids.items;
+  recipes = d.recipes.items;
+  sources = d.sources.items;
+  machines = d.machines.items;
+  techs = d.techs.items;
+  crafting = d.crafting.items;
+  mining = d.mining.items;
+  item_names = d.item_names;
+  fluid_names = d.fluid_names;
+  recipe_names = d.recipe_names;
+  source_names = d.source_names;
+  machine_names = d.machine_names;
+  tech_names = d.tech_names;
+  categories = d.categories;
+  nodes = d.nodes;
+}
 
 -- the three special nodes alone
 abbrev pub empty_game : RawGame
 empty_game = record {
-    items = []; fluids = []; recipes = []; sources = []; machines = []; techs = []; crafting = []; mining = [];
-    item_names = []; fluid_names = []; recipe_names = []; source_names = []; machine_names = []; tech_names = []; categories = [];
-    nodes = 3;
-  }
+  items = [];
+  fluids = [];
+  recipes = [];
+  sources = [];
+  machines = [];
+  techs = [];
+  crafting = [];
+  mining = [];
+  item_names = [];
+  fluid_names = [];
+  recipe_names = [];
+  source_names = [];
+  machine_names = [];
+  tech_names = [];
+  categories = [];
+  nodes = 3;
+}
 
 -- ---- a new name of a family, and one node more
 abbrev pub Taken : Type 0
@@ -77,39 +90,39 @@ Taken = Names × ℕ
 
 unfoldable pub taken : Names → ℕ → List ℕ → Reading Taken
 taken names nodes name =
-  if is_some (place_of names name) then wrong_element Twice within.Prototype
-  else if nat_le NODE_LIMIT nodes || nat_le 131072 (length names) then wrong_element Limit within.Prototype
-  else Ok (with_name names name, nodes + 1)
+    if is_some (place_of names name) then wrong_element Twice within.Prototype
+    else if nat_le NODE_LIMIT nodes || nat_le 131072 (length names) then wrong_element Limit within.Prototype
+    else Ok (with_name names name, nodes + 1)
 
 -- the same where two lists are of one family
 unfoldable pub taken_beside : Names → Names → ℕ → List ℕ → Reading Taken
 taken_beside names others nodes name =
-  if is_some (place_of others name) then wrong_element Twice within.Prototype else taken names nodes name
+    if is_some (place_of others name) then wrong_element Twice within.Prototype else taken names nodes name
 
 -- ---- one prototype more, by the class of its section
 unfoldable pub with_item : Section → List ℕ → Object → RawGame → Reading RawGame
 with_item section name object g =
-  taken g.item_names g.nodes name ▸ λ t.
-  item_of section object g.categories ▸ λ found.
-  Ok (record g { items = g.items ++ found.0 ∷ []; item_names = t.0; categories = found.1; nodes = t.1 })
+    taken g.item_names g.nodes name ▸ λ t.
+    item_of section object g.categories ▸ λ found.
+    Ok (record g { items = g.items ++ found.0 ∷ []; item_names = t.0; categories = found.1; nodes = t.1 })
 
 unfoldable pub with_fluid : List ℕ → Object → RawGame → Reading RawGame
 with_fluid name object g =
-  taken g.fluid_names g.nodes name ▸ λ t.
-  fluid_of object ▸ λ fluid.
-  Ok (record g { fluids = g.fluids ++ fluid ∷ []; fluid_names = t.0; nodes = t.1 })
+    taken g.fluid_names g.nodes name ▸ λ t.
+    fluid_of object ▸ λ fluid.
+    Ok (record g { fluids = g.fluids ++ fluid ∷ []; fluid_names = t.0; nodes = t.1 })
 
 unfoldable pub with_recipe : List ℕ → Object → RawGame → Reading RawGame
 with_recipe name object g =
-  taken g.recipe_names g.nodes name ▸ λ t.
-  raw_recipe object g.categories ▸ λ found.
-  Ok (record g { recipes = g.recipes ++ found.0 ∷ []; recipe_names = t.0; categories = found.1; nodes = t.1 })
+    taken g.recipe_names g.nodes name ▸ λ t.
+    raw_recipe object g.categories ▸ λ found.
+    Ok (record g { recipes = g.recipes ++ found.0 ∷ []; recipe_names = t.0; categories = found.1; nodes = t.1 })
 
 unfoldable pub with_tech : List ℕ → Object → RawGame → Reading RawGame
 with_tech name object g =
-  taken g.tech_names g.nodes name ▸ λ t.
-  raw_tech object ▸ λ tech.
-  Ok (record g { techs = g.techs ++ tech ∷ []; tech_names = t.0; nodes = t.1 })
+    taken g.tech_names g.nodes name ▸ λ t.
+    raw_tech object ▸ λ tech.
+    Ok (record g { techs = g.techs ++ tech ∷ []; tech_names = t.0; nodes = t.1 })
 
 -- what can't be mined takes no name
 unfoldable pub source_taken : Object → List ℕ → RawGame → Reading Taken
@@ -128,9 +141,9 @@ source_of section object names = source_by section object names
 
 unfoldable pub with_source : Section → List ℕ → Object → RawGame → Reading RawGame
 with_source section name object g =
-  source_taken object name g ▸ λ t.
-  source_of section object g.categories ▸ λ found.
-  Ok (record g { sources = one_more g.sources found.0; source_names = t.0; categories = found.1; nodes = t.1 })
+    source_taken object name g ▸ λ t.
+    source_of section object g.categories ▸ λ found.
+    Ok (record g { sources = one_more g.sources found.0; source_names = t.0; categories = found.1; nodes = t.1 })
 
 abbrev pub machine_by : Section → Object → Names → Reading (RawMachine × Names)
 machine_by section.MiningDrill object names = drill_of section.MiningDrill object names
@@ -149,18 +162,18 @@ machine_of section object names = machine_by section object names
 
 unfoldable pub with_machine : Section → List ℕ → Object → RawGame → Reading RawGame
 with_machine section name object g =
-  taken_beside g.machine_names g.source_names g.nodes name ▸ λ t.
-  machine_of section object g.categories ▸ λ found.
-  Ok (record g { machines = g.machines ++ found.0 ∷ []; machine_names = t.0; categories = found.1; nodes = t.1 })
+    taken_beside g.machine_names g.source_names g.nodes name ▸ λ t.
+    machine_of section object g.categories ▸ λ found.
+    Ok (record g { machines = g.machines ++ found.0 ∷ []; machine_names = t.0; categories = found.1; nodes = t.1 })
 
 -- all characters together craft and mine what one of them does
 unfoldable pub with_character : Object → RawGame → Reading RawGame
 with_character object g =
-  list_or_empty object CraftingCategories ▸ λ elements.
-  categories object CraftingCategories elements g.categories ▸ λ crafting.
-  list_or_empty object MiningCategories ▸ λ others.
-  categories object MiningCategories others crafting.1 ▸ λ mining.
-  Ok (record g { crafting = g.crafting ++ crafting.0; mining = g.mining ++ mining.0; categories = mining.1 })
+    list_or_empty object CraftingCategories ▸ λ elements.
+    categories object CraftingCategories elements g.categories ▸ λ crafting.
+    list_or_empty object MiningCategories ▸ λ others.
+    categories object MiningCategories others crafting.1 ▸ λ mining.
+    Ok (record g { crafting = g.crafting ++ crafting.0; mining = g.mining ++ mining.0; categories = mining.1 })
 
 -- ---- the class of a section
 abbrev pub class_of : Section → Class

@@ -4,3 +4,4 @@ pub mod Energy
 pub mod Machines
 pub mod Sources
 pub mod Draft
+pub mod Dump

@@ -60,9 +60,7 @@ fn take(names: &mut Names, nodes: &mut u32, name: &str) -> Result<(), FieldFault
             *nodes += 1;
             Ok(())
         }
-        Err(NameFault::Full) => {
-            Err(FieldFault::of_element(FieldCode::Limit, Within::Prototype))
-        }
+        Err(NameFault::Full) => { Err(FieldFault::of_element(FieldCode::Limit, Within::Prototype)) }
         Err(NameFault::NoMemory) => Err(FieldFault::no_memory()),
     }
 }
@@ -266,12 +264,7 @@ fn add_character(
         &mut draft.categories,
     )?;
     let others = fields.list_or_empty(Key::MiningCategories)?;
-    let mining = fields.categories(
-        alloc,
-        Key::MiningCategories,
-        others,
-        &mut draft.categories,
-    )?;
+    let mining = fields.categories(alloc, Key::MiningCategories, others, &mut draft.categories)?;
     put_behind(&mut draft.crafting, &crafting)?;
     put_behind(&mut draft.mining, &mining)?;
     Ok(())

@@ -5,10 +5,12 @@ mod draft;
 mod energy;
 mod goods;
 mod machines;
+mod passes;
 mod raw;
 mod sections;
 mod sources;
 
-pub use raw::{RawEnergy, RawItem, RawKind, RawMachine, RawModule, RawSource};
 pub use draft::Draft;
+pub use passes::read_game;
+pub use raw::{RawEnergy, RawItem, RawKind, RawMachine, RawModule, RawSource};
 pub use sections::{Class, Section};
