@@ -1,1 +1,1 @@
-mod FaultsLemmas
+pub mod FaultsLemmas

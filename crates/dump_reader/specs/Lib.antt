@@ -3,3 +3,5 @@ pub mod Goods
 pub mod Energy
 pub mod Machines
 pub mod Sources
+pub mod Draft
+pub mod Dump

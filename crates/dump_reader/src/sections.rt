@@ -1,5 +1,6 @@
 //! The sections of a dump that are read.
 ghost use Rattle.std.specs.Prelude.{◌≡◌};
+ghost use Rattle.dump_reader.specs.Draft.{class_of};
 ghost use Rattle.dump_reader.specs.Sections.{section_text};
 
 /// A section of a dump: the prototypes of one type.
@@ -45,6 +46,18 @@ pub enum Section {
     Beacon,
     Character,
     Technology,
+}
+
+/// What the prototypes of a section are.
+#[derive(Clone, Copy, Debug, PartialEq, Eq)]
+pub enum Class {
+    Items,
+    Fluids,
+    Recipes,
+    Sources,
+    Machines,
+    Characters,
+    Technologies,
 }
 
 impl Section {
@@ -93,6 +106,34 @@ impl Section {
             Section::Beacon => "beacon",
             Section::Character => "character",
             Section::Technology => "technology",
+        }
+    }
+
+    /// What its prototypes are.
+    pub fn class(self) -> Class
+        ensures { result ≡ class_of self }
+    {
+        match self {
+            Section::Fluid => Class::Fluids,
+            Section::Recipe => Class::Recipes,
+            Section::Resource | Section::Tree | Section::SimpleEntity | Section::Fish => {
+                Class::Sources
+            }
+            Section::AssemblingMachine
+            | Section::Furnace
+            | Section::RocketSilo
+            | Section::MiningDrill
+            | Section::OffshorePump
+            | Section::Boiler
+            | Section::Generator
+            | Section::BurnerGenerator
+            | Section::SolarPanel
+            | Section::Reactor
+            | Section::Lab
+            | Section::Beacon => Class::Machines,
+            Section::Character => Class::Characters,
+            Section::Technology => Class::Technologies,
+            _ => Class::Items,
         }
     }
 }

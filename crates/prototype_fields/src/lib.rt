@@ -14,4 +14,4 @@ pub use names::{Key, Within};
 pub use numbers::{
     energy, is_amount, is_less, is_positive, numeral, small_whole, tenth, thirtieth,
 };
-pub use trees::{as_bytes, as_flag, as_list, as_number, as_object, as_text};
+pub use trees::{as_bytes, as_flag, as_list, as_number, as_object, as_text, value_at};

@@ -1,0 +1,15 @@
+use Rattle.craft_reader.proofs.FaultsLemmas.{placed_fault}
+use Rattle.json_text.specs.SpanSeen.{span_seen}
+use Rattle.dump_reader.specs.Draft.{draft_seen}
+use Rattle.dump_reader.specs.Dump.{prototype_of, named_of}
+use Rattle.dump_reader.specs.Sections.{section_text}
+use Rattle.prototype_fields.specs.Values.{Gives}
+use Rattle.std.proofs.Common.{rules, sym, subst}
+use Rattle.dump_reader.proofs.passes.add_named.Goals as goal
+
+pub returns-in-Err : goal.returns-in-Err
+unfolding named_of
+returns-in-Err c =
+    let text = c.text.ensures in
+    placed_fault (section_text c.args.section) c.args.name.now (prototype_of c.args.section c.args.name.now (span_seen c.args.value.now) (draft_seen c.args.draft.now)) c.in-Err.fault c.of_field.result c.in-Err.ensures
+    (rw (sym text) c.of_field.ensures)

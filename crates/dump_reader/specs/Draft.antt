@@ -1,0 +1,212 @@
+-- What is known of a dump while it is read: its prototypes with names in place of ids, and the names that were taken. A
+-- name is taken once in its family; there are at most 131,072 nodes, the three special ones among them.
+use Rattle.std.specs.Prelude.{ℕ, ◌+◌, ◌||◌, List, [], ◌∷◌, ◌++◌, Option, Some, None, Ok, is_some, length, nat_le, if◌then◌else◌, unwrap_or}
+use Rattle.name_table.specs.Names.{place_of, with_name}
+use Rattle.prototype_fields.specs.declared.fault.FieldCode.TheVariants.{Twice, Limit}
+use Rattle.prototype_fields.specs.declared.names.Key.TheVariants.{Minable, CraftingCategories, MiningCategories}
+use Rattle.prototype_fields.specs.declared.names.Within.TheVariants as within
+use Rattle.prototype_fields.specs.Objects.{Object, field}
+use Rattle.prototype_fields.specs.Values.{Reading, ◌▸◌, Names, with_names, wrong_element, list_or_empty, categories}
+use Rattle.craft_reader.specs.Recipes.{raw_recipe}
+use Rattle.craft_reader.specs.Technologies.{raw_tech}
+use Rattle.craft_reader.specs.declared.recipes.RawRecipe.{RawRecipe}
+use Rattle.craft_reader.specs.declared.technologies.RawTech.{RawTech}
+use Rattle.game_types.specs.declared.goods.Fluid.{Fluid}
+use Rattle.game_types.specs.declared.games.TheConstants.{NODE_LIMIT}
+use Rattle.dump_reader.specs.declared.draft.Draft.{Draft}
+use Rattle.dump_reader.specs.declared.raw.RawItem.{RawItem}
+use Rattle.dump_reader.specs.declared.raw.RawMachine.{RawMachine}
+use Rattle.dump_reader.specs.declared.raw.RawSource.{RawSource}
+use Rattle.dump_reader.specs.declared.sections.Class.{Class}
+use Rattle.dump_reader.specs.declared.sections.Class.TheVariants as class
+use Rattle.dump_reader.specs.declared.sections.Section.{Section}
+use Rattle.dump_reader.specs.declared.sections.Section.TheVariants as section
+use Rattle.dump_reader.specs.Goods.{item_of, fluid_of}
+use Rattle.dump_reader.specs.Machines.{crafter_of, drill_of, pump_of, boiler_of, generator_of, burner_generator_of, solar_of, reactor_of, lab_of, beacon_of}
+use Rattle.dump_reader.specs.Sources.{resource_of, plant_of}
+
+pub record RawGame : Type 0 where
+  pub items : List RawItem
+  pub fluids : List Fluid
+  pub recipes : List RawRecipe
+  pub sources : List RawSource
+  pub machines : List RawMachine
+  pub techs : List RawTech
+  pub crafting : List ℕ
+  pub mining : List ℕ
+  pub item_names : Names
+  pub fluid_names : Names
+  pub recipe_names : Names
+  pub source_names : Names
+  pub machine_names : Names
+  pub tech_names : Names
+  pub categories : Names
+  pub nodes : ℕ
+
+abbrev pub draft_seen : Draft → RawGame
+draft_seen d = record {
+  items = d.items.items;
+  fluids = d.fluids.items;
+  recipes = d.recipes.items;
+  sources = d.sources.items;
+  machines = d.machines.items;
+  techs = d.techs.items;
+  crafting = d.crafting.items;
+  mining = d.mining.items;
+  item_names = d.item_names;
+  fluid_names = d.fluid_names;
+  recipe_names = d.recipe_names;
+  source_names = d.source_names;
+  machine_names = d.machine_names;
+  tech_names = d.tech_names;
+  categories = d.categories;
+  nodes = d.nodes;
+}
+
+-- the three special nodes alone
+abbrev pub empty_game : RawGame
+empty_game = record {
+  items = [];
+  fluids = [];
+  recipes = [];
+  sources = [];
+  machines = [];
+  techs = [];
+  crafting = [];
+  mining = [];
+  item_names = [];
+  fluid_names = [];
+  recipe_names = [];
+  source_names = [];
+  machine_names = [];
+  tech_names = [];
+  categories = [];
+  nodes = 3;
+}
+
+-- ---- a new name of a family, and one node more
+abbrev pub Taken : Type 0
+Taken = Names × ℕ
+
+unfoldable pub taken : Names → ℕ → List ℕ → Reading Taken
+taken names nodes name =
+    if is_some (place_of names name) then wrong_element Twice within.Prototype
+    else if nat_le NODE_LIMIT nodes || nat_le 131072 (length names) then wrong_element Limit within.Prototype
+    else Ok (with_name names name, nodes + 1)
+
+-- the same where two lists are of one family
+unfoldable pub taken_beside : Names → Names → ℕ → List ℕ → Reading Taken
+taken_beside names others nodes name =
+    if is_some (place_of others name) then wrong_element Twice within.Prototype else taken names nodes name
+
+-- ---- one prototype more, by the class of its section
+unfoldable pub with_item : Section → List ℕ → Object → RawGame → Reading RawGame
+with_item section name object g =
+    taken g.item_names g.nodes name ▸ λ t.
+    item_of section object g.categories ▸ λ found.
+    Ok (record g { items = g.items ++ found.0 ∷ []; item_names = t.0; categories = found.1; nodes = t.1 })
+
+unfoldable pub with_fluid : List ℕ → Object → RawGame → Reading RawGame
+with_fluid name object g =
+    taken g.fluid_names g.nodes name ▸ λ t.
+    fluid_of object ▸ λ fluid.
+    Ok (record g { fluids = g.fluids ++ fluid ∷ []; fluid_names = t.0; nodes = t.1 })
+
+unfoldable pub with_recipe : List ℕ → Object → RawGame → Reading RawGame
+with_recipe name object g =
+    taken g.recipe_names g.nodes name ▸ λ t.
+    raw_recipe object g.categories ▸ λ found.
+    Ok (record g { recipes = g.recipes ++ found.0 ∷ []; recipe_names = t.0; categories = found.1; nodes = t.1 })
+
+unfoldable pub with_tech : List ℕ → Object → RawGame → Reading RawGame
+with_tech name object g =
+    taken g.tech_names g.nodes name ▸ λ t.
+    raw_tech object ▸ λ tech.
+    Ok (record g { techs = g.techs ++ tech ∷ []; tech_names = t.0; nodes = t.1 })
+
+-- what can't be mined takes no name
+unfoldable pub source_taken : Object → List ℕ → RawGame → Reading Taken
+source_taken object name g = if is_some (field object Minable) then taken_beside g.source_names g.machine_names g.nodes name else Ok (g.source_names, g.nodes)
+
+abbrev pub source_by : Section → Object → Names → Reading (Option RawSource × Names)
+source_by section.Resource object names = resource_of section.Resource object names
+source_by section object names = with_names names (plant_of section object)
+
+abbrev pub one_more : List RawSource → Option RawSource → List RawSource
+one_more sources None = sources
+one_more sources (Some source) = sources ++ source ∷ []
+
+unfoldable pub source_of : Section → Object → Names → Reading (Option RawSource × Names)
+source_of section object names = source_by section object names
+
+unfoldable pub with_source : Section → List ℕ → Object → RawGame → Reading RawGame
+with_source section name object g =
+    source_taken object name g ▸ λ t.
+    source_of section object g.categories ▸ λ found.
+    Ok (record g { sources = one_more g.sources found.0; source_names = t.0; categories = found.1; nodes = t.1 })
+
+abbrev pub machine_by : Section → Object → Names → Reading (RawMachine × Names)
+machine_by section.MiningDrill object names = drill_of section.MiningDrill object names
+machine_by section.OffshorePump object names = with_names names (pump_of section.OffshorePump object)
+machine_by section.Boiler object names = boiler_of section.Boiler object names
+machine_by section.Generator object names = with_names names (generator_of section.Generator object)
+machine_by section.BurnerGenerator object names = burner_generator_of section.BurnerGenerator object names
+machine_by section.SolarPanel object names = with_names names (solar_of section.SolarPanel object)
+machine_by section.Reactor object names = reactor_of section.Reactor object names
+machine_by section.Lab object names = lab_of section.Lab object names
+machine_by section.Beacon object names = beacon_of section.Beacon object names
+machine_by section object names = crafter_of section object names
+
+unfoldable pub machine_of : Section → Object → Names → Reading (RawMachine × Names)
+machine_of section object names = machine_by section object names
+
+unfoldable pub with_machine : Section → List ℕ → Object → RawGame → Reading RawGame
+with_machine section name object g =
+    taken_beside g.machine_names g.source_names g.nodes name ▸ λ t.
+    machine_of section object g.categories ▸ λ found.
+    Ok (record g { machines = g.machines ++ found.0 ∷ []; machine_names = t.0; categories = found.1; nodes = t.1 })
+
+-- all characters together craft and mine what one of them does
+unfoldable pub with_character : Object → RawGame → Reading RawGame
+with_character object g =
+    list_or_empty object CraftingCategories ▸ λ elements.
+    categories object CraftingCategories elements g.categories ▸ λ crafting.
+    list_or_empty object MiningCategories ▸ λ others.
+    categories object MiningCategories others crafting.1 ▸ λ mining.
+    Ok (record g { crafting = g.crafting ++ crafting.0; mining = g.mining ++ mining.0; categories = mining.1 })
+
+-- ---- the class of a section
+abbrev pub class_of : Section → Class
+class_of section.Fluid = class.Fluids
+class_of section.Recipe = class.Recipes
+class_of section.Resource = class.Sources
+class_of section.Tree = class.Sources
+class_of section.SimpleEntity = class.Sources
+class_of section.Fish = class.Sources
+class_of section.AssemblingMachine = class.Machines
+class_of section.Furnace = class.Machines
+class_of section.RocketSilo = class.Machines
+class_of section.MiningDrill = class.Machines
+class_of section.OffshorePump = class.Machines
+class_of section.Boiler = class.Machines
+class_of section.Generator = class.Machines
+class_of section.BurnerGenerator = class.Machines
+class_of section.SolarPanel = class.Machines
+class_of section.Reactor = class.Machines
+class_of section.Lab = class.Machines
+class_of section.Beacon = class.Machines
+class_of section.Character = class.Characters
+class_of section.Technology = class.Technologies
+class_of section = class.Items
+
+abbrev pub with_entry : Class → Section → List ℕ → Object → RawGame → Reading RawGame
+with_entry class.Items section name object g = with_item section name object g
+with_entry class.Fluids section name object g = with_fluid name object g
+with_entry class.Recipes section name object g = with_recipe name object g
+with_entry class.Sources section name object g = with_source section name object g
+with_entry class.Machines section name object g = with_machine section name object g
+with_entry class.Characters section name object g = with_character object g
+with_entry class.Technologies section name object g = with_tech name object g
+
+unfoldable pub with_prototype : Section → List ℕ → Object → RawGame → Reading RawGame
+with_prototype section name object g = with_entry (class_of section) section name object g
