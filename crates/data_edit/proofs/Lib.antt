@@ -1,0 +1,5 @@
+pub mod EntryLoops
+pub mod Places
+pub mod Soundness
+pub mod Sameness
+pub mod EffectLaw

@@ -1,0 +1,5 @@
+pub mod Lists
+pub mod Faults
+pub mod Books
+pub mod Edits
+pub mod CarriedOut
