@@ -60,9 +60,9 @@ word_first text word rest words s k e = (rest, record { before = 32 ∷ []; text
 
 pub in_line : (front word rest : List ℕ) (us vs : List (List ℕ)) → IsBare word → SpellsLine front us → SpellsLine rest vs → ends_word rest ≡ true → SpellsLine (front ++ 32 ∷ (word ++ rest)) (us ++ word ∷ vs) × SpellsLine (front ++ 32 ∷ ((34 ∷ (word ++ 34 ∷ [])) ++ rest)) (us ++ word ∷ vs)
 in_line front word rest us vs b h k e = (
-      joined front (32 ∷ (word ++ rest)) us (word ∷ vs) h (word_first word word rest vs (bare_spells word b) k e) refl,
-      joined front (32 ∷ ((34 ∷ (word ++ 34 ∷ [])) ++ rest)) us (word ∷ vs) h (word_first (34 ∷ (word ++ 34 ∷ [])) word rest vs (quoted_spells word b) k e) refl,
-    )
+  joined front (32 ∷ (word ++ rest)) us (word ∷ vs) h (word_first word word rest vs (bare_spells word b) k e) refl,
+  joined front (32 ∷ ((34 ∷ (word ++ 34 ∷ [])) ++ rest)) us (word ∷ vs) h (word_first (34 ∷ (word ++ 34 ∷ [])) word rest vs (quoted_spells word b) k e) refl,
+)
 
 -- ---- the same words, the same command
 spelled_too : (line other : List ℕ) (words : List (List ℕ)) → SpellsLine line words → SpellsLine other words → (read : Result (List (List ℕ)) ScriptFault) → spelled line read → spelled other read
@@ -90,6 +90,6 @@ utf8_too line other words h k (Err fault) s = absurd (s.1 tt h.in_utf8)
 pub same_command : (line other : List ℕ) (words : List (List ℕ)) → HasWords line words → HasWords other words → (result : Result (Option Command) ScriptFault) → command_of_line line result → command_of_line other result
 same_command line other words h k result r =
     read_both (utf8 line) (utf8 other) (λ u. command_unless (has_no_command line) line) (λ u. command_unless (has_no_command other) other) (utf8_too line other words h k) (λ u read s.
-      subst (λ (b : Bool). command_unless b other read) (sym k.has_command)
-        (first_too (spelled line) (spelled other) (λ words. and_then (command_of_words words) (λ command. gives (Some command))) (spelled_too line other words h.spells k.spells) read
-          (subst (λ (b : Bool). command_unless b line read) h.has_command s))) result r
+    subst (λ (b : Bool). command_unless b other read) (sym k.has_command)
+    (first_too (spelled line) (spelled other) (λ words. and_then (command_of_words words) (λ command. gives (Some command))) (spelled_too line other words h.spells k.spells) read
+    (subst (λ (b : Bool). command_unless b line read) h.has_command s))) result r
