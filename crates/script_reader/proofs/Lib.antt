@@ -5,3 +5,5 @@ pub mod Ratios
 pub mod Said
 pub mod PartLemmas
 pub mod Splits
+pub mod Same
+pub mod One

@@ -27,7 +27,7 @@ pub behind_stops : (p : ℕ → Bool) (text : List ℕ) → Stops p (behind_by p
 behind_stops p [] = tt
 behind_stops p (c ∷ cs) = stops_by p c cs (p c) refl (behind_stops p cs)
 
-all_tail : (p : ℕ → Bool) (c : ℕ) (cs : List ℕ) → list_all p (c ∷ cs) ≡ true → (p c ≡ true) × (list_all p cs ≡ true)
+pub all_tail : (p : ℕ → Bool) (c : ℕ) (cs : List ℕ) → list_all p (c ∷ cs) ≡ true → (p c ≡ true) × (list_all p cs ≡ true)
 all_tail p c cs h = by (p c) (list_all p cs) h
   where
     by : (a b : Bool) → (a && b) ≡ true → (a ≡ true) × (b ≡ true)
@@ -92,7 +92,7 @@ put_parts c (Some p) word rest e =
     let same : (c ∷ p.0, p.1) ≡ (word, rest) = cc in
     record { tail = p.0; was = ap (λ r. Some (p.0, r)) (ap (λ (x : List ℕ × List ℕ). x.1) same); word_is = sym (ap (λ (x : List ℕ × List ℕ). x.0) same) }
 
-plain_more : (c : ℕ) (body : List ℕ) (word : List ℕ) → (c == 34) ≡ false → (c == 92) ≡ false → unquoted body ≡ Some word → unquoted (c ∷ body) ≡ Some (c ∷ word)
+pub plain_more : (c : ℕ) (body : List ℕ) (word : List ℕ) → (c == 34) ≡ false → (c == 92) ≡ false → unquoted body ≡ Some word → unquoted (c ∷ body) ≡ Some (c ∷ word)
 plain_more c [] word a b e =
     let same : [] ≡ word = cc in
     ap (λ k. cond (k || (c == 92)) None (Some (c ∷ []))) a ∙ (ap (λ k. cond k None (Some (c ∷ []))) b ∙ ap (λ l. Some (c ∷ l)) same)
@@ -319,7 +319,3 @@ one_reading line (u ∷ us) [] h k = absurd (first_some line u h.0 h.1 (blank_be
 one_reading line (u ∷ us) (v ∷ vs) h k =
     let p : (u ≡ v) × (h.0 ≡ k.0) = pair_parts u h.0 v k.0 (sym (first_found line u h.0 h.1) ∙ first_found line v k.0 k.1) in
     same_words u v us vs p.0 (one_reading k.0 us vs (subst (λ (l : List ℕ). SpellsLine l us) p.1 h.2) k.2)
-
--- a bare word and the same word in quotes
-pub quoted_too : (word : List ℕ) → 0 < length word → list_all is_plain word ≡ true → unquoted word ≡ Some word → SpellsWord word word × SpellsWord (34 ∷ (word ++ 34 ∷ [])) word
-quoted_too word s h e = (inl (s, h, refl), inr (word, refl, e))

@@ -1,12 +1,10 @@
 -- One word as an object, a number or a choice. The forms are this project's own.
-use Rattle.std.specs.Prelude.{◌≡◌, ℕ, ◌≤◌, Bool, true, false, List, ◌∷◌, ◌++◌, codes, ◌⊎◌, Result, Ok, Err}
+use Rattle.std.specs.Prelude.{◌≡◌, ℕ, ◌≤◌, Bool, true, false, List, ◌∷◌, ◌++◌, codes, ◌⊎◌}
 use Rattle.std.specs.Str.Parse.{digits_value}
 use Rattle.fractions.specs.Numeral.{IsWholePart}
 use Rattle.plan_base.specs.declared.shape.Kind.{Kind}
 use Rattle.plan_base.specs.declared.shape.Kind.TheVariants.{Special, Item, Fluid, Recipe, Source, Machine, Tech}
 use Rattle.script_reader.specs.declared.change.Object.{Object}
-use Rattle.script_reader.specs.declared.command.ScriptFault.{ScriptFault}
-use Rattle.script_reader.specs.declared.command.ScriptFault.TheVariants.{BadObject, NoMemory}
 use Rattle.script_reader.specs.declared.fields.Place.{Place}
 use Rattle.script_reader.specs.declared.fields.Place.TheVariants.{Node, Good, OneRecipe, OneTech, OneItem, OneMachine, Activity}
 
@@ -52,13 +50,6 @@ takes Activity kind = false
 pub record IsObjectAt (place : Place) (word : List ℕ) (object : Object) : Type 0 where
   pub writes : WritesObject word object.kind object.name
   pub taken : takes place object.kind ≡ true
-
--- what a word is read as where an object stands
-abbrev pub ReadsObject : Place → List ℕ → Result Object ScriptFault → Type 0
-ReadsObject place word (Ok object) = IsObjectAt place word object
-ReadsObject place word (Err BadObject) = (object : Object) → ¬ IsObjectAt place word object
-ReadsObject place word (Err NoMemory) = Unit {0}
-ReadsObject place word (Err fault) = ⊥
 
 -- a whole number in digits without a leading zero, from the least to the most
 pub record WritesCount (least most : ℕ) (word : List ℕ) (count : ℕ) : Type 0 where

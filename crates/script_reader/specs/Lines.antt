@@ -1,5 +1,5 @@
 -- What a line of the script says. The form is this project's own.
-use Rattle.std.specs.Prelude.{ℕ, Bool, true, false, ◌==◌, List, [], ◌∷◌, Option, Some, None, Result}
+use Rattle.std.specs.Prelude.{◌≡◌, ℕ, Bool, true, false, ◌==◌, List, [], ◌∷◌, Option, Some, None, Result}
 use Rattle.std.specs.Str.{IsUtf8}
 use Rattle.script_reader.specs.declared.command.Command.{Command}
 use Rattle.script_reader.specs.declared.command.ScriptFault.{ScriptFault}
@@ -21,6 +21,12 @@ has_no_command line = begins_comment (behind_by is_separator line)
 abbrev pub AreTexts : List (List ℕ) → Type 0
 AreTexts [] = Unit {0}
 AreTexts (word ∷ words) = IsUtf8 word × AreTexts words
+
+-- a line in UTF-8 that is neither blank nor a comment, and the words that it spells
+pub record HasWords (line : List ℕ) (words : List (List ℕ)) : Type 0 where
+  pub in_utf8 : IsUtf8 line
+  pub has_command : has_no_command line ≡ false
+  pub spells : SpellsLine line words
 
 -- the line is in UTF-8
 abbrev pub utf8 : List ℕ → Result (Unit {0}) ScriptFault → Type 0

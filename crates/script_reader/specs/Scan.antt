@@ -1,5 +1,5 @@
 -- How the reader goes along a line. What the words of a line are stands in `Words`; proofs/Spelling.antt ties the two.
-use Rattle.std.specs.Prelude.{◌≡◌, ◌≤◌, length, take, drop, ℕ, Bool, not, ◌==◌, ◌||◌, List, [], ◌∷◌, ◌++◌, Option, Some, None, cond, if◌then◌else◌}
+use Rattle.std.specs.Prelude.{◌≡◌, ◌≤◌, length, take, drop, ℕ, Bool, ◌==◌, List, [], ◌∷◌, ◌++◌, Option, Some, None, cond, if◌then◌else◌}
 use Rattle.script_reader.specs.Words.{is_plain, escaped, ends_word}
 
 abbrev pub front_by : (ℕ → Bool) → List ℕ → List ℕ
@@ -29,10 +29,6 @@ ended (Some p) = if ends_word p.1 then Some p else None
 abbrev pub first_word : List ℕ → Option (List ℕ × List ℕ)
 first_word [] = None
 first_word (c ∷ cs) = if c == 34 then ended (unquote cs) else ended (Some (front_by is_plain (c ∷ cs), behind_by is_plain (c ∷ cs)))
-
--- bytes between quotes that stand for themselves
-abbrev pub is_inner : ℕ → Bool
-is_inner c = not (c == 34 || c == 92)
 
 abbrev pub put_all : List ℕ → Option (List ℕ × List ℕ) → Option (List ℕ × List ℕ)
 put_all cs None = None

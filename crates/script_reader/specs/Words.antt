@@ -34,6 +34,12 @@ unquoted (c ∷ d ∷ cs) = if c == 34 then None else if c == 92 then put (escap
 abbrev pub SpellsWord : List ℕ → List ℕ → Type 0
 SpellsWord text word = ((0 < length text) × (list_all is_plain text ≡ true) × (word ≡ text)) ⊎ ((body : List ℕ) × (text ≡ 34 ∷ (body ++ 34 ∷ [])) × (unquoted body ≡ Some word))
 
+-- a word that needs no quotes and has no backslash
+pub record IsBare (word : List ℕ) : Type 0 where
+  pub some : 0 < length word
+  pub plain : list_all is_plain word ≡ true
+  pub unescaped : list_all (λ c. not (c == 92)) word ≡ true
+
 -- nothing, or a separator first
 abbrev pub ends_word : List ℕ → Bool
 ends_word [] = true
