@@ -5,6 +5,8 @@ mod fault;
 mod goods;
 mod recipes;
 mod technologies;
+#[cfg(test)]
+mod tests;
 
 pub use fault::{DumpCode, DumpFault};
 pub use goods::{

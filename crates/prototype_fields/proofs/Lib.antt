@@ -1,3 +1,4 @@
+pub mod CutLemmas
 pub mod Each
 pub mod NumbersLemmas
 pub mod TreesLemmas

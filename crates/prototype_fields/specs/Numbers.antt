@@ -1,7 +1,7 @@
 -- The value of a numeral and of an energy text as a function. `fractions` and `energy_units` say which numeral a text
 -- writes and what it is worth; a text writes one at most.
-use Rattle.std.specs.Prelude.{ℕ, ◌^◌, Bool, if◌then◌else◌, ℤ, pos, negsuc, ◌*ℤ◌, List, Option, Some, None, take, drop, ◌==◌, not, nat_le, Result, Ok, Err}
-use Rattle.std.specs.Int.RustNames.{int_lt}
+use Rattle.std.specs.Prelude.{ℕ, ◌^◌, Bool, if◌then◌else◌, ◌||◌, ℤ, pos, negsuc, ◌*ℤ◌, List, Option, Some, None, take, drop, ◌==◌, not, nat_le, Result, Ok, Err}
+use Rattle.std.specs.Int.RustNames.{int_div, int_lt}
 use Rattle.fractions.specs.Fraction.{Fraction, whole_fraction, ◌*ʳ◌}
 use Rattle.fractions.specs.Numeral.{Numeral, magnitude, numeral_value, limit}
 use Rattle.fractions.specs.Split.{numeral_of}
@@ -63,3 +63,7 @@ up_to_65535 (negsuc n) = None
 -- a whole number of at most 65,535
 abbrev pub small_whole : Fraction → Option ℕ
 small_whole x = if x.den == 1 then up_to_65535 x.num else None
+
+-- a number of magnitude at most 1,000,000, in hundredths, cut toward zero
+abbrev pub hundredths : Fraction → Option ℤ
+hundredths x = if is_less (whole_fraction (pos 1000000)) x || is_less x (whole_fraction (negsuc 999999)) then None else Some (int_div (x.num *ℤ pos 100) (pos x.den))

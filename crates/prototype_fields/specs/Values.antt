@@ -2,7 +2,7 @@
 -- or is missing where it is required. Kinds, defaults and ranges are those of the prototype documentation of Factorio 1.1
 -- in the profile of docs/LANGUAGE.md. A number whose spelling is no numeral, and a text that is no UTF-8, are of another
 -- kind; they do not stand in the tree of an accepted text.
-use Rattle.std.specs.Prelude.{◌≡◌, ◌≢◌, ℕ, ◌||◌, Bool, if◌then◌else◌, List, [], ◌∷◌, ◌++◌, Option, None, Some, option_and_then, is_some, unwrap_or, length, nat_le, nat_lt, Result, Ok, Err}
+use Rattle.std.specs.Prelude.{◌≡◌, ◌≢◌, ℕ, ℤ, pos, ◌||◌, Bool, if◌then◌else◌, List, [], ◌∷◌, ◌++◌, Option, None, Some, option_and_then, is_some, unwrap_or, length, nat_le, nat_lt, Result, Ok, Err}
 use Rattle.std.specs.Option.{option_to_list}
 use Rattle.json_text.specs.Kept.{Kept}
 use Rattle.name_table.specs.Names.{place_of, with_name}
@@ -18,7 +18,7 @@ use Rattle.prototype_fields.specs.declared.fault.FieldCode.{FieldCode}
 use Rattle.prototype_fields.specs.declared.fault.FieldCode.TheVariants.{Missing, WrongKind, Number, Energy, Limit, NoMemory}
 use Rattle.prototype_fields.specs.declared.fault.FieldFault.{FieldFault}
 use Rattle.prototype_fields.specs.Objects.{Object, Member, as_object, as_list, as_text, as_bytes, as_flag, as_number, field}
-use Rattle.prototype_fields.specs.Numbers.{numeral_reading, energy_reading, is_amount, is_positive, small_whole}
+use Rattle.prototype_fields.specs.Numbers.{hundredths, numeral_reading, energy_reading, is_amount, is_positive, small_whole}
 
 -- ---- what reading gives
 -- a value, or a fault
@@ -169,6 +169,10 @@ positive_or object key default = positive object key ▸ or_default default
 -- whole numbers of at most 65,535
 unfoldable pub whole_or : Object → Key → ℕ → Reading ℕ
 whole_or object key default = optional (λ value. number_in object key value ▸ λ found. or_wrong Limit object key (small_whole found)) (field object key) ▸ or_default default
+
+-- numbers of any sign, of magnitude at most 1,000,000, in hundredths
+unfoldable pub hundredths_or_zero : Object → Key → Reading ℤ
+hundredths_or_zero object key = optional (λ value. number_in object key value ▸ λ found. or_wrong Limit object key (hundredths found)) (field object key) ▸ or_default (pos 0)
 
 -- energies in joules, and powers in watts
 unfoldable pub energy_or : Object → Key → Fraction → Reading Fraction

@@ -5,9 +5,9 @@ ghost use Rattle.fractions.specs.Limits.{IsBelow};
 ghost use Rattle.energy_units.specs.declared.Measure.TheVariants.{Joules, Watts};
 ghost use Rattle.prototype_fields.specs.Objects.{field, pair_members, value_at};
 ghost use Rattle.prototype_fields.specs.Seen.{listed_members, object_seen};
-ghost use Rattle.prototype_fields.specs.Values.{Reading, amount, amount_in, amount_or, energy_in, energy_or, fault_at, flag_or, list, list_or_empty, name, name_or, number, number_in, number_or, object_at, object_element, object_in, object_or_empty, positive, positive_in, positive_or, power, required, required_amount, required_list, required_name, required_object, required_positive, required_power, required_short_list, seen_as, short_list, short_list_or_empty, text, text_in, unless_empty, whole_or};
+ghost use Rattle.prototype_fields.specs.Values.{Reading, amount, amount_in, amount_or, energy_in, energy_or, fault_at, flag_or, hundredths_or_zero, list, list_or_empty, name, name_or, number, number_in, number_or, object_at, object_element, object_in, object_or_empty, positive, positive_in, positive_or, power, required, required_amount, required_list, required_name, required_object, required_positive, required_power, required_short_list, seen_as, short_list, short_list_or_empty, text, text_in, unless_empty, whole_or};
 
-use crate::numbers::{energy, is_amount, is_positive, numeral, small_whole};
+use crate::numbers::{energy, hundredths, is_amount, is_positive, numeral, small_whole};
 use crate::trees::{
     as_bytes, as_flag, as_list, as_number, as_object, as_text, no_elements, no_members,
     unless_null, value_at,
@@ -372,6 +372,21 @@ impl<'t, 'b> Fields<'t, 'b> {
         let number = self.number_in(key, value)?;
         match small_whole(&number) {
             Some(whole) => Ok(whole),
+            None => Err(self.fault(FieldCode::Limit, key)),
+        }
+    }
+
+    /// A number of any sign, of magnitude at most 1,000,000, in hundredths and cut toward zero; 0 where it is absent.
+    #[tactic(auto, unfolding(crate::specs::Values::hundredths_or_zero))]
+    pub fn hundredths_or_zero(&self, key: Key) -> Result<i64, FieldFault>
+        ensures { result ≡ hundredths_or_zero (object_seen self.now) key }
+    {
+        let Some(value) = self.field(key) else {
+            return Ok(0);
+        };
+        let number = self.number_in(key, value)?;
+        match hundredths(&number) {
+            Some(found) => Ok(found),
             None => Err(self.fault(FieldCode::Limit, key)),
         }
     }

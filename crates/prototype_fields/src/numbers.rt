@@ -1,10 +1,10 @@
 //! Numerals and energies, and parts of them.
-ghost use Rattle.std.specs.Prelude.{◌≡◌, IfOk, pos};
+ghost use Rattle.std.specs.Prelude.{◌≡◌, ◌*◌, ◌<◌, ◌≤◌, ◌^◌, IfOk, pos, ◌<ℤ◌, ◌*ℤ◌, int_div, unsigned_abs};
 ghost use Rattle.fractions.specs.Fraction.{◌/ʳ◌, whole_fraction};
 ghost use Rattle.fractions.specs.Limits.{IsBelow};
 ghost use Rattle.fractions.specs.Reading.{ReadsNumeral};
 ghost use Rattle.energy_units.specs.Energy.{Reads};
-ghost use Rattle.prototype_fields.specs.Numbers.{energy_reading, is_amount, is_less, is_positive, numeral_reading, small_whole};
+ghost use Rattle.prototype_fields.specs.Numbers.{energy_reading, hundredths, is_amount, is_less, is_positive, numeral_reading, small_whole};
 
 use energy_units::{EnergyFault, Measure, read_energy, read_power};
 use fractions::{NumeralFault, Ratio, read_numeral};
@@ -96,4 +96,28 @@ pub fn is_less(number: &Ratio, other: &Ratio) -> bool
         Ordering::Equal => false,
         Ordering::Greater => false,
     }
+}
+
+// The greatest magnitude of a number in hundredths.
+const MILLION: i64 = 1_000_000;
+
+// A fraction in hundredths, cut toward zero.
+fn cut(numerator: i128, denominator: i128) -> i64
+    requires small { unsigned_abs numerator < 2 ^ 120 }
+    requires positive { pos 0 <ℤ denominator }
+    requires moderate { unsigned_abs numerator ≤ 1000000 * unsigned_abs denominator }
+    ensures { result ≡ int_div (numerator *ℤ pos 100) denominator }
+{
+    (numerator * 100 / denominator) as i64
+}
+
+/// A number of magnitude at most 1,000,000, in hundredths, cut toward zero.
+pub fn hundredths(number: &Ratio) -> Option<i64>
+    requires { IsBelow 120 number.now }
+    ensures { result ≡ hundredths number.now }
+{
+    if is_less(&Ratio::whole(MILLION), number) || is_less(number, &Ratio::whole(-MILLION)) {
+        return None;
+    }
+    Some(cut(number.numerator(), number.denominator()))
 }
