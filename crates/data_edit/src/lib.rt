@@ -12,6 +12,8 @@ mod exchanges;
 mod laws;
 mod parts;
 mod replacements;
+#[cfg(test)]
+mod tests;
 
 pub use applying::{apply_edit, restore};
 pub use books::Book;
