@@ -9,6 +9,8 @@ mod passes;
 mod raw;
 mod sections;
 mod sources;
+#[cfg(test)]
+mod tests;
 
 pub use draft::Draft;
 pub use passes::read_game;
