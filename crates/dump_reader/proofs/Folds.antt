@@ -1,5 +1,5 @@
 -- One thing after another: what all make of a state is what the rest makes of the state so far.
-use Rattle.std.proofs.Common.{◌≡◌, ◌∙◌, ◌<◌, ◌≤◌, ◌+◌, ℕ, List, [], ◌∷◌, Ok, Err, Result, length, map, drop, get_or, refl, ap, arith}
+use Rattle.std.proofs.Common.{◌≡◌, ◌∙◌, ◌<◌, ◌≤◌, ◌+◌, ℕ, List, [], Ok, Err, Result, length, map, drop, get_or, refl, ap, arith}
 use Rattle.std.proofs.lemmas.Grind.{common_steps}
 use Rattle.prototype_fields.proofs.Each.{next}
 use Rattle.craft_reader.specs.declared.fault.DumpFault.{DumpFault}

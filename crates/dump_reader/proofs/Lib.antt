@@ -1,1 +1,5 @@
 pub mod Folds
+pub mod SoundDraft
+pub mod SoundDump
+pub mod SoundGoods
+pub mod SoundMachines

@@ -1,6 +1,6 @@
 -- What is known of a dump while it is read: its prototypes with names in place of ids, and the names that were taken. A
 -- name is taken once in its family; there are at most 131,072 nodes, the three special ones among them.
-use Rattle.std.specs.Prelude.{ℕ, ◌+◌, ◌||◌, List, [], ◌∷◌, ◌++◌, Option, Some, None, Ok, is_some, length, nat_le, if◌then◌else◌, unwrap_or}
+use Rattle.std.specs.Prelude.{ℕ, ◌+◌, ◌||◌, List, [], ◌∷◌, ◌++◌, Option, Some, None, Ok, is_some, length, nat_le, if◌then◌else◌}
 use Rattle.name_table.specs.Names.{place_of, with_name}
 use Rattle.prototype_fields.specs.declared.fault.FieldCode.TheVariants.{Twice, Limit}
 use Rattle.prototype_fields.specs.declared.names.Key.TheVariants.{Minable, CraftingCategories, MiningCategories}

@@ -1,6 +1,6 @@
 -- Items and fluids as a dump has them: the table of their fields, in the order in which they are read. Fields and defaults
 -- are those of the prototype documentation of Factorio 1.1.
-use Rattle.std.specs.Prelude.{ℕ, ◌*◌, Bool, ℤ, pos, ◌/◌, neg_ℤ, if◌then◌else◌, int_lt, unsigned_abs, List, Option, Some, None, option_map, nat_le, Ok}
+use Rattle.std.specs.Prelude.{ℕ, ◌*◌, Bool, ℤ, pos, ◌/◌, neg_ℤ, if◌then◌else◌, int_lt, unsigned_abs, Option, Some, None, option_map, nat_le, Ok}
 use Rattle.fractions.specs.Fraction.{Fraction, zero_fraction, one_fraction, whole_fraction}
 use Rattle.prototype_fields.specs.declared.names.Key.{Key}
 use Rattle.prototype_fields.specs.declared.names.Key.TheVariants.{PlaceResult, FuelCategory, FuelValue, FuelEmissionsMultiplier, BurntResult, Effect, Speed, Productivity, Consumption, Pollution, Bonus as BonusKey, Limitation, LimitationBlacklist, HeatCapacity, DefaultTemperature}

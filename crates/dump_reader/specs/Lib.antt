@@ -5,3 +5,4 @@ pub mod Machines
 pub mod Sources
 pub mod Draft
 pub mod Dump
+pub mod Sound

@@ -1,6 +1,6 @@
 -- Machines as a dump has them: a table of fields for each kind, in the order in which they are read. Fields and defaults are
 -- those of the prototype documentation of Factorio 1.1; the default drain is this project's own.
-use Rattle.std.specs.Prelude.{ℕ, pos, Bool, true, false, not, is_some, List, [], ◌∷◌, Option, Some, None, Ok, codes}
+use Rattle.std.specs.Prelude.{ℕ, pos, Bool, true, false, is_some, List, [], ◌∷◌, Option, Some, None, Ok, codes}
 use Rattle.std.specs.List.{list_any}
 use Rattle.std.specs.Str.{bytes_eq}
 use Rattle.json_text.specs.Kept.{Kept}
@@ -12,7 +12,7 @@ use Rattle.prototype_fields.specs.Objects.{Object, as_text, field}
 use Rattle.prototype_fields.specs.Values.{Reading, ◌▸◌, Names, text, name, required_name, flag_or, number_or, amount_or, required_amount, required_positive, positive_or, whole_or, power, required_power, object_at, required_object, object_or_empty, required_list, names_in, categories}
 use Rattle.dump_reader.specs.declared.energy.Source.{Source}
 use Rattle.dump_reader.specs.declared.raw.RawEnergy.{RawEnergy}
-use Rattle.dump_reader.specs.declared.raw.RawEnergy.TheVariants.{Electric, Burner, Heat, Fluid, Void}
+use Rattle.dump_reader.specs.declared.raw.RawEnergy.TheVariants.{Electric, Void}
 use Rattle.dump_reader.specs.declared.raw.RawKind.{RawKind}
 use Rattle.dump_reader.specs.declared.raw.RawKind.TheVariants.{Crafter, Drill, Pump, Boiler, Generator, BurnerGenerator, Solar, Reactor, Lab, Beacon}
 use Rattle.dump_reader.specs.declared.raw.RawMachine.{RawMachine}

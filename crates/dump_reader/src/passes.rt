@@ -1,11 +1,12 @@
 //! The first pass over the tree of a dump.
-ghost use Rattle.std.specs.Prelude.{◌≡◌, ◌≢◌, [], option_map, map};
+ghost use Rattle.std.specs.Prelude.{◌≡◌, ◌≢◌, [], IfOk, option_map, map};
 ghost use Rattle.json_text.specs.SpanSeen.{members_seen, span_seen, text_seen};
 ghost use Rattle.prototype_fields.specs.Values.{Gives, seen_as};
 ghost use Rattle.craft_reader.specs.Faults.{GivesDump, fault_in};
 ghost use Rattle.dump_reader.specs.Draft.{draft_seen};
 ghost use Rattle.dump_reader.specs.Dump.{each_after, member_of, named_of, no_object, prototype_of, section_of, sections, raw_game};
 ghost use Rattle.dump_reader.specs.Sections.{section_text};
+ghost use Rattle.dump_reader.specs.Sound.{IsSoundDraft};
 ghost use Rattle.prototype_fields.specs.Objects.{if_utf8};
 
 use crate::draft::{Draft, add_prototype};
@@ -181,14 +182,16 @@ fn add_sections(
     Ok(())
 }
 
-/// All that a tree of JSON says of a game, with names in place of ids.
+/// All that a tree of JSON says of a game, with names in place of ids. It is sound: there are as many names as prototypes,
+/// few enough nodes, and each number is within its range.
 ///
 /// # Errors
 ///
 /// The first fault of the first pass, with its section and the name of its prototype.
 #[tactic(auto, unfolding(crate::specs::Dump::raw_game))]
 pub fn read_game(alloc: Global, tree: &SpanTree<'_>) -> Result<Draft, DumpFault>
-    ensures { GivesDump (raw_game (span_seen tree.now)) (seen_as draft_seen result) }
+    ensures gives { GivesDump (raw_game (span_seen tree.now)) (seen_as draft_seen result) }
+    ensures sound { IfOk result (λ draft. IsSoundDraft (draft_seen draft)) }
 {
     let Some(top) = as_object(tree) else {
         return Err(no_object(alloc, ""));

@@ -3,8 +3,7 @@ use Rattle.json_text.specs.SpanSeen.{span_seen}
 use Rattle.dump_reader.specs.Draft.{draft_seen}
 use Rattle.dump_reader.specs.Dump.{prototype_of, named_of}
 use Rattle.dump_reader.specs.Sections.{section_text}
-use Rattle.prototype_fields.specs.Values.{Gives}
-use Rattle.std.proofs.Common.{rules, sym, subst}
+use Rattle.std.proofs.Common.{sym}
 use Rattle.dump_reader.proofs.passes.add_named.Goals as goal
 
 pub returns-in-Err : goal.returns-in-Err
