@@ -1,0 +1,55 @@
+//! From the bytes of a dump to the typed game.
+ghost use Rattle.std.specs.Prelude.{◌≡◌, ◌≢◌, IfOk, MatchResult};
+ghost use Rattle.dump_reader.specs.Draft.{draft_seen};
+ghost use Rattle.dump_reader.specs.Sound.{IsSoundDraft};
+ghost use Rattle.game_types.specs.Sound.{IsSound};
+ghost use Rattle.game_reader.specs.Games.{HasDraft, HasFault, HasGame, json_fault};
+
+use crate::keys::dump_wanted;
+use crate::links::link;
+use craft_reader::{DumpCode, DumpFault};
+use dump_reader::{Draft, read_game};
+use game_types::Game;
+use json_text::{JsonCode, JsonFault, read_spans};
+use std::alloc::Global;
+
+// The fault of a text that is no JSON.
+fn no_json(alloc: Global, fault: JsonFault) -> DumpFault
+    ensures json { result.code ≢ DumpCode.NoMemory → result ≡ json_fault fault }
+    ensures memory { fault.code ≡ JsonCode.NoMemory → result.code ≡ DumpCode.NoMemory }
+{
+    match fault.code {
+        JsonCode::NoMemory => DumpFault::of_code(alloc, DumpCode::NoMemory),
+        _ => DumpFault::of_code(alloc, DumpCode::Json(fault)),
+    }
+}
+
+// What the first pass makes of a dump.
+fn read_draft(alloc: Global, bytes: &[u8]) -> Result<Draft, DumpFault>
+    ensures draft { MatchResult result (λ draft. HasDraft bytes.now (draft_seen draft)) (λ fault. fault.code ≢ DumpCode.NoMemory → HasFault bytes.now fault) }
+    ensures sound { IfOk result (λ draft. IsSoundDraft (draft_seen draft)) }
+{
+    let Ok(wanted) = dump_wanted(alloc) else {
+        return Err(DumpFault::of_code(alloc, DumpCode::NoMemory));
+    };
+    let tree = match read_spans(alloc, bytes, &wanted) {
+        Ok(tree) => tree,
+        Err(fault) => return Err(no_json(alloc, fault)),
+    };
+    read_game(alloc, &tree)
+}
+
+/// The game of a dump.
+///
+/// # Errors
+///
+/// The first fault of the dump: of its JSON with its place, or else of a prototype with its section, name and field.
+pub fn read_dump(alloc: Global, bytes: &[u8]) -> Result<Game, DumpFault>
+    ensures sound { IfOk result IsSound }
+    ensures game { MatchResult result (HasGame bytes.now) (λ fault. fault.code ≢ DumpCode.NoMemory → HasFault bytes.now fault) }
+{
+    match read_draft(alloc, bytes) {
+        Ok(draft) => link(alloc, draft),
+        Err(fault) => Err(fault),
+    }
+}
