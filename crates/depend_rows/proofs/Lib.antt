@@ -1,0 +1,13 @@
+pub mod Below
+pub mod CraftLemmas
+pub mod FuelLemmas
+pub mod KeyLemmas
+pub mod LabLemmas
+pub mod Listing
+pub mod MarkLemmas
+pub mod NumbersLemmas
+pub mod OrderLemmas
+pub mod Ranges
+pub mod Signs
+pub mod TouchLemmas
+pub mod Walks

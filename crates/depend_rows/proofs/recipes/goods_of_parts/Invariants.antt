@@ -1,0 +1,6 @@
+use Rattle.std.proofs.Common.{[]}
+use Rattle.depend_rows.proofs.Walks.{Appended}
+use Rattle.depend_rows.proofs.recipes.goods_of_parts.Given as goal
+
+abbrev pub invariant-loop-part : goal.invariant-loop-part
+invariant-loop-part l = Appended (λ part. part.good.0) [] l.parts l.part-index l.goods.items

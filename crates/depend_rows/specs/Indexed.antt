@@ -1,0 +1,23 @@
+-- What an index of a game holds: the nodes that rows are put together from.
+use Rattle.std.specs.Prelude.{◌≡◌, false, true, length}
+use Rattle.game_types.specs.declared.games.Game.{Game}
+use Rattle.depend_rows.specs.declared.index.Index.{Index}
+use Rattle.depend_rows.specs.Members.{those}
+use Rattle.depend_rows.specs.Making.{first_machine, givers, good_count, unlockers}
+use Rattle.depend_rows.specs.Doing.{burning_fluids, placers}
+use Rattle.depend_rows.specs.Kinds.{crafts_all_of, crafts_alone, is_drill_of, is_fuel_of, is_lab}
+use Rattle.depend_rows.specs.Lists.{AreLists, AreMarks}
+
+pub record IsIndex (g : Game) (index : Index) : Type 0 where
+  pub givers : AreLists (givers g) (good_count g) index.givers.items
+  pub unlockers : AreLists (unlockers g) (length g.recipes) index.unlockers.items
+  pub placers : AreLists (placers g) (length g.machines) index.placers.items
+  pub crafters : AreLists (λ category. those (λ machine. crafts_all_of machine.kind category) (first_machine g) g.machines) (length index.crafters.items) index.crafters.items
+  pub fixed : AreLists (λ number. those (λ machine. crafts_alone g.recipes machine.kind number) (first_machine g) g.machines) (length g.recipes) index.fixed.items
+  pub drills : AreLists (λ category. those (λ machine. is_drill_of false machine.kind category) (first_machine g) g.machines) (length index.drills.items) index.drills.items
+  pub boxed_drills : AreLists (λ category. those (λ machine. is_drill_of true machine.kind category) (first_machine g) g.machines) (length index.boxed_drills.items) index.boxed_drills.items
+  pub fuels : AreLists (λ category. those (λ item. is_fuel_of item.fuel category) 3 g.items) (length index.fuels.items) index.fuels.items
+  pub burning : index.burning.items ≡ burning_fluids g
+  pub labs : index.labs.items ≡ those (λ machine. is_lab machine.kind) (first_machine g) g.machines
+  pub crafting : AreMarks g.character.crafting index.crafting.items
+  pub mining : AreMarks g.character.mining index.mining.items

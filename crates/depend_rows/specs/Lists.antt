@@ -1,0 +1,42 @@
+-- Lists of nodes by number: the nodes of the things that are about each number.
+use Rattle.std.specs.Prelude.{ℕ, ◌≡◌, ◌<◌, ◌==◌, Bool, false, List, [], ◌∷◌, ◌++◌, Vec, length, map, slice_index_or}
+use Rattle.std.specs.Global.{Global}
+use Rattle.std.specs.List.{list_any}
+use Rattle.std.specs.List.Sorted.{IsStrictlyIncreasing}
+use Rattle.plan_base.specs.declared.ids.NodeId.{NodeId}
+
+-- what lists hold
+abbrev pub contents : List (Vec NodeId Global) → List (List NodeId)
+contents lists = map (λ list. list.items) lists
+
+-- whether a number is among these
+abbrev pub is_among : List ℕ → ℕ → Bool
+is_among numbers k = list_any (λ j. j == k) numbers
+
+-- the list of a number
+abbrev pub list_at : List (Vec NodeId Global) → ℕ → List NodeId
+list_at lists k = slice_index_or (contents lists) k []
+
+-- each list has more at its end
+pub record Extends (more : ℕ → List NodeId) (old new : List (Vec NodeId Global)) : Type 0 where
+  pub as_long : length new ≡ length old
+  pub each : (k : ℕ) → k < length old → list_at new k ≡ list_at old k ++ more k
+
+-- there are so many lists, and each is this one
+pub record AreLists (of : ℕ → List NodeId) (count : ℕ) (lists : List (Vec NodeId Global)) : Type 0 where
+  pub as_long : length lists ≡ count
+  pub each : (k : ℕ) → k < count → list_at lists k ≡ of k
+
+-- the nodes have these numbers, in order and each once
+pub record HoldInOrder (numbers : List ℕ) (nodes : List NodeId) : Type 0 where
+  pub rise : IsStrictlyIncreasing (map (λ n. n.0) nodes)
+  pub same : (k : ℕ) → is_among (map (λ n. n.0) nodes) k ≡ is_among numbers k
+
+-- the numbers of the nodes in the lists of some numbers
+unfoldable pub numbers_at : List (Vec NodeId Global) → List ℕ → List ℕ
+numbers_at lists [] = []
+numbers_at lists (k ∷ ks) = map (λ n. n.0) (list_at lists k) ++ numbers_at lists ks
+
+-- each mark says whether its number is among these
+abbrev pub AreMarks : List ℕ → List Bool → Type 0
+AreMarks numbers marks = (k : ℕ) → k < length marks → slice_index_or marks k false ≡ is_among numbers k

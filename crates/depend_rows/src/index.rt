@@ -1,0 +1,509 @@
+//! The nodes that rows are put together from, made once in time in proportion to the game.
+ghost use Rattle.std.specs.Prelude.{◌≡◌, ℕ, ◌==◌, ◌&&◌, IfOk, OnOk, length, slice_get};
+ghost use Rattle.std.specs.List.{list_any};
+ghost use Rattle.std.specs.Option.{option_copied, option_to_list};
+ghost use Rattle.game_types.specs.Making.{gives};
+ghost use Rattle.game_types.specs.Sound.{IsSound};
+ghost use Rattle.depend_rows.specs.Members.{is_good, those};
+ghost use Rattle.depend_rows.specs.Making.{first_machine, first_recipe, first_source, givers, good_count, puts_out, unlockers};
+ghost use Rattle.depend_rows.specs.Doing.{burning_fluids, is_machine, placers};
+ghost use Rattle.depend_rows.specs.Kinds.{crafts_all_of, crafts_alone, has_category, is_drill_of, is_fuel_of};
+ghost use Rattle.depend_rows.specs.Lists.{AreLists, Extends, is_among};
+
+use crate::goods::is_expected;
+use crate::lists::{Keys, empty_lists, extend_lists, lists_of};
+use crate::machines::burning_fluids;
+use crate::marks::marks_of;
+use crate::places::{first_machine, first_recipe, first_source, first_tech, good_count};
+use crate::techs::all_labs;
+use game_types::{
+    Fuel, Game, Item, Machine, MachineKind, Product, Recipe, Source, Tech, holds, is_positive,
+};
+use plan_base::{EntityId, GoodId, Items, NoMemory, NodeId, RecipeId};
+use std::alloc::Global;
+
+/// The nodes that rows are put together from.
+#[derive(Drop)]
+pub struct Index {
+    /// For each good, what gives it.
+    pub givers: Vec<Vec<NodeId>>,
+    /// For each recipe, the technologies that unlock it.
+    pub unlockers: Vec<Vec<NodeId>>,
+    /// For each machine, the items that are placed as it.
+    pub placers: Vec<Vec<NodeId>>,
+    /// For each category, the machines that craft all its recipes.
+    pub crafters: Vec<Vec<NodeId>>,
+    /// For each recipe, the machines that craft it alone.
+    pub fixed: Vec<Vec<NodeId>>,
+    /// For each category, its drills.
+    pub drills: Vec<Vec<NodeId>>,
+    /// For each category, its drills that take a fluid.
+    pub boxed_drills: Vec<Vec<NodeId>>,
+    /// For each category, its fuels that have any energy.
+    pub fuels: Vec<Vec<NodeId>>,
+    /// The fluids that burn.
+    pub burning: Vec<NodeId>,
+    /// The labs.
+    pub labs: Vec<NodeId>,
+    /// For each category, whether the character crafts its recipes.
+    pub crafting: Vec<bool>,
+    /// For each category, whether the character mines its sources.
+    pub mining: Vec<bool>,
+}
+
+// ---- what things are about
+
+fn copied(alloc: Global, numbers: &[u32]) -> Result<Vec<u32>, NoMemory>
+    ensures { IfOk result (λ copy. copy.items ≡ numbers.now) }
+{
+    Ok(Vec::from_slice(alloc, numbers)?)
+}
+
+// A number, where there is one.
+fn one_number(alloc: Global, number: Option<u32>) -> Result<Vec<u32>, NoMemory>
+    ensures { IfOk result (λ numbers. numbers.items ≡ option_to_list number) }
+{
+    let mut numbers = Vec::new(alloc);
+    if let Some(number) = number {
+        numbers.push(number)?;
+    }
+    Ok(numbers)
+}
+
+fn good_number(alloc: Global, good: Option<GoodId>) -> Result<Vec<u32>, NoMemory>
+    ensures { IfOk result (λ numbers. (k : ℕ) → is_among numbers.items k ≡ is_good good k) }
+{
+    match good {
+        Some(good) => one_number(alloc, Some(good.0)),
+        None => one_number(alloc, None),
+    }
+}
+
+fn machine_number(alloc: Global, machine: Option<EntityId>) -> Result<Vec<u32>, NoMemory>
+    ensures { IfOk result (λ numbers. (k : ℕ) → is_among numbers.items k ≡ is_machine machine k) }
+{
+    match machine {
+        Some(machine) => one_number(alloc, Some(machine.0)),
+        None => one_number(alloc, None),
+    }
+}
+
+// The goods that some products give.
+fn goods_given(alloc: Global, products: &[Product]) -> Result<Vec<u32>, NoMemory>
+    ensures { IfOk result (λ goods. (k : ℕ) → is_among goods.items k ≡ gives products.now k) }
+{
+    let mut goods = Vec::new(alloc);
+    for product in products {
+        if is_expected(product) {
+            goods.push(product.good.0)?;
+        }
+    }
+    Ok(goods)
+}
+
+fn put_out(alloc: Global, kind: &MachineKind) -> Result<Vec<u32>, NoMemory>
+    ensures { IfOk result (λ goods. (k : ℕ) → is_among goods.items k ≡ puts_out kind.now k) }
+{
+    match kind {
+        MachineKind::Pump { fluid, .. } => one_number(alloc, Some(fluid.0)),
+        MachineKind::Boiler { output, .. } => good_number(alloc, *output),
+        _ => one_number(alloc, None),
+    }
+}
+
+// The goods that things give.
+#[derive(Drop)]
+struct Given;
+
+impl Keys<Item> for Given {
+    ghost about = { λ _ item good. is_good item.burnt good };
+
+    fn keys(&self, alloc: Global, item: &Item) -> Result<Vec<u32>, NoMemory> {
+        good_number(alloc, item.burnt)
+    }
+}
+
+impl Keys<Recipe> for Given {
+    ghost about = { λ _ recipe good. gives recipe.products good };
+
+    fn keys(&self, alloc: Global, recipe: &Recipe) -> Result<Vec<u32>, NoMemory> {
+        goods_given(alloc, recipe.products.as_slice())
+    }
+}
+
+impl Keys<Source> for Given {
+    ghost about = { λ _ source good. gives source.products good };
+
+    fn keys(&self, alloc: Global, source: &Source) -> Result<Vec<u32>, NoMemory> {
+        goods_given(alloc, source.products.as_slice())
+    }
+}
+
+impl Keys<Machine> for Given {
+    ghost about = { λ _ machine good. puts_out machine.kind good };
+
+    fn keys(&self, alloc: Global, machine: &Machine) -> Result<Vec<u32>, NoMemory> {
+        put_out(alloc, &machine.kind)
+    }
+}
+
+// The recipes that technologies unlock.
+#[derive(Drop)]
+struct Unlocked;
+
+fn numbers_of_recipes(alloc: Global, recipes: &[RecipeId]) -> Result<Vec<u32>, NoMemory>
+    ensures { IfOk result (λ numbers. (k : ℕ) → is_among numbers.items k ≡ list_any (λ r. r.0 == k) recipes.now) }
+{
+    let mut numbers = Vec::new(alloc);
+    for recipe in recipes {
+        numbers.push(recipe.0)?;
+    }
+    Ok(numbers)
+}
+
+impl Keys<Tech> for Unlocked {
+    ghost about = { λ _ tech number. list_any (λ r. r.0 == number) tech.unlocks };
+
+    fn keys(&self, alloc: Global, tech: &Tech) -> Result<Vec<u32>, NoMemory> {
+        numbers_of_recipes(alloc, tech.unlocks.as_slice())
+    }
+}
+
+// The machines that items are placed as.
+#[derive(Drop)]
+struct Placed;
+
+impl Keys<Item> for Placed {
+    ghost about = { λ _ item number. is_machine item.place number };
+
+    fn keys(&self, alloc: Global, item: &Item) -> Result<Vec<u32>, NoMemory> {
+        machine_number(alloc, item.place)
+    }
+}
+
+// The categories of which machines craft all recipes.
+#[derive(Drop)]
+struct CraftedByCategory;
+
+fn categories_crafted(alloc: Global, kind: &MachineKind) -> Result<Vec<u32>, NoMemory>
+    ensures { IfOk result (λ numbers. (k : ℕ) → is_among numbers.items k ≡ crafts_all_of kind.now k) }
+{
+    match kind {
+        MachineKind::Crafter {
+            categories,
+            fixed: None,
+            ..
+        } => copied(alloc, categories.as_slice()),
+        _ => one_number(alloc, None),
+    }
+}
+
+impl Keys<Machine> for CraftedByCategory {
+    ghost about = { λ _ machine category. crafts_all_of machine.kind category };
+
+    fn keys(&self, alloc: Global, machine: &Machine) -> Result<Vec<u32>, NoMemory> {
+        categories_crafted(alloc, &machine.kind)
+    }
+}
+
+// The recipes that machines craft alone.
+#[derive(Drop)]
+struct CraftedAlone<'a> {
+    recipes: &'a [Recipe],
+}
+
+fn has_category(categories: &[u32], recipe: Option<&Recipe>) -> bool
+    ensures { result ≡ has_category categories.now (option_copied recipe.entry) }
+{
+    match recipe {
+        Some(recipe) => holds(categories, recipe.category),
+        None => false,
+    }
+}
+
+fn number_fixed(
+    alloc: Global,
+    recipes: &[Recipe],
+    categories: &[u32],
+    fixed: RecipeId,
+) -> Result<Vec<u32>, NoMemory>
+    ensures { IfOk result (λ numbers. (k : ℕ) → is_among numbers.items k ≡ ((fixed.0 == k) && has_category categories.now (slice_get recipes.now k))) }
+{
+    if has_category(categories, recipes.get(fixed.0 as usize)) {
+        one_number(alloc, Some(fixed.0))
+    } else {
+        one_number(alloc, None)
+    }
+}
+
+fn recipe_crafted(
+    alloc: Global,
+    recipes: &[Recipe],
+    kind: &MachineKind,
+) -> Result<Vec<u32>, NoMemory>
+    ensures { IfOk result (λ numbers. (k : ℕ) → is_among numbers.items k ≡ crafts_alone recipes.now kind.now k) }
+{
+    match kind {
+        MachineKind::Crafter {
+            categories,
+            fixed: Some(fixed),
+            ..
+        } => number_fixed(alloc, recipes, categories.as_slice(), *fixed),
+        _ => one_number(alloc, None),
+    }
+}
+
+impl Keys<Machine> for CraftedAlone<'_> {
+    ghost about = { λ t machine number. crafts_alone t.recipes.now machine.kind number };
+
+    fn keys(&self, alloc: Global, machine: &Machine) -> Result<Vec<u32>, NoMemory> {
+        recipe_crafted(alloc, self.recipes, &machine.kind)
+    }
+}
+
+// The categories of drills, with a box for a fluid where one is wanted.
+#[derive(Drop)]
+struct Drilled {
+    boxed: bool,
+}
+
+fn categories_drilled(alloc: Global, boxed: bool, kind: &MachineKind) -> Result<Vec<u32>, NoMemory>
+    ensures { IfOk result (λ numbers. (k : ℕ) → is_among numbers.items k ≡ is_drill_of boxed kind.now k) }
+{
+    match kind {
+        MachineKind::Drill {
+            categories,
+            fluid_box,
+            ..
+        } => {
+            if !boxed || *fluid_box {
+                copied(alloc, categories.as_slice())
+            } else {
+                one_number(alloc, None)
+            }
+        }
+        _ => one_number(alloc, None),
+    }
+}
+
+impl Keys<Machine> for Drilled {
+    ghost about = { λ t machine category. is_drill_of t.boxed machine.kind category };
+
+    fn keys(&self, alloc: Global, machine: &Machine) -> Result<Vec<u32>, NoMemory> {
+        categories_drilled(alloc, self.boxed, &machine.kind)
+    }
+}
+
+// The categories of fuels that have any energy.
+#[derive(Drop)]
+struct Burnt;
+
+fn category_of_fuel(alloc: Global, fuel: Option<Fuel>) -> Result<Vec<u32>, NoMemory>
+    ensures { IfOk result (λ numbers. (k : ℕ) → is_among numbers.items k ≡ is_fuel_of fuel k) }
+{
+    match fuel {
+        Some(fuel) => {
+            if is_positive(&fuel.value) {
+                one_number(alloc, Some(fuel.category))
+            } else {
+                one_number(alloc, None)
+            }
+        }
+        None => one_number(alloc, None),
+    }
+}
+
+impl Keys<Item> for Burnt {
+    ghost about = { λ _ item category. is_fuel_of item.fuel category };
+
+    fn keys(&self, alloc: Global, item: &Item) -> Result<Vec<u32>, NoMemory> {
+        category_of_fuel(alloc, item.fuel)
+    }
+}
+
+// ---- the lists
+
+fn extend_by_items(alloc: Global, game: &Game, lists: &mut [Vec<NodeId>]) -> Result<(), NoMemory>
+    requires { IsSound game.now }
+    ensures { OnOk result (Extends (λ good. those (λ item. is_good item.burnt good) 3 game.now.items) lists.old lists.new) }
+{
+    extend_lists(alloc, lists, 3, game.items.as_slice(), &Given)
+}
+
+fn extend_by_recipes(alloc: Global, game: &Game, lists: &mut [Vec<NodeId>]) -> Result<(), NoMemory>
+    requires { IsSound game.now }
+    ensures { OnOk result (Extends (λ good. those (λ recipe. gives recipe.products good) (first_recipe game.now) game.now.recipes) lists.old lists.new) }
+{
+    extend_lists(
+        alloc,
+        lists,
+        first_recipe(game),
+        game.recipes.as_slice(),
+        &Given,
+    )
+}
+
+fn extend_by_sources(alloc: Global, game: &Game, lists: &mut [Vec<NodeId>]) -> Result<(), NoMemory>
+    requires { IsSound game.now }
+    ensures { OnOk result (Extends (λ good. those (λ source. gives source.products good) (first_source game.now) game.now.sources) lists.old lists.new) }
+{
+    extend_lists(
+        alloc,
+        lists,
+        first_source(game),
+        game.sources.as_slice(),
+        &Given,
+    )
+}
+
+fn extend_by_machines(alloc: Global, game: &Game, lists: &mut [Vec<NodeId>]) -> Result<(), NoMemory>
+    requires { IsSound game.now }
+    ensures { OnOk result (Extends (λ good. those (λ machine. puts_out machine.kind good) (first_machine game.now) game.now.machines) lists.old lists.new) }
+{
+    extend_lists(
+        alloc,
+        lists,
+        first_machine(game),
+        game.machines.as_slice(),
+        &Given,
+    )
+}
+
+fn extend_by_givers(alloc: Global, game: &Game, lists: &mut [Vec<NodeId>]) -> Result<(), NoMemory>
+    requires { IsSound game.now }
+    ensures { OnOk result (Extends (givers game.now) lists.old lists.new) }
+{
+    extend_by_items(alloc, game, lists)?;
+    extend_by_recipes(alloc, game, lists)?;
+    extend_by_sources(alloc, game, lists)?;
+    extend_by_machines(alloc, game, lists)?;
+    Ok(())
+}
+
+fn givers(alloc: Global, game: &Game) -> Result<Vec<Vec<NodeId>>, NoMemory>
+    requires { IsSound game.now }
+    ensures { IfOk result (λ lists. AreLists (givers game.now) (good_count game.now) lists.items) }
+{
+    let mut lists = empty_lists(alloc, good_count(game))?;
+    extend_by_givers(alloc, game, lists.as_mut_slice())?;
+    Ok(lists)
+}
+
+#[tactic(auto, unfolding(crate::specs::Making::unlockers))]
+fn unlockers(alloc: Global, game: &Game) -> Result<Vec<Vec<NodeId>>, NoMemory>
+    requires { IsSound game.now }
+    ensures { IfOk result (λ lists. AreLists (unlockers game.now) (length game.now.recipes) lists.items) }
+{
+    let count = game.shape().recipes;
+    lists_of(
+        alloc,
+        count,
+        first_tech(game),
+        game.techs.as_slice(),
+        &Unlocked,
+    )
+}
+
+#[tactic(auto, unfolding(crate::specs::Doing::placers))]
+fn placers(alloc: Global, game: &Game) -> Result<Vec<Vec<NodeId>>, NoMemory>
+    requires { IsSound game.now }
+    ensures { IfOk result (λ lists. AreLists (placers game.now) (length game.now.machines) lists.items) }
+{
+    let count = game.shape().machines;
+    lists_of(alloc, count, 3, game.items.as_slice(), &Placed)
+}
+
+fn crafters(alloc: Global, game: &Game) -> Result<Vec<Vec<NodeId>>, NoMemory>
+    requires { IsSound game.now }
+    ensures { IfOk result (λ lists. AreLists (λ category. those (λ machine. crafts_all_of machine.kind category) (first_machine game.now) game.now.machines) (length lists.items) lists.items) }
+{
+    let count = game.categories.len();
+    lists_of(
+        alloc,
+        count,
+        first_machine(game),
+        game.machines.as_slice(),
+        &CraftedByCategory,
+    )
+}
+
+fn fixed(alloc: Global, game: &Game) -> Result<Vec<Vec<NodeId>>, NoMemory>
+    requires { IsSound game.now }
+    ensures { IfOk result (λ lists. AreLists (λ number. those (λ machine. crafts_alone game.now.recipes machine.kind number) (first_machine game.now) game.now.machines) (length game.now.recipes) lists.items) }
+{
+    let count = game.shape().recipes;
+    let keys = CraftedAlone {
+        recipes: game.recipes.as_slice(),
+    };
+    lists_of(
+        alloc,
+        count,
+        first_machine(game),
+        game.machines.as_slice(),
+        &keys,
+    )
+}
+
+fn drills(alloc: Global, game: &Game, boxed: bool) -> Result<Vec<Vec<NodeId>>, NoMemory>
+    requires { IsSound game.now }
+    ensures { IfOk result (λ lists. AreLists (λ category. those (λ machine. is_drill_of boxed machine.kind category) (first_machine game.now) game.now.machines) (length lists.items) lists.items) }
+{
+    let count = game.categories.len();
+    lists_of(
+        alloc,
+        count,
+        first_machine(game),
+        game.machines.as_slice(),
+        &Drilled { boxed },
+    )
+}
+
+fn fuels(alloc: Global, game: &Game) -> Result<Vec<Vec<NodeId>>, NoMemory>
+    requires { IsSound game.now }
+    ensures { IfOk result (λ lists. AreLists (λ category. those (λ item. is_fuel_of item.fuel category) 3 game.now.items) (length lists.items) lists.items) }
+{
+    let count = game.categories.len();
+    lists_of(alloc, count, 3, game.items.as_slice(), &Burnt)
+}
+
+impl Index {
+    ghost use Rattle.depend_rows.specs.Indexed.{IsIndex};
+
+    /// The index of a game.
+    ///
+    /// # Errors
+    ///
+    /// `NoMemory` where memory could not be had.
+    pub fn make(alloc: Global, game: &Game) -> Result<Index, NoMemory>
+        requires { IsSound game.now }
+        ensures { IfOk result (IsIndex game.now) }
+    {
+        let givers = givers(alloc, game)?;
+        let unlockers = unlockers(alloc, game)?;
+        let placers = placers(alloc, game)?;
+        let crafters = crafters(alloc, game)?;
+        let fixed = fixed(alloc, game)?;
+        let drills_of_all = drills(alloc, game, false)?;
+        let boxed_drills = drills(alloc, game, true)?;
+        let fuels = fuels(alloc, game)?;
+        let burning = burning_fluids(alloc, game)?;
+        let labs = all_labs(alloc, game)?;
+        let categories = game.categories.len();
+        let crafting = marks_of(alloc, categories, game.character.crafting.as_slice())?;
+        let mining = marks_of(alloc, categories, game.character.mining.as_slice())?;
+        Ok(Index {
+            givers,
+            unlockers,
+            placers,
+            crafters,
+            fixed,
+            drills: drills_of_all,
+            boxed_drills,
+            fuels,
+            burning,
+            labs,
+            crafting,
+            mining,
+        })
+    }
+}

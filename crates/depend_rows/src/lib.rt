@@ -1,0 +1,20 @@
+//! What each node of a game needs: its dependency row.
+#![tactic(auto)]
+
+mod goods;
+mod index;
+mod lists;
+mod machines;
+mod marks;
+mod members;
+mod places;
+mod recipes;
+mod rows;
+mod techs;
+#[cfg(test)]
+mod tests;
+mod touching;
+mod unions;
+
+pub use rows::{MEMBER_LIMIT, RowsFault, row_of, rows_all, rows_within};
+pub use touching::{edits_touch_no_others, touched};

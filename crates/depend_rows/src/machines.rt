@@ -1,0 +1,313 @@
+//! What machines need, and what gives electricity and heat.
+ghost use Rattle.std.specs.Prelude.{◌≡◌, ◌↔◌, ◌<◌, ◌++◌, ◌∷◌, [], All, IfOk, IfSome, IsTrue, OnOk, length};
+ghost use Rattle.fractions.specs.Fraction.{Fraction};
+ghost use Rattle.game_types.specs.declared.machinery.Energy.TheVariants.{Burner};
+ghost use Rattle.game_types.specs.Making.{is_positive};
+ghost use Rattle.game_types.specs.Sound.{IsFluid, IsSound, IsSoundEnergy, IsSoundKind, IsSoundMachine};
+ghost use Rattle.depend_rows.specs.Members.{any_of, row_with, those};
+ghost use Rattle.depend_rows.specs.Indexed.{IsIndex};
+ghost use Rattle.depend_rows.specs.Kinds.{is_fuel_in};
+ghost use Rattle.depend_rows.specs.Lists.{numbers_at, HoldInOrder};
+ghost use Rattle.depend_rows.specs.Doing.{burning_fluids, electricity_row, energy_groups, fluid_or_burning, fuels_taken, heat_row, input_groups, machine_row, makes_electricity, makes_heat};
+
+use crate::index::Index;
+use crate::lists::{distinct, list_at};
+use crate::members::{Test, all_of_good, all_of_node, any_of, row_with, those};
+use crate::places::{first_fluid, first_machine};
+use crate::unions::{in_order, push_list};
+use game_types::{Energy, Fluid, Fuel, Game, Item, Machine, MachineKind, holds, is_positive};
+use graph_store::{Group, Row};
+use plan_base::{GoodId, NoMemory, NodeId};
+use std::alloc::Global;
+
+fn is_fuel_in(categories: &[u32], fuel: Option<Fuel>) -> bool
+    ensures { result ≡ is_fuel_in categories.now fuel }
+{
+    match fuel {
+        Some(fuel) => holds(categories, fuel.category) && is_positive(&fuel.value),
+        None => false,
+    }
+}
+
+// The fuels of some categories.
+#[derive(Drop)]
+struct FuelsIn<'a> {
+    categories: &'a [u32],
+}
+
+impl Test<Item> for FuelsIn<'_> {
+    ghost passes = { λ t item. is_fuel_in t.categories.now item.fuel };
+
+    fn passes(&self, item: &Item) -> bool {
+        is_fuel_in(self.categories, item.fuel)
+    }
+}
+
+// The fuels of categories that have lists.
+fn fuels_listed(
+    alloc: Global,
+    fuels: &[Vec<NodeId>],
+    categories: &[u32],
+) -> Result<Vec<NodeId>, NoMemory>
+    requires { All (λ c. c < length fuels.now) categories.now }
+    ensures { IfOk result (λ nodes. HoldInOrder (numbers_at fuels.now categories.now) nodes.items) }
+{
+    let mut numbers = Vec::new(alloc);
+    for category in categories {
+        push_list(&mut numbers, fuels, *category)?;
+    }
+    let nodes = in_order(alloc, numbers)?;
+    Ok(nodes)
+}
+
+fn are_below(categories: &[u32], count: usize) -> bool
+    ensures { IsTrue result ↔ All (λ c. c < count) categories.now }
+{
+    categories
+        .iter()
+        .all(|category| (*category as usize) < count)
+}
+
+// The fuels that a burner of some categories takes.
+fn fuels_taken(
+    alloc: Global,
+    game: &Game,
+    index: &Index,
+    categories: &[u32],
+) -> Result<Vec<NodeId>, NoMemory>
+    requires sound { IsSound game.now }
+    requires index { IsIndex game.now index.now }
+    ensures { IfOk result (λ nodes. nodes.items ≡ those (λ item. is_fuel_in categories.now item.fuel) 3 game.now.items) }
+{
+    let different = distinct(Vec::from_slice(alloc, categories)?);
+    let all = different.as_slice();
+    let fuels = index.fuels.as_slice();
+    if are_below(all, fuels.len()) {
+        let nodes = fuels_listed(alloc, fuels, all)?;
+        Ok(nodes)
+    } else {
+        those(alloc, 3, game.items.as_slice(), &FuelsIn { categories })
+    }
+}
+
+// Whether a fluid burns.
+#[derive(Drop)]
+struct Burning;
+
+impl Test<Fluid> for Burning {
+    ghost passes = { λ _ fluid. is_positive fluid.fuel_value };
+
+    fn passes(&self, fluid: &Fluid) -> bool {
+        is_positive(&fluid.fuel_value)
+    }
+}
+
+/// The fluids that burn.
+#[tactic(auto, unfolding(crate::specs::Doing::burning_fluids))]
+pub fn burning_fluids(alloc: Global, game: &Game) -> Result<Vec<NodeId>, NoMemory>
+    requires { IsSound game.now }
+    ensures { IfOk result (λ nodes. nodes.items ≡ burning_fluids game.now) }
+{
+    those(alloc, first_fluid(game), game.fluids.as_slice(), &Burning)
+}
+
+// All of one fluid, or any that burns.
+#[tactic(auto, unfolding(crate::specs::Doing::fluid_or_burning))]
+fn fluid_or_burning(
+    alloc: Global,
+    game: &Game,
+    index: &Index,
+    fluid: Option<GoodId>,
+) -> Result<Group, NoMemory>
+    requires sound { IsSound game.now }
+    requires index { IsIndex game.now index.now }
+    requires fluid { IfSome fluid (λ f. IsFluid game.now f.0) }
+    ensures { IfOk result (λ group. group ≡ fluid_or_burning game.now fluid) }
+{
+    let _game = game;
+    match fluid {
+        Some(fluid) => all_of_good(alloc, fluid),
+        None => {
+            let burning = Vec::from_slice(alloc, index.burning.as_slice())?;
+            Ok(any_of(burning))
+        }
+    }
+}
+
+// The group of a burner.
+#[tactic(auto, unfolding(crate::specs::Doing::fuels_taken))]
+fn burner_group(
+    alloc: Global,
+    game: &Game,
+    index: &Index,
+    categories: &[u32],
+) -> Result<Group, NoMemory>
+    requires sound { IsSound game.now }
+    requires index { IsIndex game.now index.now }
+    ensures { IfOk result (λ group. (effectivity : Fraction) → group ≡ any_of (fuels_taken game.now (Burner categories.now effectivity))) }
+{
+    let nodes = fuels_taken(alloc, game, index, categories)?;
+    Ok(any_of(nodes))
+}
+
+// What a machine takes its energy from.
+#[tactic(auto, unfolding(crate::specs::Doing::energy_groups))]
+fn push_energy(
+    alloc: Global,
+    game: &Game,
+    index: &Index,
+    energy: &Energy,
+    groups: &mut Vec<Group>,
+) -> Result<(), NoMemory>
+    requires sound { IsSound game.now }
+    requires index { IsIndex game.now index.now }
+    requires energy { IsSoundEnergy game.now energy.now }
+    ensures { OnOk result (groups.new.items ≡ groups.old.items ++ energy_groups game.now energy.now) }
+{
+    match energy {
+        Energy::Electric => groups.push(all_of_node(alloc, NodeId(1))?)?,
+        Energy::Burner { categories, .. } => {
+            groups.push(burner_group(alloc, game, index, categories.as_slice())?)?
+        }
+        Energy::Heat => groups.push(all_of_node(alloc, NodeId(2))?)?,
+        Energy::Fluid { filter, .. } => {
+            groups.push(fluid_or_burning(alloc, game, index, *filter)?)?
+        }
+        Energy::Void => {}
+    }
+    Ok(())
+}
+
+// What a boiler heats, and what a generator runs on.
+#[tactic(auto, unfolding(crate::specs::Doing::input_groups))]
+fn push_input(
+    alloc: Global,
+    game: &Game,
+    index: &Index,
+    kind: &MachineKind,
+    groups: &mut Vec<Group>,
+) -> Result<(), NoMemory>
+    requires sound { IsSound game.now }
+    requires index { IsIndex game.now index.now }
+    requires kind { IsSoundKind game.now kind.now }
+    ensures { OnOk result (groups.new.items ≡ groups.old.items ++ input_groups game.now kind.now) }
+{
+    match kind {
+        MachineKind::Boiler { input, .. } => {
+            if let Some(fluid) = *input {
+                groups.push(all_of_good(alloc, fluid)?)?;
+            }
+        }
+        MachineKind::Generator { input, .. } => {
+            groups.push(fluid_or_burning(alloc, game, index, *input)?)?
+        }
+        _ => {}
+    }
+    Ok(())
+}
+
+/// The row of a machine.
+#[tactic(auto, unfolding(crate::specs::Doing::machine_row))]
+pub fn machine_row(
+    alloc: Global,
+    game: &Game,
+    index: &Index,
+    number: u32,
+    machine: &Machine,
+) -> Result<Row, NoMemory>
+    requires sound { IsSound game.now }
+    requires index { IsIndex game.now index.now }
+    requires number { number < length game.now.machines }
+    requires machine { IsSoundMachine game.now machine.now }
+    ensures { IfOk result (λ row. row ≡ machine_row game.now number machine.now) }
+{
+    let makers = any_of(list_at(alloc, index.placers.as_slice(), number)?);
+    let mut groups = Vec::new(alloc);
+    groups.push(makers)?;
+    push_energy(alloc, game, index, &machine.energy, &mut groups)?;
+    push_input(alloc, game, index, &machine.kind, &mut groups)?;
+    Ok(row_with(groups))
+}
+
+// ---- electricity and heat
+
+fn makes_electricity(kind: &MachineKind) -> bool
+    ensures { result ≡ makes_electricity kind.now }
+{
+    match kind {
+        MachineKind::Generator { .. } => true,
+        MachineKind::BurnerGenerator { .. } => true,
+        MachineKind::Solar { .. } => true,
+        _ => false,
+    }
+}
+
+fn makes_heat(kind: &MachineKind) -> bool
+    ensures { result ≡ makes_heat kind.now }
+{
+    match kind {
+        MachineKind::Reactor => true,
+        _ => false,
+    }
+}
+
+#[derive(Drop)]
+struct ElectricityMakers;
+
+impl Test<Machine> for ElectricityMakers {
+    ghost passes = { λ _ machine. makes_electricity machine.kind };
+
+    fn passes(&self, machine: &Machine) -> bool {
+        makes_electricity(&machine.kind)
+    }
+}
+
+#[derive(Drop)]
+struct HeatMakers;
+
+impl Test<Machine> for HeatMakers {
+    ghost passes = { λ _ machine. makes_heat machine.kind };
+
+    fn passes(&self, machine: &Machine) -> bool {
+        makes_heat(&machine.kind)
+    }
+}
+
+// A row of one group.
+fn any_row(alloc: Global, members: Vec<NodeId>) -> Result<Row, NoMemory>
+    ensures { IfOk result (λ row. row ≡ row_with (any_of members.items ∷ [])) }
+{
+    let mut groups = Vec::new(alloc);
+    groups.push(any_of(members))?;
+    Ok(row_with(groups))
+}
+
+/// The row of electricity.
+#[tactic(auto, unfolding(crate::specs::Doing::electricity_row))]
+pub fn electricity_row(alloc: Global, game: &Game) -> Result<Row, NoMemory>
+    requires { IsSound game.now }
+    ensures { IfOk result (λ row. row ≡ electricity_row game.now) }
+{
+    let makers = those(
+        alloc,
+        first_machine(game),
+        game.machines.as_slice(),
+        &ElectricityMakers,
+    )?;
+    any_row(alloc, makers)
+}
+
+/// The row of heat.
+#[tactic(auto, unfolding(crate::specs::Doing::heat_row))]
+pub fn heat_row(alloc: Global, game: &Game) -> Result<Row, NoMemory>
+    requires { IsSound game.now }
+    ensures { IfOk result (λ row. row ≡ heat_row game.now) }
+{
+    let makers = those(
+        alloc,
+        first_machine(game),
+        game.machines.as_slice(),
+        &HeatMakers,
+    )?;
+    any_row(alloc, makers)
+}

@@ -1,0 +1,314 @@
+//! What recipes and sources need.
+ghost use Rattle.std.specs.Prelude.{◌≡◌, ◌<◌, ◌++◌, IfOk, length, map, nat_lt, slice_get};
+ghost use Rattle.std.specs.List.{list_all};
+ghost use Rattle.game_types.specs.Making.{character_crafts, character_mines, is_fixed_to_another, kind_crafts, kind_mines};
+ghost use Rattle.game_types.specs.Sound.{IsSound, IsSoundRecipe, IsSoundSource};
+ghost use Rattle.depend_rows.specs.Indexed.{IsIndex};
+ghost use Rattle.depend_rows.specs.Lists.{list_at, AreLists, AreMarks, HoldInOrder};
+ghost use Rattle.depend_rows.specs.Kinds.{is_drill_of};
+ghost use Rattle.depend_rows.specs.Members.{those};
+ghost use Rattle.depend_rows.specs.Making.{crafters, first_machine, ingredients, miners, recipe_row, source_row};
+
+use crate::index::Index;
+use crate::lists::list_at;
+use crate::marks::is_marked;
+use crate::members::{Test, all_of, all_of_good, any_of, named, row_with, those, with_character};
+use crate::places::{first_machine, good_count};
+use crate::unions::{in_order, push_list};
+use game_types::{Character, Game, Machine, MachineKind, Part, Product, Recipe, Source, holds};
+use graph_store::Row;
+use plan_base::{NoMemory, NodeId, RecipeId};
+use std::alloc::Global;
+
+// ---- recipes
+
+fn goods_of_parts(alloc: Global, parts: &[Part]) -> Result<Vec<u32>, NoMemory>
+    ensures { IfOk result (λ goods. goods.items ≡ map (λ part. part.good.0) parts.now) }
+{
+    let mut goods = Vec::new(alloc);
+    for part in parts {
+        goods.push(part.good.0)?;
+    }
+    Ok(goods)
+}
+
+#[tactic(auto, unfolding(crate::specs::Making::ingredients))]
+fn ingredients(alloc: Global, game: &Game, recipe: &Recipe) -> Result<Vec<NodeId>, NoMemory>
+    requires sound { IsSound game.now }
+    requires recipe { IsSoundRecipe game.now recipe.now }
+    ensures { IfOk result (λ nodes. nodes.items ≡ ingredients game.now recipe.now) }
+{
+    let goods = goods_of_parts(alloc, recipe.ingredients.as_slice())?;
+    named(alloc, 3, good_count(game), goods)
+}
+
+fn are_items(parts: &[Part], items: usize) -> bool
+    ensures { result ≡ list_all (λ part. nat_lt part.good.0 items) parts.now }
+{
+    parts.iter().all(|part| (part.good.0 as usize) < items)
+}
+
+fn gives_items(products: &[Product], items: usize) -> bool
+    ensures { result ≡ list_all (λ product. nat_lt product.good.0 items) products.now }
+{
+    products
+        .iter()
+        .all(|product| (product.good.0 as usize) < items)
+}
+
+fn character_crafts(character: &Character, marks: &[bool], items: usize, recipe: &Recipe) -> bool
+    requires { AreMarks character.now.crafting marks.now }
+    ensures { result ≡ character_crafts character.now items recipe.now }
+{
+    is_marked(marks, character.crafting.as_slice(), recipe.category)
+        && are_items(recipe.ingredients.as_slice(), items)
+        && gives_items(recipe.products.as_slice(), items)
+}
+
+fn is_fixed_to_another(fixed: Option<RecipeId>, number: u32) -> bool
+    ensures { result ≡ is_fixed_to_another fixed number }
+{
+    match fixed {
+        Some(fixed) => fixed.0 != number,
+        None => false,
+    }
+}
+
+fn kind_crafts(kind: &MachineKind, number: u32, recipe: &Recipe) -> bool
+    ensures { result ≡ kind_crafts kind.now number recipe.now }
+{
+    match kind {
+        MachineKind::Crafter {
+            categories,
+            fixed,
+            ..
+        } => {
+            holds(categories.as_slice(), recipe.category) && !is_fixed_to_another(*fixed, number)
+        }
+        _ => false,
+    }
+}
+
+// The machines that craft a recipe.
+#[derive(Drop)]
+struct CraftersOf<'a> {
+    number: u32,
+    recipe: &'a Recipe,
+}
+
+impl Test<Machine> for CraftersOf<'_> {
+    ghost passes = { λ t machine. kind_crafts machine.kind t.number t.recipe.now };
+
+    fn passes(&self, machine: &Machine) -> bool {
+        kind_crafts(&machine.kind, self.number, self.recipe)
+    }
+}
+
+// The machines that craft a recipe whose category has lists.
+fn crafters_listed(
+    alloc: Global,
+    index: &Index,
+    number: u32,
+    recipe: &Recipe,
+) -> Result<Vec<NodeId>, NoMemory>
+    requires category { recipe.now.category < length index.now.crafters.items }
+    requires number { number < length index.now.fixed.items }
+    ensures { IfOk result (λ nodes. HoldInOrder (map (λ n. n.0) (list_at index.now.crafters.items recipe.now.category) ++ map (λ n. n.0) (list_at index.now.fixed.items number)) nodes.items) }
+{
+    let mut numbers = Vec::new(alloc);
+    push_list(&mut numbers, index.crafters.as_slice(), recipe.category)?;
+    push_list(&mut numbers, index.fixed.as_slice(), number)?;
+    in_order(alloc, numbers)
+}
+
+// The machines that craft a recipe.
+fn machines_crafting(
+    alloc: Global,
+    game: &Game,
+    index: &Index,
+    number: u32,
+    recipe: &Recipe,
+) -> Result<Vec<NodeId>, NoMemory>
+    requires sound { IsSound game.now }
+    requires index { IsIndex game.now index.now }
+    requires recipe { slice_get game.now.recipes number ≡ Some recipe.now }
+    requires number { number < length game.now.recipes }
+    ensures { IfOk result (λ nodes. nodes.items ≡ those (λ machine. kind_crafts machine.kind number recipe.now) (first_machine game.now) game.now.machines) }
+{
+    if (recipe.category as usize) < index.crafters.len() {
+        let nodes = crafters_listed(alloc, index, number, recipe)?;
+        Ok(nodes)
+    } else {
+        let test = CraftersOf { number, recipe };
+        those(alloc, first_machine(game), game.machines.as_slice(), &test)
+    }
+}
+
+// The character and the machines that craft a recipe.
+#[tactic(auto, unfolding(crate::specs::Making::crafters))]
+fn crafters(
+    alloc: Global,
+    game: &Game,
+    index: &Index,
+    number: u32,
+    recipe: &Recipe,
+) -> Result<Vec<NodeId>, NoMemory>
+    requires sound { IsSound game.now }
+    requires index { IsIndex game.now index.now }
+    requires recipe { slice_get game.now.recipes number ≡ Some recipe.now }
+    requires number { number < length game.now.recipes }
+    ensures { IfOk result (λ nodes. nodes.items ≡ crafters game.now number recipe.now) }
+{
+    let marks = index.crafting.as_slice();
+    let by_hand = character_crafts(&game.character, marks, game.items.len(), recipe);
+    let machines = machines_crafting(alloc, game, index, number, recipe)?;
+    with_character(alloc, by_hand, machines)
+}
+
+/// The row of a recipe.
+#[tactic(auto, unfolding(crate::specs::Making::recipe_row))]
+pub fn recipe_row(
+    alloc: Global,
+    game: &Game,
+    index: &Index,
+    number: u32,
+    recipe: &Recipe,
+) -> Result<Row, NoMemory>
+    requires sound { IsSound game.now }
+    requires index { IsIndex game.now index.now }
+    requires there { slice_get game.now.recipes number ≡ Some recipe.now }
+    requires number { number < length game.now.recipes }
+    requires recipe { IsSoundRecipe game.now recipe.now }
+    ensures { IfOk result (λ row. row ≡ recipe_row game.now number recipe.now) }
+{
+    let parts = all_of(ingredients(alloc, game, recipe)?);
+    let makers = any_of(crafters(alloc, game, index, number, recipe)?);
+    let mut groups = Vec::new(alloc);
+    groups.push(parts)?;
+    groups.push(makers)?;
+    if !recipe.enabled {
+        groups.push(any_of(list_at(alloc, index.unlockers.as_slice(), number)?))?;
+    }
+    Ok(row_with(groups))
+}
+
+// ---- sources
+
+fn character_mines(character: &Character, marks: &[bool], source: &Source) -> bool
+    requires { AreMarks character.now.mining marks.now }
+    ensures { result ≡ character_mines character.now source.now }
+{
+    !source.drilled
+        || (is_marked(marks, character.mining.as_slice(), source.category)
+            && source.fluid.is_none())
+}
+
+fn kind_mines(kind: &MachineKind, source: &Source) -> bool
+    ensures { result ≡ kind_mines kind.now source.now }
+{
+    match kind {
+        MachineKind::Drill {
+            categories,
+            fluid_box,
+            ..
+        } => {
+            source.drilled
+                && holds(categories.as_slice(), source.category)
+                && (source.fluid.is_none() || *fluid_box)
+        }
+        _ => false,
+    }
+}
+
+// The drills that mine a source.
+#[derive(Drop)]
+struct DrillsOf<'a> {
+    source: &'a Source,
+}
+
+impl Test<Machine> for DrillsOf<'_> {
+    ghost passes = { λ t machine. kind_mines machine.kind t.source.now };
+
+    fn passes(&self, machine: &Machine) -> bool {
+        kind_mines(&machine.kind, self.source)
+    }
+}
+
+// The lists of drills: of all, or of those that take a fluid.
+fn drills_of<'a>(game: &Game, index: &'a Index, boxed: bool) -> &'a [Vec<NodeId>]
+    requires { IsIndex game.now index.now }
+    ensures { AreLists (λ category. those (λ machine. is_drill_of boxed machine.kind category) (first_machine game.now) game.now.machines) (length result.now) result.now }
+{
+    let _game = game;
+    if boxed {
+        index.boxed_drills.as_slice()
+    } else {
+        index.drills.as_slice()
+    }
+}
+
+// The drills that mine a source.
+fn drills_mining(
+    alloc: Global,
+    game: &Game,
+    index: &Index,
+    source: &Source,
+) -> Result<Vec<NodeId>, NoMemory>
+    requires sound { IsSound game.now }
+    requires index { IsIndex game.now index.now }
+    ensures { IfOk result (λ nodes. nodes.items ≡ those (λ machine. kind_mines machine.kind source.now) (first_machine game.now) game.now.machines) }
+{
+    let boxed = source.fluid.is_some();
+    let drills = drills_of(game, index, boxed);
+    if !source.drilled {
+        Ok(Vec::new(alloc))
+    } else if (source.category as usize) < drills.len() {
+        let nodes = list_at(alloc, drills, source.category)?;
+        Ok(nodes)
+    } else {
+        let test = DrillsOf { source };
+        those(alloc, first_machine(game), game.machines.as_slice(), &test)
+    }
+}
+
+// The character and the drills that mine a source.
+#[tactic(auto, unfolding(crate::specs::Making::miners))]
+fn miners(
+    alloc: Global,
+    game: &Game,
+    index: &Index,
+    source: &Source,
+) -> Result<Vec<NodeId>, NoMemory>
+    requires sound { IsSound game.now }
+    requires index { IsIndex game.now index.now }
+    ensures { IfOk result (λ nodes. nodes.items ≡ miners game.now source.now) }
+{
+    let by_hand = character_mines(&game.character, index.mining.as_slice(), source);
+    let machines = drills_mining(alloc, game, index, source)?;
+    with_character(alloc, by_hand, machines)
+}
+
+/// The row of a source.
+#[tactic(auto, unfolding(crate::specs::Making::source_row))]
+pub fn source_row(
+    alloc: Global,
+    game: &Game,
+    index: &Index,
+    source: &Source,
+) -> Result<Row, NoMemory>
+    requires sound { IsSound game.now }
+    requires index { IsIndex game.now index.now }
+    requires source { IsSoundSource game.now source.now }
+    ensures { IfOk result (λ row. row ≡ source_row game.now source.now) }
+{
+    let makers = any_of(miners(alloc, game, index, source)?);
+    let mut groups = Vec::new(alloc);
+    groups.push(makers)?;
+    if let Some((fluid, _)) = source.fluid {
+        groups.push(all_of_good(alloc, fluid)?)?;
+    }
+    if !source.placed {
+        groups.push(any_of(Vec::new(alloc)))?;
+    }
+    Ok(row_with(groups))
+}

@@ -1,0 +1,188 @@
+//! What technologies need.
+ghost use Rattle.std.specs.Prelude.{◌≡◌, IfOk, filter, map};
+ghost use Rattle.std.specs.Option.{option_copied};
+ghost use Rattle.std.specs.List.{list_all};
+ghost use Rattle.game_types.specs.Sound.{IsSound, IsSoundTech};
+ghost use Rattle.depend_rows.specs.Indexed.{IsIndex};
+ghost use Rattle.depend_rows.specs.Kinds.{is_lab, is_lab_for, machine_of};
+ghost use Rattle.depend_rows.specs.Making.{first_machine};
+ghost use Rattle.depend_rows.specs.Members.{those};
+ghost use Rattle.depend_rows.specs.Doing.{labs, names_good, prerequisites, researches, science_packs, tech_row};
+
+use crate::index::Index;
+use crate::members::{Test, all_of, any_of, named, row_with, those};
+use crate::places::{first_machine, first_tech, good_count};
+use fractions::Ratio;
+use game_types::{Game, Machine, MachineKind, Tech};
+use graph_store::Row;
+use plan_base::{GoodId, NoMemory, NodeId, TechId};
+use std::alloc::Global;
+
+fn numbers_of_techs(alloc: Global, techs: &[TechId]) -> Result<Vec<u32>, NoMemory>
+    ensures { IfOk result (λ numbers. numbers.items ≡ map (λ t. t.0) techs.now) }
+{
+    let mut numbers = Vec::new(alloc);
+    for tech in techs {
+        numbers.push(tech.0)?;
+    }
+    Ok(numbers)
+}
+
+#[tactic(auto, unfolding(crate::specs::Doing::prerequisites))]
+fn prerequisites(alloc: Global, game: &Game, tech: &Tech) -> Result<Vec<NodeId>, NoMemory>
+    requires sound { IsSound game.now }
+    requires tech { IsSoundTech game.now tech.now }
+    ensures { IfOk result (λ nodes. nodes.items ≡ prerequisites game.now tech.now) }
+{
+    let numbers = numbers_of_techs(alloc, tech.prerequisites.as_slice())?;
+    named(alloc, first_tech(game), game.techs.len() as u32, numbers)
+}
+
+fn goods_of_parts(alloc: Global, parts: &[(GoodId, Ratio)]) -> Result<Vec<u32>, NoMemory>
+    ensures { IfOk result (λ goods. goods.items ≡ map (λ part. part.0.0) parts.now) }
+{
+    let mut goods = Vec::new(alloc);
+    for part in parts {
+        goods.push(part.0.0)?;
+    }
+    Ok(goods)
+}
+
+#[tactic(auto, unfolding(crate::specs::Doing::science_packs))]
+fn science_packs(alloc: Global, game: &Game, tech: &Tech) -> Result<Vec<NodeId>, NoMemory>
+    requires sound { IsSound game.now }
+    requires tech { IsSoundTech game.now tech.now }
+    ensures { IfOk result (λ nodes. nodes.items ≡ science_packs game.now tech.now) }
+{
+    let goods = goods_of_parts(alloc, tech.ingredients.as_slice())?;
+    named(alloc, 3, good_count(game), goods)
+}
+
+fn names_good(goods: &[GoodId], good: u32) -> bool
+    ensures { result ≡ names_good goods.now good }
+{
+    goods.iter().any(|other| other.0 == good)
+}
+
+fn takes_all(inputs: &[GoodId], parts: &[(GoodId, Ratio)]) -> bool
+    ensures { result ≡ list_all (λ part. names_good inputs.now part.0.0) parts.now }
+{
+    parts.iter().all(|part| names_good(inputs, part.0.0))
+}
+
+fn researches(kind: &MachineKind, parts: &[(GoodId, Ratio)]) -> bool
+    ensures { result ≡ researches kind.now parts.now }
+{
+    match kind {
+        MachineKind::Lab { inputs, .. } => takes_all(inputs.as_slice(), parts),
+        _ => false,
+    }
+}
+
+// Whether a machine is a lab.
+#[derive(Drop)]
+struct AreLabs;
+
+fn is_lab(kind: &MachineKind) -> bool
+    ensures { result ≡ is_lab kind.now }
+{
+    match kind {
+        MachineKind::Lab { .. } => true,
+        _ => false,
+    }
+}
+
+impl Test<Machine> for AreLabs {
+    ghost passes = { λ _ machine. is_lab machine.kind };
+
+    fn passes(&self, machine: &Machine) -> bool {
+        is_lab(&machine.kind)
+    }
+}
+
+/// All labs.
+pub fn all_labs(alloc: Global, game: &Game) -> Result<Vec<NodeId>, NoMemory>
+    requires { IsSound game.now }
+    ensures { IfOk result (λ nodes. nodes.items ≡ those (λ machine. is_lab machine.kind) (first_machine game.now) game.now.machines) }
+{
+    those(
+        alloc,
+        first_machine(game),
+        game.machines.as_slice(),
+        &AreLabs,
+    )
+}
+
+// The machine of a node, where the first machine's node is this one.
+#[tactic(auto, unfolding(crate::specs::Kinds::machine_of))]
+fn machine_of(machines: &[Machine], first: u32, node: NodeId) -> Option<&Machine>
+    ensures { option_copied result ≡ machine_of machines.now first node }
+{
+    if node.0 < first {
+        None
+    } else {
+        machines.get((node.0 - first) as usize)
+    }
+}
+
+fn is_lab_for(machines: &[Machine], first: u32, node: NodeId, parts: &[(GoodId, Ratio)]) -> bool
+    ensures { result ≡ is_lab_for parts.now (machine_of machines.now first node) }
+{
+    match machine_of(machines, first, node) {
+        Some(machine) => researches(&machine.kind, parts),
+        None => false,
+    }
+}
+
+// The labs among these that research what takes these parts.
+fn labs_for(
+    alloc: Global,
+    machines: &[Machine],
+    first: u32,
+    labs: &[NodeId],
+    parts: &[(GoodId, Ratio)],
+) -> Result<Vec<NodeId>, NoMemory>
+    ensures { IfOk result (λ nodes. nodes.items ≡ filter (λ n. is_lab_for parts.now (machine_of machines.now first n)) labs.now) }
+{
+    let mut nodes = Vec::new(alloc);
+    for lab in labs {
+        if is_lab_for(machines, first, *lab, parts) {
+            nodes.push(*lab)?;
+        }
+    }
+    Ok(nodes)
+}
+
+// The labs that research a technology.
+fn labs(alloc: Global, game: &Game, index: &Index, tech: &Tech) -> Result<Vec<NodeId>, NoMemory>
+    requires sound { IsSound game.now }
+    requires index { IsIndex game.now index.now }
+    ensures { IfOk result (λ nodes. nodes.items ≡ labs game.now tech.now) }
+{
+    let first = first_machine(game);
+    let machines = game.machines.as_slice();
+    let all = index.labs.as_slice();
+    let nodes = labs_for(alloc, machines, first, all, tech.ingredients.as_slice())?;
+    Ok(nodes)
+}
+
+/// The row of a technology.
+#[tactic(auto, unfolding(crate::specs::Doing::tech_row))]
+pub fn tech_row(alloc: Global, game: &Game, index: &Index, tech: &Tech) -> Result<Row, NoMemory>
+    requires sound { IsSound game.now }
+    requires index { IsIndex game.now index.now }
+    requires tech { IsSoundTech game.now tech.now }
+    ensures { IfOk result (λ row. row ≡ tech_row game.now tech.now) }
+{
+    let before = all_of(prerequisites(alloc, game, tech)?);
+    let parts = all_of(science_packs(alloc, game, tech)?);
+    let makers = any_of(labs(alloc, game, index, tech)?);
+    let mut groups = Vec::new(alloc);
+    groups.push(before)?;
+    groups.push(parts)?;
+    groups.push(makers)?;
+    if !tech.enabled {
+        groups.push(any_of(Vec::new(alloc)))?;
+    }
+    Ok(row_with(groups))
+}
