@@ -1,71 +1,115 @@
-// The first game with the ranks of its nodes.
-ghost use Rattle.std.specs.Prelude.{◌≡◌, ◌≤◌, ◌<◌, ◌+◌, ◌^◌, ◌-◌, IfOk, MatchResult, None, Some, false, length, replicate};
-ghost use Rattle.graph_store.specs.Rows.{AreMembersBelow};
+// The game of a dump with the ranks of its nodes.
+ghost use Rattle.std.specs.Prelude.{◌≡◌, ◌≢◌, ◌≤◌, ◌<◌, ◌^◌, ◌-◌, IfOk, MatchResult, None, length};
+ghost use Rattle.game_types.specs.Sound.{IsSound};
+ghost use Rattle.graph_store.specs.Rows.{AreMembersBelow, member_count};
 ghost use Rattle.reach_ranks.specs.Ranks.{AreRanks};
-ghost use Rattle.reach_ranks.specs.Rounds.{world};
-ghost use Rattle.json_text.specs.Seen.{seen};
-ghost use Rattle.planner_cli.specs.FirstRows.{first_game, IsPlanner, IsSound, rows_of, with_few_members};
+ghost use Rattle.reach_ranks.specs.Rounds.{IsWhole, world};
+ghost use Rattle.depend_rows.specs.Rows.{rows_of};
+ghost use Rattle.game_reader.specs.Games.{HasFault, HasGame};
+ghost use Rattle.planner_cli.specs.Base.{HasBase, HasBaseFault, IsPlanner, members_fault};
 
-use crate::draft::read_draft;
-use crate::form::FormFault;
-use crate::game::FirstGame;
-use crate::rows::{have_few_members, rows_of};
+use craft_reader::{DumpCode, DumpFault};
+use data_edit::Book;
+use depend_rows::{MEMBER_LIMIT, RowsFault, rows_within};
+use game_reader::read_dump;
+use game_types::Game;
 use graph_store::{Graph, Row};
-use json_text::Tree;
-use plan_base::{NoMemory, Steps};
+use plan_base::{NoMemory, Steps, Text};
 use reach_ranks::ranks_afresh;
 use std::alloc::Global;
 
 /// A game, and for each node its rank.
 #[derive(Drop)]
-pub struct FirstPlanner {
-    pub game: FirstGame,
+pub struct Planner {
+    pub game: Game,
     pub ranks: Vec<u32>,
 }
 
-// The ranks of rows where nothing is barred and nothing granted.
-fn ranks_of<L>(alloc: Global, rows: Vec<Row>, steps: &mut Steps<L>) -> Result<Vec<u32>, NoMemory>
+// The ranks of the nodes of a book. Its graph is given back.
+fn ranks_of<L>(
+    alloc: Global,
+    rows: Vec<Row>,
+    book: &Book,
+    steps: &mut Steps<L>,
+) -> Result<Vec<u32>, NoMemory>
     requires few { length rows.items < 2 ^ 32 - 1 }
     requires members { AreMembersBelow (length rows.items) rows.items }
+    requires marks { IsWhole (world rows.items book.now.barred book.now.granted None) }
     ensures later { steps.old ≤ steps.new }
-    ensures ranks { IfOk result (λ ranks. AreRanks (world rows.items (replicate (length rows.items) false) (replicate (length rows.items) false) None) ranks.items) }
+    ensures ranks { IfOk result (λ ranks. AreRanks (world rows.items book.now.barred book.now.granted None) ranks.items) }
 {
-    let count = rows.len();
-    let none = vec![in alloc; false; count]?;
     let graph = Graph::make(alloc, rows)?;
-    let ranks = ranks_afresh(alloc, &graph, none.as_slice(), none.as_slice(), None, steps)?;
+    let ranks = ranks_afresh(
+        alloc,
+        &graph,
+        book.barred.as_slice(),
+        book.granted.as_slice(),
+        None,
+        steps,
+    )?;
     Ok(ranks.of)
 }
 
+fn no_memory(alloc: Global) -> DumpFault
+    ensures { result.code ≡ DumpCode.NoMemory }
+{
+    DumpFault::of_code(alloc, DumpCode::NoMemory)
+}
+
+// The fault of a game whose rows have too many members.
+fn members_fault(alloc: Global) -> DumpFault
+    ensures { result.code ≢ DumpCode.NoMemory → result ≡ members_fault }
+{
+    let Ok(field) = Text::copy(alloc, "members") else {
+        return no_memory(alloc);
+    };
+    let mut fault = DumpFault::of_code(alloc, DumpCode::Limit);
+    fault.field = field;
+    fault
+}
+
 // A game with the ranks of its nodes.
-fn plan<L>(alloc: Global, game: FirstGame, steps: &mut Steps<L>) -> Result<FirstPlanner, FormFault>
+fn plan<L>(alloc: Global, game: Game, steps: &mut Steps<L>) -> Result<Planner, DumpFault>
     requires { IsSound game }
     ensures later { steps.old ≤ steps.new }
     ensures planner { MatchResult result
-        (λ planner. (with_few_members game ≡ Some planner.game) × IsPlanner planner)
-        (λ fault. fault ≡ FormFault.NotFirst → with_few_members game ≡ None) }
+        (λ planner. (planner.game ≡ game) × (member_count (rows_of game) ≤ MEMBER_LIMIT) × IsPlanner planner)
+        (λ fault. fault.code ≢ DumpCode.NoMemory → (MEMBER_LIMIT < member_count (rows_of game)) × (fault ≡ members_fault)) }
 {
-    let rows = match rows_of(alloc, &game) {
-        Ok(rows) => rows,
-        Err(NoMemory) => return Err(FormFault::NoMemory),
+    let book = match Book::make(alloc, game) {
+        Ok(book) => book,
+        Err(NoMemory) => return Err(no_memory(alloc)),
     };
-    if !have_few_members(rows.as_slice()) {
-        return Err(FormFault::NotFirst);
-    }
-    match ranks_of(alloc, rows, steps) {
-        Ok(ranks) => Ok(FirstPlanner { game, ranks }),
-        Err(NoMemory) => Err(FormFault::NoMemory),
+    let rows = match rows_within(alloc, &book, steps) {
+        Ok(rows) => rows,
+        Err(RowsFault::TooMany) => return Err(members_fault(alloc)),
+        Err(RowsFault::NoMemory) => return Err(no_memory(alloc)),
+    };
+    match ranks_of(alloc, rows, &book, steps) {
+        Ok(ranks) => Ok(Planner {
+            game: book.game,
+            ranks,
+        }),
+        Err(NoMemory) => Err(no_memory(alloc)),
     }
 }
 
-/// The game of a tree of JSON, with the ranks of its nodes.
-pub fn load<L>(alloc: Global, tree: &Tree, steps: &mut Steps<L>) -> Result<FirstPlanner, FormFault>
+// The game of a dump. The dump's bytes are given back.
+fn game_of(alloc: Global, dump: Vec<u8>) -> Result<Game, DumpFault>
+    ensures sound { IfOk result IsSound }
+    ensures game { MatchResult result (HasGame dump.items) (λ fault. fault.code ≢ DumpCode.NoMemory → HasFault dump.items fault) }
+{
+    read_dump(alloc, &dump)
+}
+
+/// The game of a dump, with the ranks of its nodes. The dump's bytes are given back before the ranks are made.
+pub fn load<L>(alloc: Global, dump: Vec<u8>, steps: &mut Steps<L>) -> Result<Planner, DumpFault>
     ensures later { steps.old ≤ steps.new }
     ensures planner { MatchResult result
-        (λ planner. (first_game (seen tree.now) ≡ Some planner.game) × IsPlanner planner)
-        (λ fault. fault ≡ FormFault.NotFirst → first_game (seen tree.now) ≡ None) }
+        (λ planner. HasBase dump.items planner.game × IsPlanner planner)
+        (λ fault. fault.code ≢ DumpCode.NoMemory → HasBaseFault dump.items fault) }
 {
-    match read_draft(alloc, tree) {
+    match game_of(alloc, dump) {
         Ok(game) => plan(alloc, game, steps),
         Err(fault) => Err(fault),
     }

@@ -1,124 +1,170 @@
-// Lines that ask whether a thing is reached.
-ghost use Rattle.std.specs.Prelude.{◌≡◌, ◌+◌, ◌<◌, ◌∷◌, [], Some, None, IfOk, IfSome, IsTrue, length, option_map, option_and_then, codes, is_none, string_bytes};
-ghost use Rattle.std.specs.List.{list_all};
-ghost use Rattle.planner_cli.specs.FirstRows.{IsPlanner, IsSound};
-ghost use Rattle.planner_cli.specs.Report.{kind_of, name_of, reply_for, reply_to, reply_with};
-ghost use Rattle.planner_cli.specs.Target.{as_written, behind, is_name, is_name_byte, is_reach_line, is_refused, node_of, rank_of, target_of};
-ghost use Rattle.planner_cli.specs.Targets.{target_in};
+// Lines that ask whether a node is reached.
+ghost use Rattle.std.specs.Prelude.{◌≡◌, ◌<◌, ◌==◌, Some, IfOk, IfSome, IsTrue, length, nat_lt, option_map, option_and_then, is_none, is_some, string_bytes};
+ghost use Rattle.std.specs.List.{list_all, before_first, after_first};
+ghost use Rattle.name_table.specs.Names.{place_of};
+ghost use Rattle.plan_base.specs.Shape.{node_count};
+ghost use Rattle.game_types.specs.Nodes.{shape_of, special_names};
+ghost use Rattle.planner_cli.specs.Base.{IsPlanner};
+ghost use Rattle.planner_cli.specs.Report.{reply_for, reply_to, reply_with};
+ghost use Rattle.planner_cli.specs.Target.{as_word, behind, is_word_byte, is_reach_line, is_refused, kind_named, kind_word, may_be_name, node_of, rank_of, target_in, target_of};
+ghost use Rattle.planner_cli.specs.Targets.{target_seen};
 
-use crate::game::FirstGame;
-use crate::planner::FirstPlanner;
-use plan_base::{NoMemory, Text, text_of};
+use crate::planner::Planner;
+use game_types::Game;
+use plan_base::{Kind, NoMemory, NodeId, Text, text_of};
 use std::alloc::{AllocError, Global};
 
-/// What a line asks for, by its name.
+/// What a line asks for: a node by its kind and its name.
 #[derive(Clone, Copy)]
-pub enum Target<'a> {
-    Item(&'a str),
-    Recipe(&'a str),
+pub struct Target<'a> {
+    pub kind: Kind,
+    pub name: &'a str,
 }
 
-fn is_name_byte(byte: u8) -> bool
-    ensures { result ≡ is_name_byte byte }
+fn is_word_byte(byte: u8) -> bool
+    ensures { result ≡ is_word_byte byte }
 {
     33 <= byte && byte <= 126 && byte != 34 && byte != 92
 }
 
-fn are_name_bytes(bytes: &[u8]) -> bool
-    ensures { result ≡ list_all is_name_byte bytes.now }
+fn are_word_bytes(bytes: &[u8]) -> bool
+    ensures { result ≡ list_all is_word_byte bytes.now }
 {
-    bytes.iter().all(|byte| is_name_byte(*byte))
+    bytes.iter().all(|byte| is_word_byte(*byte))
 }
 
-fn is_name(bytes: &[u8]) -> bool
-    ensures { result ≡ is_name bytes.now }
+fn as_word(bytes: &[u8]) -> Option<&str>
+    ensures { option_map (λ word. word.now) result ≡ as_word bytes.now }
 {
-    !bytes.is_empty() && are_name_bytes(bytes)
-}
-
-fn as_written(bytes: &[u8]) -> Option<&str>
-    ensures { option_map (λ name. name.now) result ≡ as_written bytes.now }
-{
-    if is_name(bytes) {
+    if are_word_bytes(bytes) {
         Some(text_of(bytes))
     } else {
         None
     }
 }
 
-fn name_behind<'a>(prefix: &[u8], line: &'a [u8]) -> Option<&'a str>
-    ensures { option_map (λ name. name.now) result ≡ option_and_then as_written (behind prefix.now line.now) }
+fn word_behind<'a>(prefix: &[u8], line: &'a [u8]) -> Option<&'a str>
+    ensures { option_map (λ word. word.now) result ≡ option_and_then as_word (behind prefix.now line.now) }
 {
     match line.strip_prefix(prefix) {
-        Some(rest) => as_written(rest),
+        Some(rest) => as_word(rest),
         None => None,
     }
 }
 
-/// What the line asks for, or None where it is no line of the first form.
-pub fn target_of(line: &[u8]) -> Option<Target<'_>>
-    ensures { option_map target_in result ≡ target_of line.now }
+// The parts of a word before and behind its first colon; where there is none, nothing is behind.
+fn split_colon(word: &str) -> (&str, &str)
+    ensures before { result.0.now ≡ before_first (λ byte. byte == 58) word.now }
+    ensures behind { result.1.now ≡ after_first (λ byte. byte == 58) word.now }
 {
-    match name_behind(b"reach item:", line) {
-        Some(name) => Some(Target::Item(name)),
-        None => match name_behind(b"reach recipe:", line) {
-            Some(name) => Some(Target::Recipe(name)),
-            None => None,
-        },
+    match word.split_once(':') {
+        Some(parts) => parts,
+        None => (word, ""),
     }
 }
 
-/// Whether the line is one of the first form.
+fn kind_named(word: &str) -> Option<Kind>
+    ensures { result ≡ kind_named word.now }
+{
+    match word {
+        "special" => Some(Kind::Special),
+        "item" => Some(Kind::Item),
+        "fluid" => Some(Kind::Fluid),
+        "recipe" => Some(Kind::Recipe),
+        "source" => Some(Kind::Source),
+        "machine" => Some(Kind::Machine),
+        "tech" => Some(Kind::Tech),
+        _ => None,
+    }
+}
+
+fn is_special(name: &str) -> bool
+    ensures { result ≡ is_some (place_of special_names name.now) }
+{
+    match name {
+        "character" => true,
+        "electricity" => true,
+        "heat" => true,
+        _ => false,
+    }
+}
+
+fn may_be_name(kind: Kind, name: &str) -> bool
+    ensures { result ≡ may_be_name kind name.now }
+{
+    match kind {
+        Kind::Special => is_special(name),
+        _ => !name.is_empty(),
+    }
+}
+
+// What `KIND:NAME` asks for.
+#[tactic(auto, unfolding(crate::specs::Target::target_in))]
+fn target_in(word: &str) -> Option<Target<'_>>
+    ensures { option_map target_seen result ≡ target_in word.now }
+{
+    let (kind, name) = split_colon(word);
+    match kind_named(kind) {
+        Some(kind) => {
+            if may_be_name(kind, name) {
+                Some(Target { kind, name })
+            } else {
+                None
+            }
+        }
+        None => None,
+    }
+}
+
+/// What the line asks for, or None where it is no `reach` line.
+#[tactic(auto, unfolding(crate::specs::Target::target_of))]
+pub fn target_of(line: &[u8]) -> Option<Target<'_>>
+    ensures { option_map target_seen result ≡ target_of line.now }
+{
+    match word_behind(b"reach ", line) {
+        Some(word) => target_in(word),
+        None => None,
+    }
+}
+
+/// Whether the line is a `reach` line.
 pub fn is_reach_line(line: &[u8]) -> bool
     ensures { result ≡ is_reach_line line.now }
 {
     target_of(line).is_some()
 }
 
-// The node that is asked for.
-fn node_of(game: &FirstGame, target: &Target<'_>) -> Option<u32>
-    requires { IsSound game.now }
-    ensures node { result ≡ node_of game.now (target_in target.now) }
-    ensures within { IfSome result (λ n. n < 3 + length game.now.items + length game.now.recipes) }
+// The node that is asked for, if the game has it.
+fn node_of(planner: &Planner, target: &Target<'_>) -> Option<NodeId>
+    requires { IsPlanner planner.now }
+    ensures node { result ≡ node_of planner.now.game (target_seen target.now) }
+    ensures within { IfSome result (λ node. node.0 < length planner.now.ranks.items) }
 {
-    match target {
-        Target::Item(name) => match game.items.find(name) {
-            Some(item) => Some(3 + item),
-            None => None,
-        },
-        Target::Recipe(name) => match game.recipe_names.find(name) {
-            Some(recipe) => Some(3 + game.items.len() + recipe),
-            None => None,
-        },
-    }
+    planner.game.find(target.kind, target.name)
 }
 
 // The rank of what is asked for.
-fn rank_of(planner: &FirstPlanner, target: &Target<'_>) -> Option<u32>
+fn rank_of(planner: &Planner, target: &Target<'_>) -> Option<u32>
     requires { IsPlanner planner.now }
-    ensures { result ≡ rank_of planner.now.game (target_in target.now) }
+    ensures { result ≡ rank_of planner.now.game (target_seen target.now) }
 {
-    match node_of(&planner.game, target) {
-        Some(node) => Some(planner.ranks[node as usize]),
+    match node_of(planner, target) {
+        Some(node) => Some(planner.ranks[node.0 as usize]),
         None => None,
     }
 }
 
-fn kind_of(target: &Target<'_>) -> &'static str
-    ensures { result.now ≡ kind_of (target_in target.now) }
+fn kind_word(kind: Kind) -> &'static str
+    ensures { result.now ≡ kind_word kind }
 {
-    match target {
-        Target::Item(_) => "item",
-        Target::Recipe(_) => "recipe",
-    }
-}
-
-fn name_of<'a>(target: &Target<'a>) -> &'a str
-    ensures { result.now ≡ name_of (target_in target.now) }
-{
-    match target {
-        Target::Item(name) => name,
-        Target::Recipe(name) => name,
+    match kind {
+        Kind::Special => "special",
+        Kind::Item => "item",
+        Kind::Fluid => "fluid",
+        Kind::Recipe => "recipe",
+        Kind::Source => "source",
+        Kind::Machine => "machine",
+        Kind::Tech => "tech",
     }
 }
 
@@ -141,7 +187,7 @@ fn reply_with(
 /// The reply to a line, by its number, and whether it is a refusal.
 pub fn answer_line(
     alloc: Global,
-    planner: &FirstPlanner,
+    planner: &Planner,
     number: u32,
     line: &[u8],
 ) -> Result<(Text, bool), NoMemory>
@@ -159,16 +205,16 @@ pub fn answer_line(
 
 fn answer_target(
     alloc: Global,
-    planner: &FirstPlanner,
+    planner: &Planner,
     number: u32,
     target: &Target<'_>,
 ) -> Result<(Text, bool), NoMemory>
     requires { IsPlanner planner.now }
-    ensures reply { IfOk result (λ answer. answer.0 ≡ reply_for planner.now.game number (Some (target_in target.now))) }
-    ensures refused { IfOk result (λ answer. answer.1 ≡ is_none (node_of planner.now.game (target_in target.now))) }
+    ensures reply { IfOk result (λ answer. answer.0 ≡ reply_for planner.now.game number (Some (target_seen target.now))) }
+    ensures refused { IfOk result (λ answer. answer.1 ≡ is_none (node_of planner.now.game (target_seen target.now))) }
 {
     let rank = rank_of(planner, target);
-    let Ok(reply) = reply_with(alloc, number, kind_of(target), name_of(target), rank) else {
+    let Ok(reply) = reply_with(alloc, number, kind_word(target.kind), target.name, rank) else {
         return Err(NoMemory);
     };
     Ok((Text::from_string(reply), rank.is_none()))

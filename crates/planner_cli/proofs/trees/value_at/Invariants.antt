@@ -1,7 +1,0 @@
-use Rattle.std.proofs.Common.{◌≡◌, drop}
-use Rattle.json_text.specs.Seen.{members_seen}
-use Rattle.planner_cli.specs.Trees.{value_at}
-use Rattle.planner_cli.proofs.trees.value_at.Given as goal
-
-abbrev pub invariant-loop-member : goal.invariant-loop-member
-invariant-loop-member l = value_at l.key (members_seen l.members) ≡ value_at l.key (members_seen (drop l.member-index l.members))
