@@ -1,5 +1,5 @@
 -- Ingredients, products and science packs, with names in place of ids. Their forms are those of the prototype documentation
--- of Factorio 1.1, in the profile of docs/LANGUAGE.md.
+-- of Factorio 1.1, in the profile of docs/DUMP.md.
 use Rattle.std.specs.Prelude.{ℕ, Bool, true, false, if◌then◌else◌, List, [], ◌∷◌, Option, None, Some, Ok, codes}
 use Rattle.std.specs.Str.{bytes_eq}
 use Rattle.json_text.specs.Kept.{Kept}

@@ -1,6 +1,6 @@
 -- How each kind of field is read: its value, or what is wrong with it. A field that is absent or null has its default,
 -- or is missing where it is required. Kinds, defaults and ranges are those of the prototype documentation of Factorio 1.1
--- in the profile of docs/LANGUAGE.md. A number whose spelling is no numeral, and a text that is no UTF-8, are of another
+-- in the profile of docs/DUMP.md. A number whose spelling is no numeral, and a text that is no UTF-8, are of another
 -- kind; they do not stand in the tree of an accepted text.
 use Rattle.std.specs.Prelude.{◌≡◌, ◌≢◌, ℕ, ℤ, pos, ◌||◌, Bool, if◌then◌else◌, List, [], ◌∷◌, ◌++◌, Option, None, Some, option_and_then, is_some, unwrap_or, length, nat_le, nat_lt, Result, Ok, Err}
 use Rattle.std.specs.Option.{option_to_list}
