@@ -1,45 +1,50 @@
 -- The hundredths of a module that is read are small.
-use Rattle.std.specs.Prelude.{◌≡◌, ℕ, ◌*◌, ◌/◌, ◌≤◌, Bool, true, false, pos, neg_ℤ, unsigned_abs, int_lt, if◌then◌else◌, nat_le, Option, None, Some, IfSome}
-use Rattle.std.proofs.Common.{arith}
+use Rattle.std.specs.Prelude.{◌≡◌, ℕ, ◌*◌, ◌≤◌, ◌||◌, Bool, true, false, ℤ, pos, negsuc, ◌*ℤ◌, int_div, unsigned_abs, if◌then◌else◌, None, Some, IfSome}
+use Rattle.std.proofs.Common.{refl, sym, subst, arith}
 use Rattle.std.proofs.Math.Nat.{div-le_of_le-mul}
-use Rattle.std.proofs.lemmas.Bool.Decides.{nat_tests}
 use Rattle.std.proofs.lemmas.Int.{ints}
-use Rattle.fractions.specs.Fraction.{Fraction, zero_fraction, one_fraction}
+use Rattle.fractions.specs.Fraction.{Fraction, zero_fraction, one_fraction, whole_fraction, nat_abs-int_div}
 use Rattle.game_types.specs.Sound.{IsSmall, IsSoundBonus}
+use Rattle.prototype_fields.specs.declared.fault.FieldCode.TheVariants.{Limit}
 use Rattle.prototype_fields.specs.declared.names.Key.{Key}
 use Rattle.prototype_fields.specs.declared.names.Key.TheVariants.{Bonus as BonusKey, Speed, Productivity, Consumption, Pollution, Effect, Limitation, LimitationBlacklist, PlaceResult, FuelCategory, FuelValue, FuelEmissionsMultiplier, BurntResult}
 use Rattle.prototype_fields.specs.declared.names.Within.{Within}
 use Rattle.prototype_fields.specs.declared.names.Within.TheVariants as within
-use Rattle.prototype_fields.specs.Objects.{Object}
-use Rattle.prototype_fields.specs.Values.{Names, name, number, optional_category, energy_or, amount_or, object_or_empty, list_or_empty, names_in}
-use Rattle.prototype_fields.proofs.Yields.{Yields, and_then, whatever, in_range_yields}
+use Rattle.prototype_fields.specs.Numbers.{hundredths, is_less}
+use Rattle.prototype_fields.specs.Objects.{Object, field}
+use Rattle.prototype_fields.specs.Values.{Names, name, number_in, hundredths_or_zero, optional_category, energy_or, amount_or, object_or_empty, list_or_empty, names_in}
+use Rattle.prototype_fields.proofs.CutLemmas.{moderate}
+use Rattle.prototype_fields.proofs.Yields.{Yields, and_then, whatever, or_wrong_yields, optional_yields, or_default_yields}
 use Rattle.dump_reader.specs.declared.sections.Section.{Section}
 use Rattle.dump_reader.specs.declared.sections.Section.TheVariants.{Module}
-use Rattle.dump_reader.specs.Goods.{is_bonus, hundredths_of, found_bonus, bonus_in, bonus_of, module_of, optional_module, item_of}
+use Rattle.dump_reader.specs.Goods.{bonus_in, bonus_of, module_of, optional_module, item_of}
 use Rattle.dump_reader.specs.Sound.{IsSoundRawItem}
 
 -- ---- hundredths
-quotient_small : (n d : ℕ) → nat_le n (1_000_000 * d) ≡ true → n * 100 / d ≤ 100_000_000
+quotient_small : (n : ℤ) (d : ℕ) → unsigned_abs n ≤ 1_000_000 * d → IsSmall (int_div (n *ℤ pos 100) (pos d))
 quotient_small n d h =
-    let within : n ≤ 1_000_000 * d = grind (arith, nat_tests) in
-    let hundredfold : n * 100 ≤ d * 100_000_000 = omega arith in
-    div-le_of_le-mul d hundredfold
+    let hundredfold : unsigned_abs (n *ℤ pos 100) ≤ d * 100_000_000 = omega (arith, ints, h) in
+    subst (λ (k : ℕ). k ≤ 100_000_000) (sym (nat_abs-int_div (n *ℤ pos 100) d)) (div-le_of_le-mul d hundredfold)
 
-signed_small : (test : Bool) (n : ℕ) → n ≤ 100_000_000 → IsSmall (if test then neg_ℤ (pos n) else pos n)
-signed_small true n h = omega (arith, ints)
-signed_small false n h = h
+unless_either : (a b : Bool) (value : ℤ) → (a ≡ false → b ≡ false → IsSmall value) → IfSome (if a || b then None else Some value) IsSmall
+unless_either true b value h = tt
+unless_either false true value h = tt
+unless_either false false value h = h refl refl
 
-bonus_small : (x : Fraction) → is_bonus x ≡ true → IsSmall (hundredths_of x)
-bonus_small x h = signed_small (int_lt x.num (pos 0)) (unsigned_abs x.num * 100 / x.den) (quotient_small (unsigned_abs x.num) x.den h)
+hundredths_small : (x : Fraction) → IfSome (hundredths x) IsSmall
+hundredths_small x =
+    unless_either (is_less (whole_fraction (pos 1_000_000)) x) (is_less x (whole_fraction (negsuc 999_999))) (int_div (x.num *ℤ pos 100) (pos x.den)) λ above beneath.
+    quotient_small x.num x.den (moderate x above beneath)
+
+hundredths_or_zero_small : (object : Object) (key : Key) → Yields (hundredths_or_zero object key) IsSmall
+unfolding hundredths_or_zero
+hundredths_or_zero_small object key =
+    or_default_yields (pos 0) (omega arith) (optional_yields _ (field object key) λ value. whatever (number_in object key value) λ x. or_wrong_yields Limit object key (hundredths x) (hundredths_small x))
 
 -- ---- modules
-found_small : (kind : Object) (found : Option Fraction) → Yields (found_bonus kind found) IsSmall
-found_small kind None = record { holds = omega arith }
-found_small kind (Some bonus) = and_then (in_range_yields kind BonusKey is_bonus bonus (λ h. h)) λ x h. record { holds = bonus_small x h }
-
 bonus_in_small : (effect : Object) (key : Key) (path : Within) → Yields (bonus_in effect key path) IsSmall
 unfolding bonus_in
-bonus_in_small effect key path = whatever (object_or_empty effect key path) λ kind. whatever (number kind BonusKey) λ bonus. found_small kind bonus
+bonus_in_small effect key path = whatever (object_or_empty effect key path) λ kind. hundredths_or_zero_small kind BonusKey
 
 bonus_sound : (effect : Object) → Yields (bonus_of effect) IsSoundBonus
 bonus_sound effect =

@@ -1,13 +1,13 @@
 -- Items and fluids as a dump has them: the table of their fields, in the order in which they are read. Fields and defaults
 -- are those of the prototype documentation of Factorio 1.1.
-use Rattle.std.specs.Prelude.{ℕ, ◌*◌, Bool, ℤ, pos, ◌/◌, neg_ℤ, if◌then◌else◌, int_lt, unsigned_abs, Option, Some, None, option_map, nat_le, Ok}
+use Rattle.std.specs.Prelude.{ℕ, ℤ, pos, Option, Some, None, option_map, Ok}
 use Rattle.fractions.specs.Fraction.{Fraction, zero_fraction, one_fraction, whole_fraction}
 use Rattle.prototype_fields.specs.declared.names.Key.{Key}
 use Rattle.prototype_fields.specs.declared.names.Key.TheVariants.{PlaceResult, FuelCategory, FuelValue, FuelEmissionsMultiplier, BurntResult, Effect, Speed, Productivity, Consumption, Pollution, Bonus as BonusKey, Limitation, LimitationBlacklist, HeatCapacity, DefaultTemperature}
 use Rattle.prototype_fields.specs.declared.names.Within.{Within}
 use Rattle.prototype_fields.specs.declared.names.Within.TheVariants as within
 use Rattle.prototype_fields.specs.Objects.{Object}
-use Rattle.prototype_fields.specs.Values.{Reading, ◌▸◌, Names, name, optional_category, energy_or, amount_or, number, number_or, object_or_empty, list_or_empty, names_in, in_range}
+use Rattle.prototype_fields.specs.Values.{Reading, ◌▸◌, Names, name, optional_category, energy_or, amount_or, number_or, hundredths_or_zero, object_or_empty, list_or_empty, names_in}
 use Rattle.game_types.specs.declared.effects.Bonus.{Bonus}
 use Rattle.game_types.specs.declared.goods.Fluid.{Fluid}
 use Rattle.game_types.specs.declared.goods.Fuel.{Fuel}
@@ -25,22 +25,11 @@ fluid_of object =
     Ok (record { fuel_value = fuel_value; heat_capacity = heat_capacity; default_temperature = default_temperature })
 
 -- ---- module
--- a bonus is at most 1,000,000 in magnitude, and is cut toward zero to hundredths
-abbrev pub is_bonus : Fraction → Bool
-is_bonus x = nat_le (unsigned_abs x.num) (1_000_000 * x.den)
-
-abbrev pub hundredths_of : Fraction → ℤ
-hundredths_of x = if int_lt x.num (pos 0) then neg_ℤ (pos (unsigned_abs x.num * 100 / x.den)) else pos (unsigned_abs x.num * 100 / x.den)
-
-abbrev pub found_bonus : Object → Option Fraction → Reading ℤ
-found_bonus kind None = Ok (pos 0)
-found_bonus kind (Some bonus) = in_range kind BonusKey is_bonus bonus ▸ λ bonus. Ok (hundredths_of bonus)
-
+-- the bonus of one kind, in hundredths
 unfoldable pub bonus_in : Object → Key → Within → Reading ℤ
 bonus_in effect key path =
     object_or_empty effect key path ▸ λ kind.
-    number kind BonusKey ▸ λ bonus.
-    found_bonus kind bonus
+    hundredths_or_zero kind BonusKey
 
 abbrev pub bonus_of : Object → Reading Bonus
 bonus_of effect =

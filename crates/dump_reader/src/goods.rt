@@ -1,9 +1,8 @@
 //! Items and fluids.
-ghost use Rattle.std.specs.Prelude.{◌≡◌, ◌<◌, ◌*◌, ◌/◌, ◌≤◌, ◌^◌, pos, true, IfOk, option_map, ℤ, unsigned_abs};
-ghost use Rattle.fractions.specs.Limits.{IsBelow};
+ghost use Rattle.std.specs.Prelude.{◌≡◌, IfOk, option_map};
 ghost use Rattle.prototype_fields.specs.Seen.{object_seen};
 ghost use Rattle.prototype_fields.specs.Values.{Gives, with_names};
-ghost use Rattle.dump_reader.specs.Goods.{fluid_of, is_bonus, hundredths_of, bonus_in, bonus_of, module_of, optional_module, fuel_of, item_of};
+ghost use Rattle.dump_reader.specs.Goods.{fluid_of, bonus_in, bonus_of, module_of, optional_module, fuel_of, item_of};
 
 use crate::raw::{RawItem, RawModule};
 use crate::sections::Section;
@@ -11,7 +10,7 @@ use fractions::Ratio;
 use game_types::{Bonus, Fluid, Fuel};
 use name_table::Names;
 use plan_base::{NoMemory, Text};
-use prototype_fields::{FieldCode, FieldFault, Fields, Key, Within};
+use prototype_fields::{FieldFault, Fields, Key, Within};
 use std::alloc::Global;
 
 /// A fluid.
@@ -38,56 +37,13 @@ pub fn owned(alloc: Global, name: Option<&str>) -> Result<Option<Text>, NoMemory
     }
 }
 
-// Denominators above this are past every numerator over 1,000,000.
-const LARGE: u128 = 1 << 108;
-
-// Whether a number is at most 1,000,000 in magnitude.
-fn is_bonus(number: &Ratio) -> bool
-    ensures { result ≡ is_bonus number.now }
-{
-    let numerator = number.numerator().unsigned_abs();
-    let denominator = number.denominator() as u128;
-    LARGE <= denominator || numerator <= 1_000_000 * denominator
-}
-
-// The hundredths of a magnitude, cut.
-fn cut_hundredths(numerator: u128, denominator: u128) -> i64
-    requires positive { 0 < denominator }
-    requires small { numerator < 2 ^ 120 }
-    requires bonus { numerator ≤ 1_000_000 * denominator }
-    ensures value { result ≡ pos (numerator * 100 / denominator) }
-    ensures limit { numerator * 100 / denominator ≤ 100_000_000 }
-{
-    let cut = numerator * 100 / denominator;
-    prove!(cut <= 100_000_000);
-    cut as i64
-}
-
-// The hundredths of a number, cut toward zero.
-fn hundredths_of(number: &Ratio) -> i64
-    requires small { IsBelow 120 number.now }
-    requires bonus { is_bonus number.now ≡ true }
-    ensures { result ≡ hundredths_of number.now }
-{
-    let numerator = number.numerator();
-    let cut = cut_hundredths(numerator.unsigned_abs(), number.denominator() as u128);
-    if numerator < 0 { -cut } else { cut }
-}
-
 // The bonus of one kind.
 #[tactic(auto, unfolding(crate::specs::Goods::bonus_in))]
 fn read_bonus(effect: &Fields<'_, '_>, key: Key, within: Within) -> Result<i64, FieldFault>
     ensures value { result ≡ bonus_in (object_seen effect.now) key within }
 {
     let kind = effect.object_or_empty(key, within)?;
-    let Some(bonus) = kind.number(Key::Bonus)? else {
-        return Ok(0);
-    };
-    if is_bonus(&bonus) {
-        Ok(hundredths_of(&bonus))
-    } else {
-        Err(kind.fault(FieldCode::Limit, Key::Bonus))
-    }
+    kind.hundredths_or_zero(Key::Bonus)
 }
 
 fn read_effect(effect: &Fields<'_, '_>) -> Result<Bonus, FieldFault>
