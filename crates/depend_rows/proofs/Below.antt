@@ -9,7 +9,7 @@ use Rattle.plan_base.specs.declared.ids.NodeId.{NodeId}
 use Rattle.plan_base.specs.declared.ids.GoodId.{GoodId}
 use Rattle.graph_store.specs.declared.Group.{Group}
 use Rattle.graph_store.specs.declared.Row.{Row}
-use Rattle.graph_store.specs.Rows.{AreMembersBelow}
+use Rattle.graph_store.specs.Rows.{AreMembersBelow, HasMembersBelow}
 use Rattle.game_types.specs.Lookups.{machine_at, recipe_at, source_at, no_machine, no_source}
 use Rattle.game_types.specs.Nodes.{shape_of}
 use Rattle.game_types.specs.Sound.{IsSound, IsFluid, IsSoundSource, IsSoundMachine, IsSoundKind, IsSoundEnergy}
@@ -223,3 +223,9 @@ are_rows g rows sound is =
     let P : ℕ → Type 0 = λ n. AreMembersBelow n rows in
     let Q : List Row → Type 0 = λ l. AreMembersBelow (node_count (shape_of g)) l in
     (long, subst P (sym long) (subst Q (sym is) (rows_below g sound)))
+
+-- so it is for one row
+pub row_members_below : (g : Game) → IsSound g → (n : ℕ) → n < node_count (shape_of g) → (r : Row) → r ≡ row_of g n → HasMembersBelow (node_count (shape_of g)) r
+row_members_below g sound n within r is =
+    let below : Row → Type 0 = λ r. HasMembersBelow (node_count (shape_of g)) r in
+    subst below (sym is) (row_below g sound (node_count (shape_of g)) (omega arith) n within)

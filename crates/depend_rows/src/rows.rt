@@ -5,7 +5,7 @@ ghost use Rattle.game_types.specs.Nodes.{shape_of};
 ghost use Rattle.game_types.specs.Sound.{IsSound, IsSoundMachine, IsSoundRecipe, IsSoundSource, IsSoundTech};
 ghost use Rattle.game_types.specs.Lookups.{machine_at, recipe_at, source_at};
 ghost use Rattle.data_edit.specs.Books.{IsSoundBook};
-ghost use Rattle.graph_store.specs.Rows.{AreMembersBelow, member_count, row_members};
+ghost use Rattle.graph_store.specs.Rows.{AreMembersBelow, HasMembersBelow, member_count, row_members};
 ghost use Rattle.depend_rows.specs.Indexed.{IsIndex};
 ghost use Rattle.depend_rows.specs.Rows.{row_of, rows_of, special_row, tech_at};
 
@@ -206,6 +206,7 @@ pub fn row_of<L>(
     requires sound { IsSoundBook book.now }
     requires node { node.0 < node_count (shape_of book.now.game) }
     ensures row { IfOk result (λ row. row ≡ row_of book.now.game node.0) }
+    ensures members { IfOk result (HasMembersBelow (node_count (shape_of book.now.game))) }
     ensures steps { IfOk result (λ _. steps.new ≡ min (steps.old + 1) (2 ^ 64 - 1)) }
     ensures later { steps.old ≤ steps.new }
 {
