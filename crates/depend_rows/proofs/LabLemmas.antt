@@ -1,7 +1,10 @@
--- The labs of a technology, picked from all labs.
-use Rattle.std.proofs.Common.{◌≡◌, ◌∙◌, ◌<◌, ◌≤◌, ◌+◌, ◌-◌, ◌++◌, ℕ, zero, suc, Bool, true, false, List, [], ◌∷◌, length, drop, get_or, refl, ap, sym, arith, append_assoc, append-nil}
-use Rattle.std.specs.Prelude.{◌&&◌, if◌then◌else◌, nat_lt, filter, Some, None, slice_get}
-use Rattle.std.proofs.lemmas.Bool.Decides.{nat_tests}
+-- The labs of a technology: those that are in the lists of all its ingredients.
+use Rattle.std.proofs.Common.{◌≡◌, ◌∙◌, ◌<◌, ◌+◌, ℕ, Bool, true, false, List, [], ◌∷◌, Vec, length, map, refl, ap, sym, subst, arith}
+use Rattle.std.specs.Prelude.{◌==◌, ◌||◌, ◌&&◌, if◌then◌else◌, All, Option, Some, None}
+use Rattle.std.specs.Global.{Global}
+use Rattle.std.specs.List.{list_all}
+use Rattle.std.proofs.lemmas.List.Elements.{All-head, All-tail}
+use Rattle.std.proofs.lemmas.List.Folds.{list_all-map}
 use Rattle.fractions.specs.Fraction.{Fraction}
 use Rattle.plan_base.specs.declared.ids.GoodId.{GoodId}
 use Rattle.plan_base.specs.declared.ids.NodeId.{NodeId}
@@ -9,82 +12,99 @@ use Rattle.game_types.specs.declared.machinery.Machine.{Machine}
 use Rattle.game_types.specs.declared.machinery.MachineKind.{MachineKind}
 use Rattle.game_types.specs.declared.machinery.MachineKind.TheVariants.{Crafter, Drill, Pump, Boiler, Generator, BurnerGenerator, Solar, Reactor, Lab, Beacon}
 use Rattle.depend_rows.specs.Members.{node, those}
-use Rattle.depend_rows.specs.Doing.{researches}
-use Rattle.depend_rows.specs.Kinds.{is_lab, is_lab_for, machine_of}
-use Rattle.depend_rows.proofs.OrderLemmas.{those_same}
-use Rattle.depend_rows.proofs.Walks.{next, drop_all}
+use Rattle.depend_rows.specs.Doing.{names_good, researches}
+use Rattle.depend_rows.specs.Kinds.{is_lab, takes}
+use Rattle.depend_rows.specs.Lists.{has_node, is_in_all, list_at, AreCommon, AreLists, Rise}
+use Rattle.depend_rows.proofs.NumbersLemmas.{Rising, rising_above}
+use Rattle.depend_rows.proofs.OrderLemmas.{in_order_those, numbers_of, those_rise, those_rising, those_same}
 
--- the elements that pass, so far, with those that are to come
-pub record FilteredSoFar {A : Type 0} (test : A → Bool) (xs : List A) (i : ℕ) (ys : List A) : Type 0 where
-  pub joined : ys ++ filter test (drop i xs) ≡ filter test xs
+-- ---- the numbers of those that pass a test
+-- the thing of a number
+thing_at : {A : Type 0} → List A → ℕ → ℕ → Option A
+thing_at [] first k = None
+thing_at (x ∷ xs) first k = if first == k then Some x else thing_at xs (first + 1) k
 
-pub filtered_first : {A : Type 0} (test : A → Bool) (xs ys : List A) → ys ≡ [] → FilteredSoFar test xs 0 ys
-filtered_first test xs ys empty = record { joined = ap (λ l. l ++ filter test xs) empty }
+passes : {A : Type 0} → (A → Bool) → Option A → Bool
+passes test None = false
+passes test (Some x) = test x
 
-passed : {A : Type 0} (test : A → Bool) (x : A) (rest ys new : List A) (b : Bool) → test x ≡ b → new ≡ (if b then ys ++ x ∷ [] else ys) → new ++ filter test rest ≡ ys ++ filter test (x ∷ rest)
-passed test x rest ys new true is put = ap (λ l. l ++ filter test rest) put ∙ append_assoc ys (x ∷ []) (filter test rest) ∙ ap (λ b. ys ++ (if b then x ∷ filter test rest else filter test rest)) (sym is)
-passed test x rest ys new false is put = ap (λ l. l ++ filter test rest) put ∙ ap (λ b. ys ++ (if b then x ∷ filter test rest else filter test rest)) (sym is)
+here_or_later : {A : Type 0} (test : A → Bool) (first k : ℕ) (x : A) (later : List NodeId) (o : Option A) → Rising (first + 1) (numbers_of later) → has_node later k ≡ passes test o
+    → (b : Bool) → test x ≡ b → (same : Bool) → (first == k) ≡ same → has_node (if b then node first ∷ later else later) k ≡ passes test (if same then Some x else o)
+unfolding passes
+here_or_later test first k x later o rise more true is true at = ap (λ b. b || has_node later k) at ∙ sym is
+here_or_later test first k x later o rise more true is false at = ap (λ b. b || has_node later k) at ∙ more
+here_or_later test first k x later o rise more false is true at =
+    let below : k < first + 1 = grind (arith, at) in
+    rising_above (first + 1) k (numbers_of later) rise below ∙ sym is
+here_or_later test first k x later o rise more false is false at = more
 
-pub filtered_more : {A : Type 0} (test : A → Bool) (xs : List A) (i : ℕ) (x : A) (ys new : List A) (b : Bool) → i < length xs → x ≡ get_or xs i x → test x ≡ b → new ≡ (if b then ys ++ x ∷ [] else ys)
-    → FilteredSoFar test xs i ys → FilteredSoFar test xs (i + 1) new
-filtered_more test xs i x ys new b within is passes put before = record { joined = passed test x (drop (i + 1) xs) ys new b passes put ∙ ap (λ l. ys ++ filter test l) (sym (next xs i x within is)) ∙ before.joined }
+has_those : {A : Type 0} (test : A → Bool) (k : ℕ) → (xs : List A) (first : ℕ) → has_node (those test first xs) k ≡ passes test (thing_at xs first k)
+unfolding passes thing_at
+has_those test k [] first = refl
+has_those test k (x ∷ xs) first =
+    here_or_later test first k x (those test (first + 1) xs) (thing_at xs (first + 1) k) (those_rise test xs (first + 1)) (has_those test k xs (first + 1)) (test x) refl (first == k) refl
 
-pub filtered_last : {A : Type 0} (test : A → Bool) (xs : List A) (i : ℕ) (ys : List A) → length xs ≤ i → FilteredSoFar test xs i ys → ys ≡ filter test xs
-filtered_last test xs i ys end before = sym (append-nil ys) ∙ ap (λ l. ys ++ filter test l) (sym (drop_all xs i end)) ∙ before.joined
+-- ---- labs by what they take
+none_of_some : (goods : List ℕ) → 0 < length goods → list_all (λ _. false) goods ≡ false
+none_of_some [] some = absurd (omega (arith, some))
+none_of_some (good ∷ goods) some = refl
 
--- ---- nodes of machines that pass two tests
-at_drop : {A : Type 0} (all : List A) (i : ℕ) (x : A) (xs : List A) → drop i all ≡ x ∷ xs → (slice_get all i ≡ Some x) × (drop (i + 1) all ≡ xs)
-at_drop [] zero x xs is = absurd (cc)
-at_drop [] (suc i) x xs is = absurd (cc)
-at_drop (y ∷ all) zero x xs is = (let same : y ≡ x = cc in ap Some same, let rest : all ≡ xs = cc in rest)
-at_drop (y ∷ all) (suc i) x xs is =
-    let rest = at_drop all i x xs is in
-    let same : suc i + 1 ≡ suc (i + 1) = omega arith in
-    (rest.0, ap (λ k. drop k (y ∷ all)) same ∙ rest.1)
+-- a machine that takes all of some goods
+takes_all : (parts : List (GoodId × Fraction)) → 0 < length (map (λ (part : GoodId × Fraction). part.0.0) parts) → (kind : MachineKind) → list_all (takes kind) (map (λ part. part.0.0) parts) ≡ researches kind parts
+takes_all parts some (Lab inputs speed) = list_all-map (names_good inputs) (λ part. part.0.0) parts
+takes_all parts some (Crafter speed categories fixed) = none_of_some (map (λ part. part.0.0) parts) some
+takes_all parts some (Drill speed categories fluid_box) = none_of_some (map (λ part. part.0.0) parts) some
+takes_all parts some (Pump fluid speed) = none_of_some (map (λ part. part.0.0) parts) some
+takes_all parts some (Boiler input output temperature) = none_of_some (map (λ part. part.0.0) parts) some
+takes_all parts some (Generator input effectivity per_tick max_temperature burns output) = none_of_some (map (λ part. part.0.0) parts) some
+takes_all parts some (BurnerGenerator output) = none_of_some (map (λ part. part.0.0) parts) some
+takes_all parts some (Solar production) = none_of_some (map (λ part. part.0.0) parts) some
+takes_all parts some Reactor = none_of_some (map (λ part. part.0.0) parts) some
+takes_all parts some (Beacon effectivity) = none_of_some (map (λ part. part.0.0) parts) some
 
-machine_there : (all : List Machine) (first i : ℕ) (x : Machine) → slice_get all i ≡ Some x → machine_of all first (node (first + i)) ≡ Some x
-unfolding machine_of
-machine_there all first i x is =
-    let inside : nat_lt (first + i) first ≡ false = grind (arith, nat_tests) in
-    let place : first + i - first ≡ i = omega arith in
-    ap (λ b. if b then None else slice_get all (first + i - first)) inside ∙ ap (slice_get all) place ∙ is
+all_take : (parts : List (GoodId × Fraction)) → 0 < length (map (λ (part : GoodId × Fraction). part.0.0) parts) → (o : Option Machine)
+    → list_all (λ good. passes (λ machine. takes machine.kind good) o) (map (λ part. part.0.0) parts) ≡ passes (λ machine. researches machine.kind parts) o
+unfolding passes
+all_take parts some None = none_of_some (map (λ part. part.0.0) parts) some
+all_take parts some (Some machine) = takes_all parts some machine.kind
 
-two_tests : (p q : Bool) (n : NodeId) (test : NodeId → Bool) (rest rest' : List NodeId) → (p ≡ true → test n ≡ q) → filter test rest ≡ rest' → filter test (if p then n ∷ rest else rest) ≡ (if p && q then n ∷ rest' else rest')
-two_tests true q n test rest rest' same more = ap (λ b. if b then n ∷ filter test rest else filter test rest) (same refl) ∙ ap (λ l. if q then n ∷ l else l) more
-two_tests false q n test rest rest' same more = more
+in_lists : (lists : List (Vec NodeId Global)) (first count k : ℕ) (machines : List Machine) → AreLists (λ good. those (λ machine. takes machine.kind good) first machines) count lists → (goods : List ℕ) → All (λ good. good < count) goods
+    → is_in_all lists goods k ≡ list_all (λ good. passes (λ machine. takes machine.kind good) (thing_at machines first k)) goods
+in_lists lists first count k machines are [] below = refl
+in_lists lists first count k machines are (good ∷ goods) below =
+    ap (λ l. has_node l k && is_in_all lists goods k) (are.each good (All-head (λ g. g < count) good goods below))
+    ∙ ap (λ b. b && is_in_all lists goods k) (has_those (λ (machine : Machine). takes machine.kind good) k machines first)
+    ∙ ap (λ b. passes (λ (machine : Machine). takes machine.kind good) (thing_at machines first k) && b) (in_lists lists first count k machines are goods (All-tail (λ g. g < count) good goods below))
 
-picked : (parts : List (GoodId × Fraction)) (all : List Machine) (first : ℕ) → (xs : List Machine) (i n : ℕ) → n ≡ first + i → drop i all ≡ xs
-    → filter (λ m. is_lab_for parts (machine_of all first m)) (those (λ machine. is_lab machine.kind) n xs) ≡ those (λ machine. is_lab machine.kind && researches machine.kind parts) n xs
-picked parts all first [] i n at is = refl
-picked parts all first (x ∷ xs) i n at is =
-    let there = at_drop all i x xs is in
-    let found : machine_of all first (node n) ≡ Some x = ap (λ k. machine_of all first (node k)) at ∙ machine_there all first i x there.0 in
-    two_tests (is_lab x.kind) (researches x.kind parts) (node n) (λ m. is_lab_for parts (machine_of all first m)) (those (λ machine. is_lab machine.kind) (n + 1) xs) (those (λ machine. is_lab machine.kind && researches machine.kind parts) (n + 1) xs)
-    (λ _. ap (is_lab_for parts) found) (picked parts all first xs (i + 1) (n + 1) (omega (arith, at)) there.1)
+-- lists of those rise
+pub lists_rise : (lists : List (Vec NodeId Global)) (first count : ℕ) (machines : List Machine) → AreLists (λ good. those (λ machine. takes machine.kind good) first machines) count lists → (k : ℕ) → k < length lists → Rise (list_at lists k)
+lists_rise lists first count machines are k within =
+    subst Rise (sym (are.each k (subst (λ n. k < n) are.as_long within))) (those_rising (λ (machine : Machine). takes machine.kind k) machines first)
 
-only_labs : (parts : List (GoodId × Fraction)) → (kind : MachineKind) → (is_lab kind && researches kind parts) ≡ researches kind parts
-only_labs parts (Lab inputs speed) = refl
-only_labs parts (Crafter speed categories fixed) = refl
-only_labs parts (Drill speed categories fluid_box) = refl
-only_labs parts (Pump fluid speed) = refl
-only_labs parts (Boiler input output temperature) = refl
-only_labs parts (Generator input effectivity per_tick max_temperature burns output) = refl
-only_labs parts (BurnerGenerator output) = refl
-only_labs parts (Solar production) = refl
-only_labs parts Reactor = refl
-only_labs parts (Beacon effectivity) = refl
+pub common_labs : (lists : List (Vec NodeId Global)) (first count : ℕ) (machines : List Machine) (parts : List (GoodId × Fraction)) (goods : List ℕ) (nodes : List NodeId)
+    → AreLists (λ good. those (λ machine. takes machine.kind good) first machines) count lists → goods ≡ map (λ part. part.0.0) parts → 0 < length goods → All (λ good. good < count) goods → AreCommon lists goods nodes
+    → nodes ≡ those (λ machine. researches machine.kind parts) first machines
+common_labs lists first count machines parts goods nodes are is some below common =
+    in_order_those (λ (machine : Machine). researches machine.kind parts) first machines (numbers_of nodes) nodes (record { rise = common.rise; same = λ k. refl }) (λ k.
+    common.same k ∙ in_lists lists first count k machines are goods below
+    ∙ ap (list_all (λ good. passes (λ (machine : Machine). takes machine.kind good) (thing_at machines first k))) is
+    ∙ all_take parts (subst (λ l. 0 < length l) is some) (thing_at machines first k)
+    ∙ sym (has_those (λ (machine : Machine). researches machine.kind parts) k machines first))
 
-pub picked_labs : (parts : List (GoodId × Fraction)) (machines : List Machine) (first : ℕ)
-    → filter (λ m. is_lab_for parts (machine_of machines first m)) (those (λ machine. is_lab machine.kind) first machines) ≡ those (λ machine. researches machine.kind parts) first machines
-picked_labs parts machines first =
-    picked parts machines first machines 0 first (omega arith) refl
-    ∙ those_same (λ (machine : Machine). is_lab machine.kind && researches machine.kind parts) (λ (machine : Machine). researches machine.kind parts) (λ machine. only_labs parts machine.kind) machines first
+-- what has no ingredients is researched by all labs
+every_lab : (kind : MachineKind) → is_lab kind ≡ researches kind []
+every_lab (Lab inputs speed) = refl
+every_lab (Crafter speed categories fixed) = refl
+every_lab (Drill speed categories fluid_box) = refl
+every_lab (Pump fluid speed) = refl
+every_lab (Boiler input output temperature) = refl
+every_lab (Generator input effectivity per_tick max_temperature burns output) = refl
+every_lab (BurnerGenerator output) = refl
+every_lab (Solar production) = refl
+every_lab Reactor = refl
+every_lab (Beacon effectivity) = refl
 
-pub labs_are : (parts parts' : List (GoodId × Fraction)) (machines machines' : List Machine) (first first' : ℕ) (labs nodes : List NodeId) → nodes ≡ filter (λ m. is_lab_for parts' (machine_of machines' first' m)) labs
-    → labs ≡ those (λ machine. is_lab machine.kind) first machines → parts' ≡ parts → machines' ≡ machines → first' ≡ first → nodes ≡ those (λ machine. researches machine.kind parts) first machines
-labs_are parts parts' machines machines' first first' labs nodes are all same_parts same_machines same_first =
-    are ∙ ap (filter (λ m. is_lab_for parts' (machine_of machines' first' m))) all
-    ∙ ap (λ p. filter (λ m. is_lab_for p (machine_of machines' first' m)) (those (λ machine. is_lab machine.kind) first machines)) same_parts
-    ∙ ap (λ l. filter (λ m. is_lab_for parts (machine_of l first' m)) (those (λ machine. is_lab machine.kind) first machines)) same_machines
-    ∙ ap (λ k. filter (λ m. is_lab_for parts (machine_of machines k m)) (those (λ machine. is_lab machine.kind) first machines)) same_first
-    ∙ picked_labs parts machines first
+pub labs_of_none : (first : ℕ) (machines : List Machine) → (parts : List (GoodId × Fraction)) (goods : List ℕ) (nodes : List NodeId) → goods ≡ map (λ part. part.0.0) parts → length goods ≡ 0
+    → nodes ≡ those (λ machine. is_lab machine.kind) first machines → nodes ≡ those (λ machine. researches machine.kind parts) first machines
+labs_of_none first machines [] goods nodes is none all = all ∙ those_same (λ (machine : Machine). is_lab machine.kind) (λ (machine : Machine). researches machine.kind []) (λ machine. every_lab machine.kind) machines first
+labs_of_none first machines (part ∷ parts) goods nodes is none all = absurd (let long = ap length is in omega (arith, none, long))

@@ -1,4 +1,5 @@
 pub mod Below
+pub mod CommonLemmas
 pub mod CraftLemmas
 pub mod FuelLemmas
 pub mod KeyLemmas

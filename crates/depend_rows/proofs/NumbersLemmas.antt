@@ -15,7 +15,7 @@ unfoldable pub Rising : ℕ → List ℕ → Type 0
 Rising low [] = Unit {0}
 Rising low (k ∷ ks) = (low ≤ k) × Rising (k + 1) ks
 
-behind : (k : ℕ) (ks : List ℕ) (i : ℕ) → slice_index (k ∷ ks) (suc i + 1) ≡ slice_index ks (i + 1)
+pub behind : (k : ℕ) (ks : List ℕ) (i : ℕ) → slice_index (k ∷ ks) (suc i + 1) ≡ slice_index ks (i + 1)
 behind k ks i = let same : suc i + 1 ≡ suc (i + 1) = omega arith in ap (slice_index (k ∷ ks)) same
 
 pub rising : (low : ℕ) → (ks : List ℕ) → (0 < length ks → low ≤ slice_index ks 0) → IsStrictlyIncreasing ks → Rising low ks

@@ -1,11 +1,11 @@
 -- Lists of nodes in order are known by their members.
-use Rattle.std.proofs.Common.{◌≡◌, ◌∙◌, ◌<◌, ◌≤◌, ◌+◌, ℕ, Bool, true, false, List, [], ◌∷◌, map, refl, ap, sym, subst, arith}
-use Rattle.std.specs.Prelude.{◌==◌, ◌||◌, if◌then◌else◌}
+use Rattle.std.proofs.Common.{◌≡◌, ◌∙◌, ◌<◌, ◌≤◌, ◌+◌, ℕ, zero, suc, Bool, true, false, List, [], ◌∷◌, length, map, refl, ap, sym, subst, arith}
+use Rattle.std.specs.Prelude.{◌==◌, ◌||◌, if◌then◌else◌, slice_index}
 use Rattle.std.specs.List.Sorted.{IsStrictlyIncreasing}
 use Rattle.plan_base.specs.declared.ids.NodeId.{NodeId}
 use Rattle.depend_rows.specs.Members.{node, those}
 use Rattle.depend_rows.specs.Lists.{is_among, HoldInOrder}
-use Rattle.depend_rows.proofs.NumbersLemmas.{Rising, rising, rising_above}
+use Rattle.depend_rows.proofs.NumbersLemmas.{Rising, behind, rising, rising_above}
 
 abbrev pub numbers_of : List NodeId → List ℕ
 numbers_of nodes = map (λ n. n.0) nodes
@@ -52,10 +52,21 @@ unfolding Rising
 rise_where true first rest rise = (omega arith, rise)
 rise_where false first rest rise = rising_lower (first + 1) first (omega arith) (numbers_of rest) rise
 
-those_rise : {A : Type 0} (test : A → Bool) → (xs : List A) (first : ℕ) → Rising first (numbers_of (those test first xs))
+pub those_rise : {A : Type 0} (test : A → Bool) → (xs : List A) (first : ℕ) → Rising first (numbers_of (those test first xs))
 unfolding Rising
 those_rise test [] first = tt
 those_rise test (x ∷ xs) first = rise_where (test x) first (those test (first + 1) xs) (those_rise test xs (first + 1))
+
+increasing : (low : ℕ) → (ks : List ℕ) → Rising low ks → (i : ℕ) → i + 1 < length ks → slice_index ks i < slice_index ks (i + 1)
+unfolding Rising
+increasing low [] rise i within = absurd (omega (arith, within))
+increasing low (k ∷ []) rise i within = absurd (omega (arith, within))
+increasing low (k ∷ j ∷ ks) rise zero within = omega (arith, rise.1.0)
+increasing low (k ∷ j ∷ ks) rise (suc i) within =
+    subst (λ n. slice_index (j ∷ ks) i < n) (sym (behind k (j ∷ ks) i)) (increasing (k + 1) (j ∷ ks) rise.1 i (omega (arith, within)))
+
+pub those_rising : {A : Type 0} (test : A → Bool) → (xs : List A) (first : ℕ) → IsStrictlyIncreasing (numbers_of (those test first xs))
+those_rising test xs first = increasing first (numbers_of (those test first xs)) (those_rise test xs first)
 
 nodes_same : (xs ys : List NodeId) → numbers_of xs ≡ numbers_of ys → xs ≡ ys
 nodes_same xs ys same = sym (back xs) ∙ ap (map node) same ∙ back ys

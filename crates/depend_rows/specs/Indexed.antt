@@ -5,7 +5,7 @@ use Rattle.depend_rows.specs.declared.index.Index.{Index}
 use Rattle.depend_rows.specs.Members.{those}
 use Rattle.depend_rows.specs.Making.{first_machine, givers, good_count, unlockers}
 use Rattle.depend_rows.specs.Doing.{burning_fluids, placers}
-use Rattle.depend_rows.specs.Kinds.{crafts_all_of, crafts_alone, is_drill_of, is_fuel_of, is_lab}
+use Rattle.depend_rows.specs.Kinds.{crafts_all_of, crafts_alone, is_drill_of, is_fuel_of, is_lab, takes}
 use Rattle.depend_rows.specs.Lists.{AreLists, AreMarks}
 
 pub record IsIndex (g : Game) (index : Index) : Type 0 where
@@ -19,5 +19,6 @@ pub record IsIndex (g : Game) (index : Index) : Type 0 where
   pub fuels : AreLists (λ category. those (λ item. is_fuel_of item.fuel category) 3 g.items) (length index.fuels.items) index.fuels.items
   pub burning : index.burning.items ≡ burning_fluids g
   pub labs : index.labs.items ≡ those (λ machine. is_lab machine.kind) (first_machine g) g.machines
+  pub takers : AreLists (λ good. those (λ machine. takes machine.kind good) (first_machine g) g.machines) (length g.items) index.takers.items
   pub crafting : AreMarks g.character.crafting index.crafting.items
   pub mining : AreMarks g.character.mining index.mining.items

@@ -1,15 +1,11 @@
 -- What machines and fuels are about, taken apart: by category, and by recipe.
-use Rattle.std.specs.Prelude.{ℕ, ◌==◌, ◌&&◌, ◌||◌, Bool, false, true, not, ◌-◌, nat_lt, if◌then◌else◌, List, Option, Some, None, is_none, slice_get}
-use Rattle.fractions.specs.Fraction.{Fraction}
-use Rattle.plan_base.specs.declared.ids.GoodId.{GoodId}
-use Rattle.plan_base.specs.declared.ids.NodeId.{NodeId}
+use Rattle.std.specs.Prelude.{ℕ, ◌==◌, ◌&&◌, ◌||◌, Bool, false, true, not, List, Option, Some, None, is_none, slice_get}
 use Rattle.plan_base.specs.declared.ids.RecipeId.{RecipeId}
-use Rattle.depend_rows.specs.Doing.{researches}
+use Rattle.depend_rows.specs.Doing.{names_good}
 use Rattle.game_types.specs.Making.{holds, is_positive}
 use Rattle.game_types.specs.declared.goods.Fuel.{Fuel}
 use Rattle.game_types.specs.declared.machinery.MachineKind.{MachineKind}
 use Rattle.game_types.specs.declared.machinery.MachineKind.TheVariants.{Crafter, Drill, Lab}
-use Rattle.game_types.specs.declared.machinery.Machine.{Machine}
 use Rattle.game_types.specs.declared.recipes.Recipe.{Recipe}
 
 -- a machine that crafts all recipes of a category
@@ -49,11 +45,7 @@ abbrev pub is_lab : MachineKind → Bool
 is_lab (Lab inputs speed) = true
 is_lab kind = false
 
--- the machine of a node, where the first machine's node is this one
-unfoldable pub machine_of : List Machine → ℕ → NodeId → Option Machine
-machine_of machines first node = if nat_lt node.0 first then None else slice_get machines (node.0 - first)
-
--- whether there is a machine and it is a lab that researches what takes these
-abbrev pub is_lab_for : List (GoodId × Fraction) → Option Machine → Bool
-is_lab_for parts None = false
-is_lab_for parts (Some machine) = researches machine.kind parts
+-- a lab one of whose inputs is this good
+abbrev pub takes : MachineKind → ℕ → Bool
+takes (Lab inputs speed) good = names_good inputs good
+takes kind good = false

@@ -1,7 +1,7 @@
 -- Lists of nodes by number: the nodes of the things that are about each number.
-use Rattle.std.specs.Prelude.{ℕ, ◌≡◌, ◌<◌, ◌==◌, Bool, false, List, [], ◌∷◌, ◌++◌, Vec, length, map, slice_index_or}
+use Rattle.std.specs.Prelude.{ℕ, ◌≡◌, ◌<◌, ◌≤◌, ◌==◌, Bool, false, List, [], ◌∷◌, ◌++◌, Vec, length, map, slice_index, slice_index_or}
 use Rattle.std.specs.Global.{Global}
-use Rattle.std.specs.List.{list_any}
+use Rattle.std.specs.List.{list_all, list_any}
 use Rattle.std.specs.List.Sorted.{IsStrictlyIncreasing}
 use Rattle.plan_base.specs.declared.ids.NodeId.{NodeId}
 
@@ -37,6 +37,34 @@ unfoldable pub numbers_at : List (Vec NodeId Global) → List ℕ → List ℕ
 numbers_at lists [] = []
 numbers_at lists (k ∷ ks) = map (λ n. n.0) (list_at lists k) ++ numbers_at lists ks
 
+-- ---- what lists have in common
+-- the numbers of the nodes rise
+abbrev pub Rise : List NodeId → Type 0
+Rise nodes = IsStrictlyIncreasing (map (λ n. n.0) nodes)
+
+-- whether a number is that of a node in a list
+abbrev pub has_node : List NodeId → ℕ → Bool
+has_node nodes k = is_among (map (λ n. n.0) nodes) k
+
+abbrev pub number_at : List NodeId → ℕ → ℕ
+number_at nodes i = slice_index (map (λ n. n.0) nodes) i
+
+-- the nodes before a place are below a number, and the others are not
+pub record IsPlaceOf (number : ℕ) (nodes : List NodeId) (place : ℕ) : Type 0 where
+  pub within : place ≤ length nodes
+  pub below : (i : ℕ) → i < place → number_at nodes i < number
+  pub from : (i : ℕ) → place ≤ i → i < length nodes → number ≤ number_at nodes i
+
+-- whether a node is in the lists of all these numbers
+abbrev pub is_in_all : List (Vec NodeId Global) → List ℕ → ℕ → Bool
+is_in_all lists numbers k = list_all (λ j. has_node (list_at lists j) k) numbers
+
+-- the nodes are those in the lists of all these numbers, in order
+pub record AreCommon (lists : List (Vec NodeId Global)) (numbers : List ℕ) (nodes : List NodeId) : Type 0 where
+  pub rise : Rise nodes
+  pub same : (k : ℕ) → has_node nodes k ≡ is_in_all lists numbers k
+
+-- ---- marks
 -- each mark says whether its number is among these
 abbrev pub AreMarks : List ℕ → List Bool → Type 0
 AreMarks numbers marks = (k : ℕ) → k < length marks → slice_index_or marks k false ≡ is_among numbers k

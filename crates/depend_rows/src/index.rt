@@ -6,8 +6,8 @@ ghost use Rattle.game_types.specs.Making.{gives};
 ghost use Rattle.game_types.specs.Sound.{IsSound};
 ghost use Rattle.depend_rows.specs.Members.{is_good, those};
 ghost use Rattle.depend_rows.specs.Making.{first_machine, first_recipe, first_source, givers, good_count, puts_out, unlockers};
-ghost use Rattle.depend_rows.specs.Doing.{burning_fluids, is_machine, placers};
-ghost use Rattle.depend_rows.specs.Kinds.{crafts_all_of, crafts_alone, has_category, is_drill_of, is_fuel_of};
+ghost use Rattle.depend_rows.specs.Doing.{burning_fluids, is_machine, names_good, placers};
+ghost use Rattle.depend_rows.specs.Kinds.{crafts_all_of, crafts_alone, has_category, is_drill_of, is_fuel_of, takes};
 ghost use Rattle.depend_rows.specs.Lists.{AreLists, Extends, is_among};
 
 use crate::goods::is_expected;
@@ -45,6 +45,8 @@ pub struct Index {
     pub burning: Vec<NodeId>,
     /// The labs.
     pub labs: Vec<NodeId>,
+    /// For each item, the labs that take it.
+    pub takers: Vec<Vec<NodeId>>,
     /// For each category, whether the character crafts its recipes.
     pub crafting: Vec<bool>,
     /// For each category, whether the character mines its sources.
@@ -321,6 +323,37 @@ impl Keys<Item> for Burnt {
     }
 }
 
+// The goods that labs take.
+#[derive(Drop)]
+struct Taken;
+
+fn numbers_of_goods(alloc: Global, goods: &[GoodId]) -> Result<Vec<u32>, NoMemory>
+    ensures { IfOk result (λ numbers. (k : ℕ) → is_among numbers.items k ≡ names_good goods.now k) }
+{
+    let mut numbers = Vec::new(alloc);
+    for good in goods {
+        numbers.push(good.0)?;
+    }
+    Ok(numbers)
+}
+
+fn goods_taken(alloc: Global, kind: &MachineKind) -> Result<Vec<u32>, NoMemory>
+    ensures { IfOk result (λ numbers. (k : ℕ) → is_among numbers.items k ≡ takes kind.now k) }
+{
+    match kind {
+        MachineKind::Lab { inputs, .. } => numbers_of_goods(alloc, inputs.as_slice()),
+        _ => one_number(alloc, None),
+    }
+}
+
+impl Keys<Machine> for Taken {
+    ghost about = { λ _ machine good. takes machine.kind good };
+
+    fn keys(&self, alloc: Global, machine: &Machine) -> Result<Vec<u32>, NoMemory> {
+        goods_taken(alloc, &machine.kind)
+    }
+}
+
 // ---- the lists
 
 fn extend_by_items(alloc: Global, game: &Game, lists: &mut [Vec<NodeId>]) -> Result<(), NoMemory>
@@ -466,6 +499,20 @@ fn fuels(alloc: Global, game: &Game) -> Result<Vec<Vec<NodeId>>, NoMemory>
     lists_of(alloc, count, 3, game.items.as_slice(), &Burnt)
 }
 
+fn takers(alloc: Global, game: &Game) -> Result<Vec<Vec<NodeId>>, NoMemory>
+    requires { IsSound game.now }
+    ensures { IfOk result (λ lists. AreLists (λ good. those (λ machine. takes machine.kind good) (first_machine game.now) game.now.machines) (length game.now.items) lists.items) }
+{
+    let count = game.shape().items;
+    lists_of(
+        alloc,
+        count,
+        first_machine(game),
+        game.machines.as_slice(),
+        &Taken,
+    )
+}
+
 impl Index {
     ghost use Rattle.depend_rows.specs.Indexed.{IsIndex};
 
@@ -488,6 +535,7 @@ impl Index {
         let fuels = fuels(alloc, game)?;
         let burning = burning_fluids(alloc, game)?;
         let labs = all_labs(alloc, game)?;
+        let takers = takers(alloc, game)?;
         let categories = game.categories.len();
         let crafting = marks_of(alloc, categories, game.character.crafting.as_slice())?;
         let mining = marks_of(alloc, categories, game.character.mining.as_slice())?;
@@ -502,6 +550,7 @@ impl Index {
             fuels,
             burning,
             labs,
+            takers,
             crafting,
             mining,
         })

@@ -1,6 +1,7 @@
 //! What each node of a game needs: its dependency row.
 #![tactic(auto)]
 
+mod common;
 mod goods;
 mod index;
 mod lists;

@@ -1,14 +1,13 @@
 //! What technologies need.
-ghost use Rattle.std.specs.Prelude.{◌≡◌, IfOk, filter, map};
-ghost use Rattle.std.specs.Option.{option_copied};
-ghost use Rattle.std.specs.List.{list_all};
+ghost use Rattle.std.specs.Prelude.{◌≡◌, IfOk, map};
 ghost use Rattle.game_types.specs.Sound.{IsSound, IsSoundTech};
 ghost use Rattle.depend_rows.specs.Indexed.{IsIndex};
-ghost use Rattle.depend_rows.specs.Kinds.{is_lab, is_lab_for, machine_of};
+ghost use Rattle.depend_rows.specs.Kinds.{is_lab};
 ghost use Rattle.depend_rows.specs.Making.{first_machine};
 ghost use Rattle.depend_rows.specs.Members.{those};
-ghost use Rattle.depend_rows.specs.Doing.{labs, names_good, prerequisites, researches, science_packs, tech_row};
+ghost use Rattle.depend_rows.specs.Doing.{labs, prerequisites, science_packs, tech_row};
 
+use crate::common::in_all;
 use crate::index::Index;
 use crate::members::{Test, all_of, any_of, named, row_with, those};
 use crate::places::{first_machine, first_tech, good_count};
@@ -58,27 +57,6 @@ fn science_packs(alloc: Global, game: &Game, tech: &Tech) -> Result<Vec<NodeId>,
     named(alloc, 3, good_count(game), goods)
 }
 
-fn names_good(goods: &[GoodId], good: u32) -> bool
-    ensures { result ≡ names_good goods.now good }
-{
-    goods.iter().any(|other| other.0 == good)
-}
-
-fn takes_all(inputs: &[GoodId], parts: &[(GoodId, Ratio)]) -> bool
-    ensures { result ≡ list_all (λ part. names_good inputs.now part.0.0) parts.now }
-{
-    parts.iter().all(|part| names_good(inputs, part.0.0))
-}
-
-fn researches(kind: &MachineKind, parts: &[(GoodId, Ratio)]) -> bool
-    ensures { result ≡ researches kind.now parts.now }
-{
-    match kind {
-        MachineKind::Lab { inputs, .. } => takes_all(inputs.as_slice(), parts),
-        _ => false,
-    }
-}
-
 // Whether a machine is a lab.
 #[derive(Drop)]
 struct AreLabs;
@@ -113,57 +91,22 @@ pub fn all_labs(alloc: Global, game: &Game) -> Result<Vec<NodeId>, NoMemory>
     )
 }
 
-// The machine of a node, where the first machine's node is this one.
-#[tactic(auto, unfolding(crate::specs::Kinds::machine_of))]
-fn machine_of(machines: &[Machine], first: u32, node: NodeId) -> Option<&Machine>
-    ensures { option_copied result ≡ machine_of machines.now first node }
-{
-    if node.0 < first {
-        None
-    } else {
-        machines.get((node.0 - first) as usize)
-    }
-}
-
-fn is_lab_for(machines: &[Machine], first: u32, node: NodeId, parts: &[(GoodId, Ratio)]) -> bool
-    ensures { result ≡ is_lab_for parts.now (machine_of machines.now first node) }
-{
-    match machine_of(machines, first, node) {
-        Some(machine) => researches(&machine.kind, parts),
-        None => false,
-    }
-}
-
-// The labs among these that research what takes these parts.
-fn labs_for(
-    alloc: Global,
-    machines: &[Machine],
-    first: u32,
-    labs: &[NodeId],
-    parts: &[(GoodId, Ratio)],
-) -> Result<Vec<NodeId>, NoMemory>
-    ensures { IfOk result (λ nodes. nodes.items ≡ filter (λ n. is_lab_for parts.now (machine_of machines.now first n)) labs.now) }
-{
-    let mut nodes = Vec::new(alloc);
-    for lab in labs {
-        if is_lab_for(machines, first, *lab, parts) {
-            nodes.push(*lab)?;
-        }
-    }
-    Ok(nodes)
-}
-
 // The labs that research a technology.
+#[tactic(auto, unfolding(crate::specs::Doing::labs))]
 fn labs(alloc: Global, game: &Game, index: &Index, tech: &Tech) -> Result<Vec<NodeId>, NoMemory>
     requires sound { IsSound game.now }
     requires index { IsIndex game.now index.now }
+    requires tech { IsSoundTech game.now tech.now }
     ensures { IfOk result (λ nodes. nodes.items ≡ labs game.now tech.now) }
 {
-    let first = first_machine(game);
-    let machines = game.machines.as_slice();
-    let all = index.labs.as_slice();
-    let nodes = labs_for(alloc, machines, first, all, tech.ingredients.as_slice())?;
-    Ok(nodes)
+    let _game = game;
+    let goods = goods_of_parts(alloc, tech.ingredients.as_slice())?;
+    if goods.is_empty() {
+        Ok(Vec::from_slice(alloc, index.labs.as_slice())?)
+    } else {
+        let nodes = in_all(alloc, index.takers.as_slice(), goods.as_slice())?;
+        Ok(nodes)
+    }
 }
 
 /// The row of a technology.
