@@ -13,10 +13,10 @@ use Rattle.game_types.specs.declared.machinery.MachineKind.{MachineKind}
 use Rattle.game_types.specs.declared.machinery.MachineKind.TheVariants.{Crafter, Drill, Pump, Boiler, Generator, BurnerGenerator, Solar, Reactor, Lab, Beacon}
 use Rattle.depend_rows.specs.Members.{node, those}
 use Rattle.depend_rows.specs.Doing.{names_good, researches}
-use Rattle.depend_rows.specs.Kinds.{is_lab, takes}
+use Rattle.depend_rows.specs.Kinds.{takes}
 use Rattle.depend_rows.specs.Lists.{has_node, is_in_all, list_at, AreCommon, AreLists, Rise}
 use Rattle.depend_rows.proofs.NumbersLemmas.{Rising, rising_above}
-use Rattle.depend_rows.proofs.OrderLemmas.{in_order_those, numbers_of, those_rise, those_rising, those_same}
+use Rattle.depend_rows.proofs.OrderLemmas.{in_order_those, numbers_of, those_rise, those_rising}
 
 -- ---- the numbers of those that pass a test
 -- the thing of a number
@@ -90,21 +90,3 @@ common_labs lists first count machines parts goods nodes are is some below commo
     ∙ ap (list_all (λ good. passes (λ (machine : Machine). takes machine.kind good) (thing_at machines first k))) is
     ∙ all_take parts (subst (λ l. 0 < length l) is some) (thing_at machines first k)
     ∙ sym (has_those (λ (machine : Machine). researches machine.kind parts) k machines first))
-
--- what has no ingredients is researched by all labs
-every_lab : (kind : MachineKind) → is_lab kind ≡ researches kind []
-every_lab (Lab inputs speed) = refl
-every_lab (Crafter speed categories fixed) = refl
-every_lab (Drill speed categories fluid_box) = refl
-every_lab (Pump fluid speed) = refl
-every_lab (Boiler input output temperature) = refl
-every_lab (Generator input effectivity per_tick max_temperature burns output) = refl
-every_lab (BurnerGenerator output) = refl
-every_lab (Solar production) = refl
-every_lab Reactor = refl
-every_lab (Beacon effectivity) = refl
-
-pub labs_of_none : (first : ℕ) (machines : List Machine) → (parts : List (GoodId × Fraction)) (goods : List ℕ) (nodes : List NodeId) → goods ≡ map (λ part. part.0.0) parts → length goods ≡ 0
-    → nodes ≡ those (λ machine. is_lab machine.kind) first machines → nodes ≡ those (λ machine. researches machine.kind parts) first machines
-labs_of_none first machines [] goods nodes is none all = all ∙ those_same (λ (machine : Machine). is_lab machine.kind) (λ (machine : Machine). researches machine.kind []) (λ machine. every_lab machine.kind) machines first
-labs_of_none first machines (part ∷ parts) goods nodes is none all = absurd (let long = ap length is in omega (arith, none, long))
