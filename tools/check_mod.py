@@ -174,48 +174,74 @@ def reason(thing, groups):
     return None
 
 
-def causes_of(thing, groups):
-    """The ends of all ways that lead from what a thing waits for to what waits for nothing, the nearest first; and
-    all that was met on the way."""
-    met, causes = [thing], []
-    seen = {thing}
+def ends_of(thing, groups):
+    """What waits for nothing on the ways from a thing, the nearest first, each with its reason."""
+    met, seen = [thing], {thing}
     for one in met:
-        why = reason(one, groups.get(one, []))
-        if why is not None:
-            causes.append((one, why))
         for _, members in groups.get(one, []):
             for member in members:
                 if member not in seen:
                     seen.add(member)
                     met.append(member)
-    return causes, met
+    reasons = ((one, reason(one, groups.get(one, []))) for one in met)
+    return ["%s: %s" % (one, why) for one, why in reasons if why is not None]
 
 
-def describe(thing, groups, show):
+def is_met(group, left):
+    word, members = group
+    return all(m not in left for m in members) if word == "all" else any(m not in left for m in members)
+
+
+def rings_of(groups):
+    """For each thing that would still not be reached if all ends were granted: the ring of things that wait for each
+    other to which it leads."""
+    left = {thing for thing in groups if reason(thing, groups[thing]) is None}
+    while True:
+        now = {thing for thing in left if all(is_met(group, left) for group in groups[thing])}
+        if not now:
+            break
+        left -= now
+    after = {thing: next(m for group in groups[thing] if not is_met(group, left) for m in group[1] if m in left)
+             for thing in left}
+    rings = {}
+    for thing in left:
+        way = [thing]
+        while after[way[-1]] not in way:
+            way.append(after[way[-1]])
+        ring = way[way.index(after[way[-1]]):]
+        first = ring.index(min(ring))
+        rings[thing] = ring[first:] + ring[:first]
+    return rings
+
+
+def causes_of(thing, groups, rings):
+    """Each thing that is in the way at the end, and the ring of things that wait for each other, if there is one."""
+    causes = ends_of(thing, groups)
+    if thing in rings:
+        ring = rings[thing]
+        causes.append("these wait for each other: %s%s" % (", ".join(ring[:8]), " .." if len(ring) > 8 else ""))
+    return causes
+
+
+def describe(thing, groups, causes, show):
     lines = [thing + " is not reached"]
     for word, members in groups[thing]:
         if members:
             more = ", and %d more" % (len(members) - 8) if len(members) > 8 else ""
             lines.append("    waits for %s: %s%s" % ({"all": "all of", "any": "one of"}[word], ", ".join(members[:8]), more))
-    causes, met = causes_of(thing, groups)
-    for cause, why in causes[:show]:
-        lines.append("    in the way: %s: %s" % (cause, why))
+    lines.extend("    in the way: " + cause for cause in causes[:show])
     if len(causes) > show:
         lines.append("    and %d more in the way" % (len(causes) - show))
-    if not causes:
-        more = " .." if len(met) > 8 else ""
-        lines.append("    in the way: these wait for each other: %s%s" % (", ".join(met[:8]), more))
     return "\n".join(lines)
 
 
-def count_causes(things, groups):
-    """A line for each cause, and for how many of the things it is one, the most first."""
+def count_causes(causes):
+    """A line for each cause, and in the way of how many of the things it is, the most first."""
     counts = {}
-    for thing in things:
-        for cause in causes_of(thing, groups)[0]:
-            counts[cause] = counts.get(cause, 0) + 1
+    for cause in (cause for of in causes.values() for cause in of):
+        counts[cause] = counts.get(cause, 0) + 1
     ordered = sorted(counts.items(), key=lambda pair: (-pair[1], pair[0]))
-    return ["in the way of %d: %s: %s" % (count, cause, why) for (cause, why), count in ordered]
+    return ["in the way of %d: %s" % (count, cause) for cause, count in ordered]
 
 
 def main():
@@ -264,10 +290,12 @@ def main():
     for thing in sorted(expected & set(judged) - set(unreached)):
         print("%s is reached, and need not stand in %s any more" % (thing, options.expect))
     wrong = [t for t in unreached if t not in expected]
+    rings = rings_of(groups)
+    causes = {thing: causes_of(thing, groups, rings) for thing in wrong}
     for thing in wrong:
-        print(describe(thing, groups, options.show))
+        print(describe(thing, groups, causes[thing], options.show))
     if len(wrong) > 1:
-        for line in count_causes(wrong, groups):
+        for line in count_causes(causes):
             print(line)
     print("%d of %d reached, %d expected not to be, %d in question"
           % (len(judged) - len(unreached), len(judged), len(unreached) - len(wrong), len(wrong)))
