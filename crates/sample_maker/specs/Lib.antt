@@ -1,3 +1,4 @@
 pub mod Draws
 pub mod Dump
 pub mod Script
+pub mod Texts

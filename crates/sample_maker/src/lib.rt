@@ -5,10 +5,8 @@ mod draws;
 mod recipes;
 mod script;
 
-ghost use Rattle.std.specs.Prelude.{◌≡◌, ◌*◌, ◌%◌, ◌^◌, ◌<◌, ◌≤◌, IfOk};
-ghost use Rattle.sample_maker.specs.Draws.{after};
-ghost use Rattle.sample_maker.specs.Dump.{dump_text};
-ghost use Rattle.sample_maker.specs.Script.{script_text};
+ghost use Rattle.std.specs.Prelude.{◌≡◌, ◌<◌, ◌≤◌, IfOk};
+ghost use Rattle.sample_maker.specs.Texts.{sample_dump, sample_script};
 
 use crate::draws::Draws;
 use plan_base::{NoMemory, Text};
@@ -31,8 +29,8 @@ pub struct Sample {
 pub fn make_sample(alloc: Global, number: u32, size: u32) -> Result<Sample, NoMemory>
     requires some { 0 < size }
     requires few { size ≤ 20000 }
-    ensures dump { IfOk result (λ sample. sample.dump ≡ dump_text (number % 2 ^ 31) size) }
-    ensures script { IfOk result (λ sample. sample.script ≡ script_text (after (3 * size) (number % 2 ^ 31)) size) }
+    ensures dump { IfOk result (λ sample. sample.dump ≡ sample_dump number size) }
+    ensures script { IfOk result (λ sample. sample.script ≡ sample_script number size) }
 {
     let mut draws = Draws::from_number(number);
     let dump = recipes::dump_text(alloc, &mut draws, size)?;

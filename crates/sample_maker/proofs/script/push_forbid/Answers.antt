@@ -1,7 +1,6 @@
 use Rattle.sample_maker.specs.Script.{forbid}
 use Rattle.sample_maker.proofs.script.push_forbid.Goals as goal
 
--- src/script.rt:44:1
 pub returns : goal.returns
 unfolding forbid
 returns c = rw (← c.summary-summary.ensures) c.write.ensures.bytes
