@@ -1,5 +1,6 @@
 //! Energies beside values that were computed elsewhere.
-use super::*;
+use energy_units::{EnergyFault, read_energy, read_power};
+use fractions::Ratio;
 use plan_base::Text;
 use std::test::Fail;
 

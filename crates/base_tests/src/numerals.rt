@@ -1,5 +1,5 @@
 //! Numerals beside values that were computed elsewhere.
-use super::*;
+use fractions::{NumeralFault, Ratio, read_numeral, read_ratio};
 use plan_base::Text;
 use std::test::Fail;
 

@@ -1,4 +1,5 @@
-use super::*;
+//! Lists, texts, nodes and steps.
+use plan_base::{Items, Kind, NoMemory, NodeId, Shape, Steps, Text, text_of};
 use std::alloc::Global;
 use std::process::Abort;
 use std::test::Fail;

@@ -1,4 +1,5 @@
-use super::*;
+//! Names by their places.
+use name_table::Names;
 use std::process::Abort;
 use std::test::Fail;
 
