@@ -197,6 +197,3 @@ pub fn read_power(text: &[u8]) -> Result<Ratio, EnergyFault>
 {
     read(text, Measure::Watts)
 }
-
-#[cfg(test)]
-mod tests;

@@ -259,6 +259,3 @@ pub fn read_ratio(text: &[u8]) -> Result<Ratio, NumeralFault>
         None => read_numeral(text),
     }
 }
-
-#[cfg(test)]
-mod tests;

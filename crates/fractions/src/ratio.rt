@@ -8,6 +8,7 @@ ghost use Rattle.std.specs.Str.Parse.{AllDigits, digits_value};
 ghost use Rattle.fractions.specs.Gcd.{gcd};
 ghost use Rattle.std.specs.Ordering.{nat_cmp, MatchOrdering};
 ghost use Rattle.fractions.specs.Fraction.{frac, ◌*ʳ◌, ◌+ʳ◌, ◌-ʳ◌, ◌/ʳ◌, ◌<ʳ◌, ◌≤ʳ◌, whole_fraction, negated, inverse, zero_fraction, one_fraction};
+ghost use Rattle.fractions.specs.Compare.{are_same};
 ghost use Rattle.fractions.specs.Limits.{IsNarrow, SumFits, DifferenceFits, IsBelow};
 ghost use Rattle.fractions.specs.Print.{printed};
 ghost use Rattle.fractions.specs.Stored.{IsStored};
@@ -52,6 +53,34 @@ impl Model for Ratio {
     ghost inverse = { λ x. record { numerator = x.num; denominator = x.den } };
 
     ghost inverse_ok = { λ r h. stored_back r.numerator r.denominator h (λ n d. record { numerator = n; denominator = d }) };
+}
+
+impl PartialEq for Ratio {
+    ghost use Rattle.fractions.specs.Compare.{are_same, same_laws};
+
+    ghost eq = { are_same };
+
+    ghost laws = { same_laws };
+
+    fn eq(&self, other: &Ratio) -> bool
+        ensures eq { result ≡ are_same self.now other.now }
+        ensures same { IsTrue result ↔ (self.now ≡ other.now) }
+    {
+        self.has_parts_of(other)
+    }
+}
+
+impl PartialOrd for Ratio {
+    ghost use Rattle.fractions.specs.Compare.{partly_compared, order_laws};
+
+    ghost partial_cmp = { partly_compared };
+
+    ghost laws = { order_laws };
+
+    #[tactic(auto, using(crate::specs::Compare::cmp_is))]
+    fn partial_cmp(&self, other: &Ratio) -> Option<Ordering> {
+        Some(self.cmp(other))
+    }
 }
 
 impl Ratio {
@@ -138,10 +167,26 @@ impl Ratio {
         reduced(n as i128, d.unsigned_abs() as u128)
     }
 
+    // Whether both parts are the same.
+    fn has_parts_of(&self, other: &Ratio) -> bool
+        ensures { IsTrue result ↔ (self.now ≡ other.now) }
+    {
+        if self.natural_denominator() != other.natural_denominator() {
+            return false;
+        }
+        self.numerator() == other.numerator()
+    }
+
     pub fn is_neg(&self) -> bool
         ensures { IsTrue result ↔ (self.now <ʳ zero_fraction) }
     {
         self.numerator() < 0
+    }
+
+    pub fn is_positive(&self) -> bool
+        ensures { IsTrue result ↔ (zero_fraction <ʳ self.now) }
+    {
+        self.numerator() > 0
     }
 
     pub fn is_zero(&self) -> bool
@@ -340,93 +385,4 @@ pub fn reduced(top: i128, bottom: u128) -> Ratio
 {
     let common = greatest_common_divisor(top.unsigned_abs(), bottom);
     Ratio::stored(divided(top, common), bottom / common)
-}
-
-#[cfg(test)]
-mod tests {
-    use super::*;
-    use crate::read_ratio;
-    use std::test::Fail;
-
-    // Each line has a call, two fractions, and what Python's fractions give.
-    const RESULTS: &str = "\
-add 1/3 -1/6 1/6\n\
-add 1/999999999999999989 1/999999999999999967 1999999999999999956/999999999999999956000000000000000363\n\
-add -7/2 7/2 0\n\
-add 5/6 1/10 14/15\n\
-sub 1/3 1/3 0\n\
-sub 0 7/9 -7/9\n\
-sub 1/1000000007 -3/1000000009 4000000030/1000000016000000063\n\
-mul -2/3 3/4 -1/2\n\
-mul 999999999999999999/2 2/333333333333333333 3\n\
-mul 0 -5/7 0\n\
-mul 999999999999999989/1 999999999999999967/7 999999999999999956000000000000000363/7\n\
-div 1/3 -2/9 -3/2\n\
-div -5 1/999999999999999999 -4999999999999999995\n\
-div 0 3 0\n\
-cmp 1/3 1/2 -1\n\
-cmp -1/2 -1/3 -1\n\
-cmp 2/4 1/2 0\n\
-cmp -1 0 -1\n\
-cmp 999999999999999998/999999999999999999 999999999999999997/999999999999999998 1\n\
-cmp -1/999999999999999999 -1/999999999999999998 1\n\
-cmp 5 4/999999999999999999 1";
-
-    fn fraction(text: &str) -> Ratio {
-        read_ratio(text.as_bytes()).unwrap_or(Ratio::zero())
-    }
-
-    fn shown(rt: &HostRuntime, outcome: Result<Ratio, Wide>) -> Result<Text, Fail> {
-        match outcome {
-            Ok(value) => Ok(value.print(rt.alloc())?),
-            Err(Wide) => Ok(Text::copy(rt.alloc(), "wide")?),
-        }
-    }
-
-    #[test]
-    fn results_are_exact(rt: HostRuntime) -> Result<(), Fail> {
-        for line in RESULTS.lines() {
-            let words: Vec<&str> = line.split(' ').collect(rt.alloc())?;
-            if words.len() != 4 {
-                panic!(rt; "four words");
-            }
-            let first = fraction(words[1]);
-            let second = fraction(words[2]);
-            let got = match words[0] {
-                "add" => shown(&rt, first.add(&second))?,
-                "sub" => shown(&rt, first.sub(&second))?,
-                "mul" => shown(&rt, first.mul(&second))?,
-                "cmp" => match first.cmp(&second) {
-                    Ordering::Less => Text::copy(rt.alloc(), "-1")?,
-                    Ordering::Equal => Text::copy(rt.alloc(), "0")?,
-                    Ordering::Greater => Text::copy(rt.alloc(), "1")?,
-                },
-                _ => {
-                    if second.is_zero() {
-                        panic!(rt; "zero");
-                    }
-                    shown(&rt, first.div(&second))?
-                }
-            };
-            assert_eq!(rt; got.as_str(), words[3]);
-        }
-        Ok(())
-    }
-
-    #[test]
-    fn wide_and_whole(rt: HostRuntime) -> Result<(), Fail> {
-        let large = fraction("999999999999999999/1");
-        let Ok(square) = large.mul(&large) else {
-            panic!(rt; "wide");
-        };
-        assert_eq!(rt; shown(&rt, square.mul(&large))?.as_str(), "wide");
-        assert_eq!(rt;
-            shown(&rt, Ratio::sub_mul(&large, &large, &Ratio::one()))?.as_str(),
-            "0"
-        );
-        assert_eq!(rt; Ratio::part(-7, 2).ceil().print(rt.alloc())?.as_str(), "-3");
-        assert_eq!(rt; Ratio::part(7, 2).ceil().print(rt.alloc())?.as_str(), "4");
-        assert!(rt; Ratio::part(-2, 12).is_neg());
-        Ok(())
-    }
 }

@@ -1,9 +1,6 @@
 //! Names and their numbers, in the order in which they were first seen.
 #![tactic(auto)]
 
-#[cfg(test)]
-mod tests;
-
 ghost use Rattle.std.specs.Prelude.{◌≡◌, ◌+◌, ◌<◌, ◌≤◌, ◌∷◌, ◌++◌, [], None, Some, Err, IfOk, OnErr, IfSome, IfNone, length, map, slice_get, string_bytes};
 ghost use Rattle.indexmap.specs.IndexSet.{index_set_len};
 ghost use Rattle.name_table.specs.Names.{AreDifferent, place_of, with_name};

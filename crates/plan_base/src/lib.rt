@@ -6,8 +6,6 @@ mod ids;
 mod items;
 mod shape;
 mod steps;
-#[cfg(test)]
-mod tests;
 mod text;
 
 pub use ids::{EntityId, GoodId, NodeId, RecipeId, SourceId, TableId, TechId, World};

@@ -1,0 +1,17 @@
+//! Tests of the small crates: lists, names, fractions, energies, the queue of nodes and the check of plans.
+#![tactic(auto)]
+
+#[cfg(test)]
+mod certificates;
+#[cfg(test)]
+mod energies;
+#[cfg(test)]
+mod fractions_of_text;
+#[cfg(test)]
+mod lists;
+#[cfg(test)]
+mod names;
+#[cfg(test)]
+mod numerals;
+#[cfg(test)]
+mod queue;
