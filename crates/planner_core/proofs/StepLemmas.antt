@@ -1,0 +1,31 @@
+-- Steps of a planner, with a batch and without.
+use Rattle.std.proofs.Common.{◌≡◌, ℕ, false, true, List, [], ◌∷◌, Option, None, Some, Result, IfOk, refl, sym, subst}
+use Rattle.std.specs.List.{list_all}
+use Rattle.script_reader.specs.declared.change.Change.{Change}
+use Rattle.script_reader.specs.declared.command.Command.{Command}
+use Rattle.plan_report.specs.declared.Reply.{Reply}
+use Rattle.planning_state.specs.Actions.{can_be_held}
+use Rattle.planning_state.specs.Effects.{is_entry}
+use Rattle.planner_core.specs.Lines.{Held, IsFree, IsOpen, IsStep, IsStepIn, Planned, is_free}
+use Rattle.planning_state.proofs.WhyLemma.{whys}
+
+pub free-steps : {E : Type 0} (result : Result Reply E) (line : ℕ) (p : Planned) (asked : Command) (r : Planned) → p.batch ≡ None → IfOk result (λ answer. IsFree p asked r answer) → IfOk result (λ answer. IsStep line p asked r answer)
+unfolding IsStep
+free-steps result line p asked r none h = whys result (λ answer. IsFree p asked r answer) (λ answer. IsStepIn line p.batch p asked r answer) (λ answer f. subst (λ (b : Option (List Held)). IsStepIn line b p asked r answer) (sym none) f) h
+
+opened : (batch : Option (List Held)) → is_free batch ≡ false → (held : List Held) × (batch ≡ Some held)
+opened None h = absurd cc
+opened (Some held) h = (held, refl)
+
+pub open-steps : {E : Type 0} (result : Result Reply E) (line : ℕ) (p : Planned) (asked : Command) (r : Planned) → is_free p.batch ≡ false → IfOk result (λ answer. (held : List Held) → p.batch ≡ Some held → IsOpen line p held asked r answer) → IfOk result (λ answer. IsStep line p asked r answer)
+unfolding IsStep
+open-steps result line p asked r is h =
+    let found : (held : List Held) × (p.batch ≡ Some held) = opened p.batch is in
+    whys result (λ answer. (held : List Held) → p.batch ≡ Some held → IsOpen line p held asked r answer) (λ answer. IsStepIn line p.batch p asked r answer)
+    (λ answer f. subst (λ (b : Option (List Held)). IsStepIn line b p asked r answer) (sym found.1) (f found.0 found.1)) h
+
+-- what a batch holds is an entry
+pub held-entry : (edits : List Change) → list_all can_be_held edits ≡ true → is_entry edits ≡ true
+held-entry [] held = refl
+held-entry (change ∷ []) held = refl
+held-entry (change ∷ next ∷ edits) held = held

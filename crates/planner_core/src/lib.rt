@@ -1,0 +1,11 @@
+//! The planner: a planning state with its history and an open batch, and what each line of a script does to it and is
+//! answered.
+#![tactic(auto)]
+
+mod laws;
+mod planner;
+mod questions;
+
+pub use laws::state_is_of_the_active_edits;
+pub use planner::{BATCH_LIMIT, Planner};
+pub use planning_state::LoadFault;

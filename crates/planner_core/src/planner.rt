@@ -1,0 +1,377 @@
+//! The planner: what each line of a script does, and its reply.
+ghost use Rattle.std.specs.Prelude.{◌≡◌, ℕ, ◌+◌, ◌*◌, ◌<◌, ◌≤◌, ◌∷◌, ◌++◌, [], List, None, Some, false, true, MatchResult, IfOk, OnErr, length, nat_lt, option_map, vec_capacity, vec_len};
+ghost use Rattle.plan_base.specs.Shape.{node_count};
+ghost use Rattle.graph_store.specs.Rows.{member_count};
+ghost use Rattle.game_types.specs.Nodes.{shape_of};
+ghost use Rattle.game_types.specs.Sound.{IsSound};
+ghost use Rattle.depend_rows.specs.Rows.{rows_of};
+ghost use Rattle.depend_rows.specs.declared.rows.TheConstants.{MEMBER_LIMIT};
+ghost use Rattle.planning_state.specs.States.{State};
+ghost use Rattle.edit_undo.specs.Session.{last_of, redo_of, undo_of};
+ghost use Rattle.edit_undo.specs.Kept.{session_of};
+ghost use Rattle.script_reader.specs.declared.command.Command.TheVariants as CommandLine;
+ghost use Rattle.planning_state.specs.Actions.{can_be_held};
+ghost use Rattle.planner_core.specs.Replies.{done_reply, held_reply, refused_as};
+ghost use Rattle.std.specs.List.{list_all};
+ghost use Rattle.planner_core.specs.Lines.{changes_of, entry_work, first_planned, is_free, is_refused, line_at, line_work, Does, Ends, Held as HeldChange, HoldsChange, IsFree, IsOpen, IsSessionOf, IsStep, Moves};
+
+use crate::questions::{
+    list_reply, mask_reply, milestones_reply, missing_reply, no_table, reach_reply, refused,
+    refused_as, summary_reply, why_reply,
+};
+use edit_undo::{DoFault, History};
+use game_types::Game;
+use plan_base::{NoMemory, Steps};
+use plan_report::{RefusalCode, Reply};
+use planning_state::{LoadFault, Planning, Undo, can_be_held};
+use script_reader::{Change, Command};
+use std::alloc::Global;
+use std::marker::Model;
+
+/// The most changes that a batch holds.
+pub const BATCH_LIMIT: usize = 1_024;
+
+/// A planning state with its history, an open batch where there is one, and whether it is quiet.
+#[derive(Drop)]
+pub struct Planner {
+    alloc: Global,
+    planning: Planning,
+    history: History<Change, Undo>,
+    batch: Option<Vec<(u32, Change)>>,
+    quiet: bool,
+}
+
+impl Model for Planner {
+    ghost use Rattle.std.specs.Prelude.{option_map};
+    ghost use Rattle.planner_core.specs.Lines.{Planned, planned};
+
+    ghost Value = { Planned };
+
+    ghost use Rattle.planner_core.specs.Batches.{IsBatch};
+
+    ghost view = { λ p. planned p.planning p.history (option_map (λ held. held.items) p.batch) p.quiet };
+
+    ghost invariant = { λ p. IsBatch (option_map (λ held. held.items) p.batch) };
+}
+
+impl Planner {
+    /// The planner of a game, with no marks, no milestones and nothing done.
+    ///
+    /// # Errors
+    ///
+    /// `Members` exactly where the rows have more than 4,194,304 members; `NoMemory` where memory could not be had.
+    pub fn load<L>(alloc: Global, game: Game, steps: &mut Steps<L>) -> Result<Planner, LoadFault>
+        requires { IsSound game }
+        ensures planner { MatchResult result
+            (λ planner. (planner ≡ first_planned game) × (member_count (rows_of game) ≤ MEMBER_LIMIT))
+            (λ fault. fault ≡ LoadFault.Members → MEMBER_LIMIT < member_count (rows_of game)) }
+        ensures steps { IfOk result (λ _. steps.new ≤ steps.old + node_count (shape_of game) + 4 * (node_count (shape_of game) + member_count (rows_of game))) }
+        ensures later { steps.old ≤ steps.new }
+    {
+        match Planning::make(alloc, game, steps) {
+            Ok(planning) => Ok(Planner {
+                alloc,
+                planning,
+                history: History::make(alloc),
+                batch: None,
+                quiet: false,
+            }),
+            Err(fault) => Err(fault),
+        }
+    }
+
+    // Does a change as an entry by itself.
+    fn do_one<L>(&mut self, change: Change, steps: &mut Steps<L>) -> Result<Reply, NoMemory>
+        requires free { self.old.batch ≡ None }
+        ensures reply { IfOk result (λ answer. Does self.old change self.new answer) }
+        ensures history { (base : State) → IsSessionOf base self.old → IsSessionOf base self.new }
+        ensures err { OnErr result (self.new ≡ self.old) }
+        ensures work { IfOk result (λ answer. steps.new ≤ steps.old + entry_work (is_refused answer) self.old.state (change ∷ []) self.new.state) }
+        ensures later { steps.old ≤ steps.new }
+    {
+        let edits = one(self.alloc, change)?;
+        match self.history.doit(&mut self.planning, edits, steps) {
+            Ok(()) => Ok(done_reply(self.quiet)),
+            Err(DoFault::Refused(_, refusal)) => Ok(refused(refusal, None)),
+            Err(_) => Err(NoMemory),
+        }
+    }
+
+    // Takes the last entry that is done back.
+    fn undo<L>(&mut self, steps: &mut Steps<L>) -> Result<Reply, NoMemory>
+        requires { (base : State) × IsSessionOf base self.old }
+        ensures reply { IfOk result (λ answer. Moves (session_of self.old.kept).done RefusalCode.H1 (undo_of (session_of self.old.kept)) self.old self.new answer) }
+        ensures history { (base : State) → IsSessionOf base self.old → IsSessionOf base self.new }
+        ensures err { OnErr result (self.new ≡ self.old) }
+        ensures work { IfOk result (λ answer. steps.new ≤ steps.old + entry_work (is_refused answer) self.old.state (last_of (session_of self.old.kept).done) self.new.state) }
+        ensures later { steps.old ≤ steps.new }
+    {
+        match self.history.undo(&mut self.planning, steps) {
+            Ok(()) => Ok(done_reply(self.quiet)),
+            Err(DoFault::NothingToUndo) => Ok(refused_as(RefusalCode::H1)),
+            Err(_) => Err(NoMemory),
+        }
+    }
+
+    // Does the last entry that is undone again.
+    fn redo<L>(&mut self, steps: &mut Steps<L>) -> Result<Reply, NoMemory>
+        requires { (base : State) × IsSessionOf base self.old }
+        ensures reply { IfOk result (λ answer. Moves (session_of self.old.kept).undone RefusalCode.H2 (redo_of (session_of self.old.kept)) self.old self.new answer) }
+        ensures history { (base : State) → IsSessionOf base self.old → IsSessionOf base self.new }
+        ensures err { OnErr result (self.new ≡ self.old) }
+        ensures work { IfOk result (λ answer. steps.new ≤ steps.old + entry_work (is_refused answer) self.old.state (last_of (session_of self.old.kept).undone) self.new.state) }
+        ensures later { steps.old ≤ steps.new }
+    {
+        match self.history.redo(&mut self.planning, steps) {
+            Ok(()) => Ok(done_reply(self.quiet)),
+            Err(DoFault::NothingToRedo) => Ok(refused_as(RefusalCode::H2)),
+            Err(_) => Err(NoMemory),
+        }
+    }
+
+    // A line where no batch is open.
+    fn step_free<L>(&mut self, command: Command, steps: &mut Steps<L>) -> Result<Reply, NoMemory>
+        requires free { self.old.batch ≡ None }
+        requires history { (base : State) × IsSessionOf base self.old }
+        ensures reply { IfOk result (λ answer. IsFree self.old command self.new answer) }
+        ensures history { (base : State) → IsSessionOf base self.old → IsSessionOf base self.new }
+        ensures err { OnErr result (self.new ≡ self.old) }
+        ensures work { IfOk result (λ answer. steps.new ≤ steps.old + line_work command self.old self.new answer) }
+        ensures later { steps.old ≤ steps.new }
+    {
+        match command {
+            Command::Reach(object) => reach_reply(self.alloc, &self.planning, &object),
+            Command::Why(object) => why_reply(self.alloc, &self.planning, &object, steps),
+            Command::Missing(object) => missing_reply(self.alloc, &self.planning, &object, steps),
+            Command::Mask(object) => mask_reply(self.alloc, &self.planning, &object),
+            Command::List(kind) => list_reply(self.alloc, &self.planning, kind),
+            Command::Milestones => milestones_reply(self.alloc, &self.planning),
+            Command::Rate { table, .. } => Ok(no_table(table)),
+            Command::Solve { table, .. } => Ok(no_table(table)),
+            Command::Quiet(on) => {
+                self.quiet = on;
+                Ok(Reply::Nothing)
+            }
+            Command::Undo => self.undo(steps),
+            Command::Redo => self.redo(steps),
+            Command::Batch => {
+                self.batch = Some(Vec::new(self.alloc));
+                Ok(done_reply(self.quiet))
+            }
+            Command::End => Ok(refused_as(RefusalCode::H4)),
+            Command::Cancel => Ok(refused_as(RefusalCode::H4)),
+            Command::Change(change) => self.do_one(change, steps),
+            Command::Summary => Ok(summary_reply(
+                &self.planning,
+                self.history.done(),
+                self.history.undone(),
+            )),
+        }
+    }
+
+    // Whether a batch is open.
+    fn is_open(&self) -> bool
+        ensures free { result ≡ false → self.now.batch ≡ None }
+        ensures open_ { result ≡ true → is_free self.now.batch ≡ false }
+    {
+        self.batch.is_some()
+    }
+
+    // Holds a change in the open batch.
+    fn hold(&mut self, line: u32, change: Change) -> Result<Reply, NoMemory>
+        ensures reply { IfOk result (λ answer. (held : List HeldChange) → self.old.batch ≡ Some held → HoldsChange line self.old held change (can_be_held change) self.new answer) }
+        ensures state { (self.new.state ≡ self.old.state) × (self.new.kept ≡ self.old.kept) }
+        ensures err { OnErr result (self.new ≡ self.old) }
+    {
+        if !can_be_held(&change) {
+            return Ok(refused_as(RefusalCode::H3));
+        }
+        let alloc = self.alloc;
+        let quiet = self.quiet;
+        let Some(held) = &mut self.batch else {
+            return Err(NoMemory);
+        };
+        hold_in(alloc, held, line, change, quiet)
+    }
+
+    // Closes the batch, and does what it holds as one entry.
+    fn end<L>(&mut self, steps: &mut Steps<L>) -> Result<Reply, NoMemory>
+        ensures reply { IfOk result (λ answer. (held : List HeldChange) → self.old.batch ≡ Some held → Ends self.old held self.new answer) }
+        ensures history { (base : State) → IsSessionOf base self.old → IsSessionOf base self.new }
+        ensures err { OnErr result (self.new ≡ self.old) }
+        ensures work { IfOk result (λ answer. steps.new ≤ steps.old + line_work CommandLine.End self.old self.new answer) }
+        ensures later { steps.old ≤ steps.new }
+    {
+        let Some(held) = &self.batch else {
+            return Err(NoMemory);
+        };
+        let edits = copies(self.alloc, held.as_slice())?;
+        if edits.is_empty() {
+            self.batch = None;
+            return Ok(done_reply(self.quiet));
+        }
+        match self.history.doit(&mut self.planning, edits, steps) {
+            Ok(()) => {
+                self.batch = None;
+                Ok(done_reply(self.quiet))
+            }
+            Err(DoFault::Refused(place, refusal)) => {
+                let at = line_at(held.as_slice(), place);
+                let answer = refused(refusal, at);
+                self.batch = None;
+                Ok(answer)
+            }
+            Err(_) => Err(NoMemory),
+        }
+    }
+
+    // A line where a batch is open.
+    fn step_open<L>(
+        &mut self,
+        line: u32,
+        command: Command,
+        steps: &mut Steps<L>,
+    ) -> Result<Reply, NoMemory>
+        requires { is_free self.old.batch ≡ false }
+        ensures reply { IfOk result (λ answer. (held : List HeldChange) → self.old.batch ≡ Some held → IsOpen line self.old held command self.new answer) }
+        ensures history { (base : State) → IsSessionOf base self.old → IsSessionOf base self.new }
+        ensures err { OnErr result (self.new ≡ self.old) }
+        ensures work { IfOk result (λ answer. steps.new ≤ steps.old + line_work command self.old self.new answer) }
+        ensures later { steps.old ≤ steps.new }
+    {
+        match command {
+            Command::Quiet(on) => {
+                self.quiet = on;
+                Ok(Reply::Nothing)
+            }
+            Command::End => self.end(steps),
+            Command::Cancel => {
+                self.batch = None;
+                Ok(done_reply(self.quiet))
+            }
+            Command::Change(change) => self.hold(line, change),
+            Command::Reach(_) => Ok(refused_as(RefusalCode::H3)),
+            Command::Why(_) => Ok(refused_as(RefusalCode::H3)),
+            Command::Missing(_) => Ok(refused_as(RefusalCode::H3)),
+            Command::Mask(_) => Ok(refused_as(RefusalCode::H3)),
+            Command::List(_) => Ok(refused_as(RefusalCode::H3)),
+            Command::Milestones => Ok(refused_as(RefusalCode::H3)),
+            Command::Summary => Ok(refused_as(RefusalCode::H3)),
+            Command::Rate { .. } => Ok(refused_as(RefusalCode::H3)),
+            Command::Solve { .. } => Ok(refused_as(RefusalCode::H3)),
+            Command::Undo => Ok(refused_as(RefusalCode::H3)),
+            Command::Redo => Ok(refused_as(RefusalCode::H3)),
+            Command::Batch => Ok(refused_as(RefusalCode::H3)),
+        }
+    }
+
+    /// Carries a line's command out, and answers its reply.
+    ///
+    /// A refused line leaves all but a batch that it ends. What a change needs is had before anything changes.
+    ///
+    /// # Errors
+    ///
+    /// `NoMemory` where memory could not be had. Then all is as before.
+    pub fn step<L>(
+        &mut self,
+        line: u32,
+        command: Command,
+        steps: &mut Steps<L>,
+    ) -> Result<Reply, NoMemory>
+        requires { (base : State) × IsSessionOf base self.old }
+        ensures reply { IfOk result (λ answer. IsStep line self.old command self.new answer) }
+        ensures history { (base : State) → IsSessionOf base self.old → IsSessionOf base self.new }
+        ensures err { OnErr result (self.new ≡ self.old) }
+        ensures work { IfOk result (λ answer. steps.new ≤ steps.old + line_work command self.old self.new answer) }
+        ensures later { steps.old ≤ steps.new }
+    {
+        if self.is_open() {
+            self.step_open(line, command, steps)
+        } else {
+            self.step_free(command, steps)
+        }
+    }
+}
+
+// Puts an item into the room that was reserved for it.
+fn put<T: Drop>(list: &mut Vec<T>, item: T)
+    requires { vec_len list.old < vec_capacity list.old }
+    ensures { list.new.items ≡ list.old.items ++ item ∷ [] }
+{
+    match list.push(item) {
+        Ok(()) => {}
+        Err(_) => unreachable!(),
+    }
+}
+
+// A list of one change.
+fn one(alloc: Global, change: Change) -> Result<Vec<Change>, NoMemory>
+    ensures { IfOk result (λ edits. edits.items ≡ change ∷ []) }
+{
+    let mut edits = Vec::new(alloc);
+    edits.reserve(1)?;
+    put(&mut edits, change);
+    Ok(edits)
+}
+
+fn done_reply(quiet: bool) -> Reply
+    ensures { result ≡ done_reply quiet }
+{
+    if quiet { Reply::Nothing } else { Reply::Ok }
+}
+
+fn held_reply(quiet: bool) -> Reply
+    ensures { result ≡ held_reply quiet }
+{
+    if quiet { Reply::Nothing } else { Reply::Held }
+}
+
+// The line of a held change, where there is one.
+fn line_at(held: &[(u32, Change)], place: u32) -> Option<u32>
+    ensures { result ≡ line_at held.now place }
+{
+    match held.get(place as usize) {
+        Some(change) => Some(change.0),
+        None => None,
+    }
+}
+
+// Copies of the changes that are held.
+fn copies(alloc: Global, held: &[(u32, Change)]) -> Result<Vec<Change>, NoMemory>
+    ensures { IfOk result (λ edits. edits.items ≡ changes_of held.now) }
+{
+    let mut edits = Vec::new(alloc);
+    for change in held {
+        edits.reserve(1)?;
+        let copy = change.1.copy(alloc)?;
+        put(&mut edits, copy);
+    }
+    Ok(edits)
+}
+
+// One more change for a batch, where there is room.
+fn hold_in(
+    alloc: Global,
+    held: &mut Vec<(u32, Change)>,
+    line: u32,
+    change: Change,
+    quiet: bool,
+) -> Result<Reply, NoMemory>
+    requires held { list_all can_be_held (changes_of held.old.items) ≡ true }
+    requires few { length (changes_of held.old.items) ≤ 1_024 }
+    requires holdable { can_be_held change ≡ true }
+    ensures full { nat_lt (length held.old.items) 1_024 ≡ false → IfOk result (λ answer. (held.new.items ≡ held.old.items) × (answer ≡ refused_as RefusalCode.H5)) }
+    ensures room { nat_lt (length held.old.items) 1_024 ≡ true → IfOk result (λ answer. (held.new.items ≡ held.old.items ++ (line, change) ∷ []) × (answer ≡ held_reply quiet)) }
+    ensures held { list_all can_be_held (changes_of held.new.items) ≡ true }
+    ensures few { length (changes_of held.new.items) ≤ 1_024 }
+    ensures err { OnErr result (held.new.items ≡ held.old.items) }
+{
+    if held.len() >= BATCH_LIMIT {
+        return Ok(refused_as(RefusalCode::H5));
+    }
+    if held.reserve(1).is_err() {
+        return Err(NoMemory);
+    }
+    put(held, (line, change));
+    Ok(held_reply(quiet))
+}

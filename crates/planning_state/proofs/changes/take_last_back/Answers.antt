@@ -1,0 +1,9 @@
+use Rattle.std.proofs.Common.{◌∙◌, ap, sym}
+use Rattle.planning_state.specs.Undoing.{all_restored}
+use Rattle.planning_state.proofs.Changing.{restored-push}
+use Rattle.planning_state.proofs.changes.take_last_back.Goals as goal
+
+pub returns-in-Some-clause-book : goal.returns-in-Some-clause-book
+returns-in-Some-clause-book c =
+    ap (all_restored c.pop.new.self.items) c.take_one_back.ensures
+    ∙ (sym (restored-push c.pop.new.self.items c.in-Some.undo c.args.book.now) ∙ ap (λ us. all_restored us c.args.book.now) (sym c.in-Some.ensures.items))

@@ -1,0 +1,71 @@
+-- Books that changes lead from and to.
+use Rattle.std.specs.Prelude.{◌≡◌, ℕ, ◌<◌, Bool, false, true, List, Ok, Some, length, slice_get}
+use Rattle.std.specs.List.{list_all, list_any}
+use Rattle.plan_base.specs.declared.ids.NodeId.{NodeId}
+use Rattle.graph_store.specs.declared.Row.{Row}
+use Rattle.graph_store.specs.Rows.{has_node}
+use Rattle.game_types.specs.Nodes.{shape_of}
+use Rattle.data_edit.specs.declared.books.Book.{Book}
+use Rattle.data_edit.specs.declared.edits.Edit.{Edit}
+use Rattle.data_edit.specs.declared.parts.Inverse.{Inverse}
+use Rattle.data_edit.specs.Books.{IsSoundBook}
+use Rattle.data_edit.specs.Edits.{effect, restored}
+use Rattle.data_edit.specs.Names.{KeepsNames}
+use Rattle.depend_rows.specs.Rows.{row_of}
+use Rattle.depend_rows.specs.Touched.{touched_by, StaysAs}
+use Rattle.edit_undo.specs.Edits.{apply_edits}
+use Rattle.script_reader.specs.declared.change.Change.{Change}
+use Rattle.planning_state.specs.declared.undos.Undo.{Undo}
+use Rattle.planning_state.specs.declared.undos.Undo.TheVariants.{Part, Added, Taken}
+use Rattle.planning_state.specs.Actions.{edit_named}
+use Rattle.planning_state.specs.States.{state_of}
+use Rattle.planning_state.specs.Effects.{effect_of}
+use Rattle.planning_state.specs.Undoing.{all_restored, part_restored}
+use Rattle.planning_state.specs.Work.{edits_named}
+
+-- a change of a book: the edit that it asks for, and the part that takes it back
+pub record AppliesOne (before : Book) (change : Change) (edit : Edit) (part : Inverse) (after : Book) : Type 0 where
+  pub named : edit_named before.game change ≡ Ok edit
+  pub effect_is : effect edit before ≡ Ok after
+  pub sound : IsSoundBook after
+  pub back : restored part after ≡ before
+
+-- whether one of the edits touches the node
+abbrev pub is_touched : Book → List Edit → ℕ → Bool
+is_touched book edits n = list_any (λ edit. has_node (touched_by (shape_of book.game) edit) n) edits
+
+abbrev pub is_part_undo : Undo → Bool
+is_part_undo (Part part) = true
+is_part_undo (Added node) = false
+is_part_undo (Taken node place) = false
+
+-- changes of a book, all of them: the edits that they ask for, and what takes them back
+pub record Applies (before : Book) (changes : List Change) (edits : List Edit) (undos : List Undo) (after : Book) : Type 0 where
+  pub accepted : (milestones : List NodeId) → apply_edits effect_of (state_of before milestones) changes ≡ Ok (state_of after milestones)
+  pub sound : IsSoundBook after
+  pub names : KeepsNames before.game after.game
+  pub edits_are : edits ≡ edits_named before.game changes
+  pub parts : list_all is_part_undo undos ≡ true
+  pub back : all_restored undos after ≡ before
+  pub stays : (n : ℕ) → is_touched before edits n ≡ false → StaysAs before after n
+
+-- the rows are those of the book, but for these nodes
+pub record AreRowsBut (nodes : List NodeId) (book : Book) (rows : List Row) : Type 0 where
+  pub others : (n : ℕ) → n < length rows → has_node nodes n ≡ false → slice_get rows n ≡ Some (row_of book.game n)
+
+-- The book comes from another by these edits, or by what takes them back: its things are named as before, and each node
+-- that none of the edits touches has the row and the marks that it had.
+pub record ComesFrom (before : Book) (edits : List Edit) (after : Book) : Type 0 where
+  pub names : KeepsNames before.game after.game
+  pub stays : (n : ℕ) → is_touched before edits n ≡ false → StaysAs before after n
+
+-- From the book after changes these lead back to a sound book.
+pub record TakesBack (after : Book) (changes : List Change) (undos : List Undo) (before : Book) : Type 0 where
+  pub sound : IsSoundBook before
+  pub comes : ComesFrom after (edits_named after.game changes) before
+  pub back : all_restored undos after ≡ before
+
+-- a part put back, where there is one, and what stood in its place behind the others
+pub record RestoresOne (undo : Undo) (old : Book) (forward : List Undo) (new : Book) (more : List Undo) : Type 0 where
+  pub after : new ≡ part_restored undo old
+  pub back : all_restored more new ≡ all_restored forward old

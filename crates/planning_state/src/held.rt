@@ -1,0 +1,152 @@
+//! Entries that change the book: all of their changes and one repair, or none.
+ghost use Rattle.std.specs.Prelude.{◌≡◌, ◌≢◌, ℕ, ◌+◌, ◌*◌, ◌<◌, ◌≤◌, ◌^◌, true, false, All, List, IfErr, IfOk, OnErr, OnOk, length};
+ghost use Rattle.std.specs.List.{list_all};
+ghost use Rattle.game_types.specs.Nodes.{shape_of};
+ghost use Rattle.data_edit.specs.declared.books.Book.{Book as BookOf};
+ghost use Rattle.data_edit.specs.Books.{IsSoundBook};
+ghost use Rattle.depend_rows.specs.Rows.{rows_of};
+ghost use Rattle.depend_rows.specs.Touched.{touched_by_all};
+ghost use Rattle.milestone_masks.specs.Worlds.{milestones_of, size_of_all};
+ghost use Rattle.edit_undo.specs.Edits.{apply_edits, IsEntry, IsFaultOf, Leads};
+ghost use Rattle.planning_state.specs.Actions.{can_be_held};
+ghost use Rattle.planning_state.specs.States.{state_of};
+ghost use Rattle.planning_state.specs.Effects.{effect_of, is_entry};
+ghost use Rattle.planning_state.specs.Undoing.{all_restored, LeadsBack};
+ghost use Rattle.planning_state.specs.Work.{edits_named, work_of_book};
+ghost use Rattle.planning_state.specs.Worlds.{IsKept};
+ghost use Rattle.planning_state.specs.Books.{ComesFrom, RestoresOne, TakesBack};
+
+use crate::changes::{apply_changes, edits_named, put, take_all_back};
+use crate::refusals::Refusal;
+use crate::settling::settle;
+use crate::undos::Undo;
+use data_edit::{Book, Edit, exchange};
+use depend_rows::touched_all;
+use edit_undo::EntryFault;
+use graph_store::ReplaceRows;
+use milestone_masks::Worlds;
+use plan_base::{NoMemory, Steps};
+use script_reader::Change;
+use std::alloc::Global;
+
+// Leaves the rows and the ranks as the book is now, where they are those of a book from which these edits, or what takes
+// them back, lead to it.
+fn settle_edits<R: ReplaceRows<L>, L>(
+    alloc: Global,
+    book: &Book,
+    graph: &mut R,
+    worlds: &mut Worlds,
+    edits: &[Edit],
+    steps: &mut Steps<L>,
+) -> Result<(), NoMemory>
+    requires sound { IsSoundBook book.now }
+    requires before { (before : BookOf) × IsKept before (R.rows graph.old) worlds.old × ComesFrom before edits.now book.now }
+    ensures kept { OnOk result (IsKept book.now (R.rows graph.new) worlds.new) }
+    ensures milestones { milestones_of worlds.new ≡ milestones_of worlds.old }
+    ensures err { OnErr result ((R.rows graph.new ≡ R.rows graph.old) × (worlds.new ≡ worlds.old)) }
+    ensures work { OnOk result (steps.new ≤ steps.old + 8 * size_of_all (rows_of book.now.game) (touched_by_all (shape_of book.now.game) edits.now) worlds.old worlds.new) }
+    ensures later { steps.old ≤ steps.new }
+{
+    let nodes = touched_all(alloc, edits, &book.game.shape())?;
+    settle(alloc, book, graph, worlds, nodes.as_slice(), steps)
+}
+
+/// Applies changes of the book in order, all of them or none, and answers what takes them back.
+pub(crate) fn apply_held<R: ReplaceRows<L>, L>(
+    alloc: Global,
+    book: &mut Book,
+    graph: &mut R,
+    worlds: &mut Worlds,
+    changes: &[Change],
+    steps: &mut Steps<L>,
+) -> Result<Vec<Undo>, EntryFault<Refusal>>
+    requires kept { IsKept book.old (R.rows graph.old) worlds.old }
+    requires entry { IsEntry is_entry changes.now }
+    requires held { list_all can_be_held changes.now ≡ true }
+    ensures kept { IsKept book.new (R.rows graph.new) worlds.new }
+    ensures milestones { milestones_of worlds.new ≡ milestones_of worlds.old }
+    ensures ok { IfOk result (λ undos. Leads effect_of is_entry LeadsBack (state_of book.old (milestones_of worlds.old)) changes.now undos.items (state_of book.new (milestones_of worlds.new))) }
+    ensures fault { IfErr result (IsFaultOf (apply_edits effect_of (state_of book.old (milestones_of worlds.old)) changes.now)) }
+    ensures err { OnErr result (book.new ≡ book.old) }
+    ensures work { OnOk result (steps.new ≤ steps.old + work_of_book changes.now (state_of book.old (milestones_of worlds.old)) (state_of book.new (milestones_of worlds.new))) }
+    ensures no_work { IfErr result (λ fault. fault ≢ EntryFault.NoMemory → steps.new ≡ steps.old) }
+    ensures later { steps.old ≤ steps.new }
+{
+    match apply_changes(alloc, book, changes) {
+        Ok((edits, undos)) => {
+            match settle_edits(alloc, book, graph, worlds, edits.as_slice(), steps) {
+                Ok(()) => Ok(undos),
+                Err(_) => {
+                    take_all_back(alloc, book, undos);
+                    Err(EntryFault::NoMemory)
+                }
+            }
+        }
+        Err(fault) => Err(fault),
+    }
+}
+
+// Puts one part of the book back, and what stood in its place behind the others.
+fn restore_next(
+    alloc: Global,
+    book: &mut Book,
+    undo: &Undo,
+    forward: &mut Vec<Undo>,
+) -> Result<(), NoMemory>
+    ensures ok { OnOk result (RestoresOne undo.now book.old forward.old.items book.new forward.new.items) }
+    ensures err { OnErr result ((book.new ≡ book.old) × (forward.new.items ≡ forward.old.items)) }
+{
+    if let Undo::Part(inverse) = undo {
+        let part = inverse.copy(alloc)?;
+        forward.reserve(1)?;
+        put(forward, Undo::Part(exchange(alloc, book, part)));
+    }
+    Ok(())
+}
+
+// Puts all parts of the book back, the last one first, and answers what takes that back.
+fn restore_parts(alloc: Global, book: &mut Book, undos: &[Undo]) -> Result<Vec<Undo>, NoMemory>
+    ensures ok { OnOk result (book.new ≡ all_restored undos.now book.old) }
+    ensures back { IfOk result (λ forward. all_restored forward.items book.new ≡ book.old) }
+    ensures err { OnErr result (book.new ≡ book.old) }
+{
+    let mut forward = Vec::new(alloc);
+    for i in 0..undos.len() {
+        let undo = &undos[undos.len() - 1 - i];
+        if restore_next(alloc, book, undo, &mut forward).is_err() {
+            take_all_back(alloc, book, forward);
+            return Err(NoMemory);
+        }
+    }
+    Ok(forward)
+}
+
+/// Takes changes of the book back, all of them or none.
+pub(crate) fn restore_held<R: ReplaceRows<L>, L>(
+    alloc: Global,
+    book: &mut Book,
+    graph: &mut R,
+    worlds: &mut Worlds,
+    changes: &[Change],
+    undos: &[Undo],
+    steps: &mut Steps<L>,
+) -> Result<(), NoMemory>
+    requires kept { IsKept book.old (R.rows graph.old) worlds.old }
+    requires leads { (before : BookOf) × TakesBack book.old changes.now undos.now before }
+    ensures kept { IsKept book.new (R.rows graph.new) worlds.new }
+    ensures milestones { milestones_of worlds.new ≡ milestones_of worlds.old }
+    ensures ok { OnOk result (book.new ≡ all_restored undos.now book.old) }
+    ensures err { OnErr result (book.new ≡ book.old) }
+    ensures work { OnOk result (steps.new ≤ steps.old + work_of_book changes.now (state_of book.old (milestones_of worlds.old)) (state_of book.new (milestones_of worlds.new))) }
+    ensures later { steps.old ≤ steps.new }
+{
+    let edits = edits_named(alloc, &book.game, changes)?;
+    let forward = restore_parts(alloc, book, undos)?;
+    match settle_edits(alloc, book, graph, worlds, edits.as_slice(), steps) {
+        Ok(()) => Ok(()),
+        Err(fault) => {
+            take_all_back(alloc, book, forward);
+            Err(fault)
+        }
+    }
+}

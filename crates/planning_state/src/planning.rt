@@ -1,0 +1,349 @@
+//! The planning state, with the rows and the ranks of every world beside it.
+ghost use Rattle.std.specs.Prelude.{◌≡◌, ◌≢◌, ℕ, ◌+◌, ◌*◌, ◌<◌, ◌≤◌, ◌∷◌, [], All, Bool, false, true, List, None, Some, Ok, IfErr, IfOk, MatchResult, OnErr, OnOk, length, slice_get, slice_index_or};
+ghost use Rattle.plan_base.specs.Shape.{count_of, first_of, node_count};
+ghost use Rattle.graph_store.specs.Rows.{member_count};
+ghost use Rattle.game_types.specs.Nodes.{shape_of};
+ghost use Rattle.game_types.specs.Sound.{IsSound};
+ghost use Rattle.data_edit.specs.Books.{IsSoundBook};
+ghost use Rattle.depend_rows.specs.Rows.{rows_of};
+ghost use Rattle.depend_rows.specs.declared.rows.TheConstants.{MEMBER_LIMIT};
+ghost use Rattle.milestone_masks.specs.Why.{IsWhy};
+ghost use Rattle.milestone_masks.specs.Worlds.{missing_in, AreWorlds};
+ghost use Rattle.planning_state.specs.Actions.{node_named, Gives};
+ghost use Rattle.planning_state.specs.Worlds.{is_reached, mask_in, rank_of, ranks_in, world_of};
+ghost use Rattle.planning_state.specs.States.{first_state, State};
+ghost use Rattle.planning_state.specs.Effects.{effect_of, is_entry};
+ghost use Rattle.planning_state.specs.Undoing.{LeadsBack};
+ghost use Rattle.planning_state.specs.Work.{work_of};
+
+use crate::entries::{Back, Entry, back_of, entry_of};
+use crate::held::{apply_held, restore_held};
+use crate::milestones::{add_milestone, drop_milestone, put_milestone, take_milestone};
+use crate::names::{node_named, nodes_of};
+use crate::refusals::{ChangeFault, LoadFault, Refusal};
+use crate::undos::Undo;
+use data_edit::Book;
+use depend_rows::{RowsFault, rows_within};
+use edit_undo::{Editable, EntryFault};
+use game_types::Game;
+use graph_store::{Graph, Group, Rows};
+use milestone_masks::Worlds;
+use plan_base::{Kind, NoMemory, NodeId, Steps};
+use reach_ranks::ranks_afresh;
+use script_reader::{Change, Object};
+use std::alloc::Global;
+use std::marker::Model;
+
+/// A planning state. It is seen as its book and its milestones; the rows of the game and the ranks of every world, which
+/// these determine, are kept beside them.
+#[derive(Drop)]
+pub struct Planning {
+    alloc: Global,
+    book: Book,
+    graph: Graph,
+    worlds: Worlds,
+}
+
+impl Model for Planning {
+    ghost use Rattle.planning_state.specs.States.{State, state_of};
+    ghost use Rattle.milestone_masks.specs.Worlds.{milestones_of};
+    ghost use Rattle.planning_state.specs.Worlds.{IsKept};
+
+    ghost Value = { State };
+
+    ghost view = { λ p. state_of p.book (milestones_of p.worlds) };
+
+    ghost invariant = { λ p. IsKept p.book p.graph p.worlds };
+}
+
+impl Planning {
+    /// The game with no marks and no milestones.
+    ///
+    /// # Errors
+    ///
+    /// `Members` exactly where the rows have more than 4,194,304 members; `NoMemory` where memory could not be had.
+    pub fn make<L>(alloc: Global, game: Game, steps: &mut Steps<L>) -> Result<Planning, LoadFault>
+        requires { IsSound game }
+        ensures planning { MatchResult result
+            (λ planning. (planning ≡ first_state game) × (member_count (rows_of game) ≤ MEMBER_LIMIT))
+            (λ fault. fault ≡ LoadFault.Members → MEMBER_LIMIT < member_count (rows_of game)) }
+        ensures steps { IfOk result (λ _. steps.new ≤ steps.old + node_count (shape_of game) + 4 * (node_count (shape_of game) + member_count (rows_of game))) }
+        ensures later { steps.old ≤ steps.new }
+    {
+        let book = match Book::make(alloc, game) {
+            Ok(book) => book,
+            Err(_) => return Err(LoadFault::NoMemory),
+        };
+        let rows = match rows_within(alloc, &book, steps) {
+            Ok(rows) => rows,
+            Err(fault) => return Err(load_fault(fault)),
+        };
+        let graph = match Graph::make(alloc, rows) {
+            Ok(graph) => graph,
+            Err(_) => return Err(LoadFault::NoMemory),
+        };
+        let worlds = match first_worlds(alloc, &book, &graph, steps) {
+            Ok(worlds) => worlds,
+            Err(_) => return Err(LoadFault::NoMemory),
+        };
+        Ok(Planning {
+            alloc,
+            book,
+            graph,
+            worlds,
+        })
+    }
+
+    /// The game as it stands.
+    pub fn game(&self) -> &Game
+        ensures { result.now ≡ self.now.book.game }
+    {
+        &self.book.game
+    }
+
+    /// The node that an object names.
+    ///
+    /// # Errors
+    ///
+    /// `Unknown` where nothing has the name. Or `NoMemory`.
+    pub fn node(&self, object: &Object) -> Result<NodeId, ChangeFault>
+        ensures node { Gives (node_named self.now.book.game object.now) result }
+        ensures within { IfOk result (λ node. node.0 < node_count (shape_of self.now.book.game)) }
+    {
+        node_named(self.alloc, &self.book.game, object)
+    }
+
+    /// The number of the first round that holds the node, and 0 where none does.
+    pub fn rank(&self, node: NodeId) -> u32
+        requires { node.0 < node_count (shape_of self.now.book.game) }
+        ensures { result ≡ rank_of self.now.book node.0 }
+    {
+        self.worlds.rank(node)
+    }
+
+    /// Whether the node is reached.
+    pub fn is_reached(&self, node: NodeId) -> bool
+        requires { node.0 < node_count (shape_of self.now.book.game) }
+        ensures { result ≡ is_reached self.now.book node.0 }
+    {
+        0 < self.worlds.rank(node)
+    }
+
+    /// Whether the node is barred by a mark.
+    pub fn is_forbidden(&self, node: NodeId) -> bool
+        requires { node.0 < node_count (shape_of self.now.book.game) }
+        ensures { result ≡ slice_index_or self.now.book.barred node.0 false }
+    {
+        self.book.barred.as_slice()[node.0 as usize]
+    }
+
+    /// Whether the node is granted by a mark.
+    pub fn is_granted(&self, node: NodeId) -> bool
+        requires { node.0 < node_count (shape_of self.now.book.game) }
+        ensures { result ≡ slice_index_or self.now.book.granted node.0 false }
+    {
+        self.book.granted.as_slice()[node.0 as usize]
+    }
+
+    /// The milestones in whose world the node isn't reached, in order.
+    ///
+    /// # Errors
+    ///
+    /// `NoMemory` where memory could not be had.
+    pub fn mask(&self, node: NodeId) -> Result<Vec<NodeId>, NoMemory>
+        requires { node.0 < node_count (shape_of self.now.book.game) }
+        ensures { IfOk result (λ nodes. nodes.items ≡ mask_in self.now node.0) }
+    {
+        self.worlds.mask(self.alloc, node)
+    }
+
+    /// How many milestones lie in the mask of a node.
+    pub fn mask_len(&self, node: NodeId) -> u32
+        requires { node.0 < node_count (shape_of self.now.book.game) }
+        ensures count { result ≡ length (mask_in self.now node.0) }
+        ensures few { result ≤ 256 }
+    {
+        self.worlds.mask_len(node)
+    }
+
+    /// Why a node is reached: the least set that supports it. It takes at most one step for each of its nodes.
+    ///
+    /// # Errors
+    ///
+    /// `NoMemory` where memory could not be had.
+    pub fn why<L>(&self, node: NodeId, steps: &mut Steps<L>) -> Result<Vec<NodeId>, NoMemory>
+        requires { node.0 < node_count (shape_of self.now.book.game) }
+        ensures why { IfOk result (λ nodes. IsWhy (rows_of self.now.book.game) self.now.book.granted (ranks_in (world_of self.now.book None)) node.0 nodes.items) }
+        ensures nodes { IfOk result (λ nodes. All (λ m. m.0 < node_count (shape_of self.now.book.game)) nodes.items) }
+        ensures steps { IfOk result (λ nodes. steps.new ≤ steps.old + length nodes.items) }
+        ensures later { steps.old ≤ steps.new }
+    {
+        self.worlds.why(
+            self.alloc,
+            &self.graph,
+            self.book.granted.as_slice(),
+            node,
+            steps,
+        )
+    }
+
+    /// What a node lacks: the groups of its row that the reached nodes don't satisfy, each with its members that aren't
+    /// reached. It takes one step.
+    ///
+    /// # Errors
+    ///
+    /// `NoMemory` where memory could not be had.
+    pub fn missing<L>(&self, node: NodeId, steps: &mut Steps<L>) -> Result<Vec<Group>, NoMemory>
+        requires { node.0 < node_count (shape_of self.now.book.game) }
+        ensures missing { IfOk result (λ groups. groups.items ≡ missing_in (is_reached self.now.book) (slice_get (rows_of self.now.book.game) node.0)) }
+        ensures step { steps.new ≤ steps.old + 1 }
+        ensures later { steps.old ≤ steps.new }
+    {
+        self.worlds.missing(self.alloc, &self.graph, node, steps)
+    }
+
+    /// How many nodes there are.
+    pub fn node_count(&self) -> u32
+        ensures { result ≡ node_count (shape_of self.now.book.game) }
+    {
+        self.book.game.shape().len()
+    }
+
+    /// The number of the first node of a kind, and the one behind its last.
+    pub fn nodes_of(&self, kind: Kind) -> (u32, u32)
+        ensures first { result.0 ≡ first_of (shape_of self.now.book.game) kind }
+        ensures end { result.1 ≡ first_of (shape_of self.now.book.game) kind + count_of (shape_of self.now.book.game) kind }
+        ensures nodes { result.1 ≤ node_count (shape_of self.now.book.game) }
+    {
+        nodes_of(&self.book.game.shape(), kind)
+    }
+
+    /// How many milestones there are.
+    pub fn milestone_count(&self) -> u32
+        ensures { result ≡ length self.now.milestones }
+    {
+        self.worlds.count()
+    }
+
+    /// The milestone at a place in their order.
+    pub fn milestone(&self, place: u32) -> NodeId
+        requires { place < length self.now.milestones }
+        ensures { slice_get self.now.milestones place ≡ Some result }
+    {
+        self.worlds.milestone(place)
+    }
+}
+
+fn load_fault(fault: RowsFault) -> LoadFault
+    ensures { result ≡ LoadFault.Members → fault ≡ RowsFault.TooMany }
+{
+    match fault {
+        RowsFault::TooMany => LoadFault::Members,
+        RowsFault::NoMemory => LoadFault::NoMemory,
+    }
+}
+
+// The ranks of the base world, with no milestones.
+fn first_worlds<R: Rows<L>, L>(
+    alloc: Global,
+    book: &Book,
+    graph: &R,
+    steps: &mut Steps<L>,
+) -> Result<Worlds, NoMemory>
+    requires sound { IsSoundBook book.now }
+    requires rows { R.rows graph.now ≡ rows_of book.now.game }
+    ensures worlds { IfOk result (λ worlds. AreWorlds (rows_of book.now.game) book.now.barred book.now.granted worlds) }
+    ensures none { IfOk result (λ worlds. worlds.milestones ≡ []) }
+    ensures steps { IfOk result (λ _. steps.new ≤ steps.old + 4 * (node_count (shape_of book.now.game) + member_count (rows_of book.now.game))) }
+    ensures later { steps.old ≤ steps.new }
+{
+    let ranks = ranks_afresh(
+        alloc,
+        graph,
+        book.barred.as_slice(),
+        book.granted.as_slice(),
+        None,
+        steps,
+    )?;
+    Worlds::make(alloc, ranks)
+}
+
+impl<L> Editable<L> for Planning {
+    type Edit = Change;
+
+    type Inverse = Undo;
+
+    type Fault = Refusal;
+
+    ghost State = { State };
+
+    ghost state = { λ planning. planning };
+
+    ghost effect = { effect_of };
+
+    ghost takes = { is_entry };
+
+    ghost leads_back = { LeadsBack };
+
+    ghost work = { work_of };
+
+    fn apply_all(
+        &mut self,
+        edits: &[Change],
+        steps: &mut Steps<L>,
+    ) -> Result<Vec<Undo>, EntryFault<Refusal>> {
+        match entry_of(edits) {
+            Entry::Add(object) => add_milestone(
+                self.alloc,
+                &self.book,
+                &self.graph,
+                &mut self.worlds,
+                object,
+                steps,
+            ),
+            Entry::Take(object) => {
+                take_milestone(self.alloc, &self.book, &mut self.worlds, object)
+            }
+            Entry::Held => apply_held(
+                self.alloc,
+                &mut self.book,
+                &mut self.graph,
+                &mut self.worlds,
+                edits,
+                steps,
+            ),
+        }
+    }
+
+    fn restore_all(
+        &mut self,
+        edits: &[Change],
+        inverses: &[Undo],
+        steps: &mut Steps<L>,
+    ) -> Result<(), NoMemory> {
+        match back_of(inverses) {
+            Back::Drops(node) => {
+                drop_milestone(&mut self.worlds, node);
+                Ok(())
+            }
+            Back::Puts { node, place } => put_milestone(
+                self.alloc,
+                &self.book,
+                &self.graph,
+                &mut self.worlds,
+                node,
+                place,
+                steps,
+            ),
+            Back::Parts => restore_held(
+                self.alloc,
+                &mut self.book,
+                &mut self.graph,
+                &mut self.worlds,
+                edits,
+                inverses,
+                steps,
+            ),
+        }
+    }
+}
