@@ -1,6 +1,6 @@
 //! What a line of a script is answered.
 use fractions::Ratio;
-use game_types::EffectKind;
+use game_types::{EffectKind, Effects, Rates};
 use linear_table::{Column, SolveAnswer};
 use plan_base::{GoodId, Items, Kind, NodeId, Text};
 
@@ -125,7 +125,10 @@ pub enum Reply {
     /// The line is held in the open batch.
     Held,
     /// A node's rank, 0 for a node that is not reached.
-    Reach { node: NodeId, rank: u32 },
+    Reach {
+        node: NodeId,
+        rank: u32,
+    },
     /// The reached nodes of a kind, each with its rank.
     List {
         kind: Kind,
@@ -161,19 +164,13 @@ pub enum Reply {
         done: u64,
         undone: u64,
     },
-    /// The rates of one row, for one craft per second.
+    /// The rates of one row for one craft per second: the effects on it, what it takes, and the power of the beacons of
+    /// one machine.
     Rate {
         table: Text,
         label: Text,
-        speed: Ratio,
-        productivity: Ratio,
-        consumption: Ratio,
-        pollution: Ratio,
-        machines: Ratio,
-        power: Ratio,
-        drain: Ratio,
-        fuel: Ratio,
-        emits: Ratio,
+        effects: Effects,
+        rates: Rates,
         beacons: Ratio,
     },
     /// What the solver says of a table: its rows by their labels, its goods, its columns, and where it gives a plan the
