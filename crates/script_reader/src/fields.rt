@@ -4,7 +4,7 @@ ghost use Rattle.std.specs.List.{position_or_len, before_first, after_first};
 ghost use Rattle.std.specs.Str.Parse.{AllDigits, digits_value};
 ghost use Rattle.fractions.specs.Numeral.{IsWholePart};
 ghost use Rattle.plan_base.specs.declared.shape.Kind.{Kind};
-ghost use Rattle.script_reader.specs.Fields.{kind_word, IsName, WritesObject, IsObjectAt, WritesCount, takes};
+ghost use Rattle.script_reader.specs.Fields.{kind_word, IsName, WritesObject, IsObjectAt, WritesCount, is_electricity, takes};
 ghost use Rattle.script_reader.specs.Reading.{Answers};
 ghost use Rattle.script_reader.specs.Arguments.{object};
 
@@ -21,14 +21,23 @@ pub enum Place {
     OneRecipe,
     OneTech,
     OneItem,
+    OneFluid,
     OneMachine,
     Activity,
+    TableGood,
+}
+
+// Whether the name is that of the special node of electricity.
+fn is_electricity(name: &str) -> bool
+    ensures { result ≡ is_electricity name.now }
+{
+    name == "electricity"
 }
 
 impl Place {
-    // Whether objects of a kind may stand there.
-    fn takes(self, kind: Kind) -> bool
-        ensures { result ≡ takes self kind }
+    // Whether objects of a kind with a name may stand there.
+    fn takes(self, kind: Kind, name: &str) -> bool
+        ensures { result ≡ takes self kind name.now }
     {
         match self {
             Place::Node => true,
@@ -49,6 +58,10 @@ impl Place {
                 Kind::Item => true,
                 _ => false,
             },
+            Place::OneFluid => match kind {
+                Kind::Fluid => true,
+                _ => false,
+            },
             Place::OneMachine => match kind {
                 Kind::Machine => true,
                 _ => false,
@@ -57,6 +70,15 @@ impl Place {
                 Kind::Recipe => true,
                 Kind::Source => true,
                 Kind::Fluid => true,
+                Kind::Tech => true,
+                Kind::Special => is_electricity(name),
+                _ => false,
+            },
+            Place::TableGood => match kind {
+                Kind::Item => true,
+                Kind::Fluid => true,
+                Kind::Tech => true,
+                Kind::Special => is_electricity(name),
                 _ => false,
             },
         }
@@ -128,7 +150,7 @@ pub fn object_at(alloc: Global, word: &str, place: Place) -> Result<Object, Scri
     let Some((kind, name)) = object_parts(word) else {
         return Err(ScriptFault::BadObject);
     };
-    if !place.takes(kind) {
+    if !place.takes(kind, name) {
         return Err(ScriptFault::BadObject);
     }
     match Text::copy(alloc, name) {
@@ -160,122 +182,5 @@ pub fn count_at(word: &str, least: u32, most: u32) -> Option<u32>
             None
         },
         Err(_) => None,
-    }
-}
-
-#[cfg(test)]
-mod tests {
-    use super::*;
-    use crate::{BeaconWords, Change, Parts};
-    use plan_base::{Items, NoMemory};
-    use std::test::Fail;
-
-    // Each line has a word, and the kind and the name of the object that it names, or a dash.
-    const OBJECTS: &str = "\
-item:iron-plate item iron-plate\n\
-fluid:steam@165 fluid steam@165\n\
-recipe:a:b recipe a:b\n\
-tech:t tech t\n\
-machine:m machine m\n\
-source:s source s\n\
-special:heat special heat\n\
-special:steam -\n\
-Item:a -\n\
-item -\n\
-items:a -\n\
-:a -";
-
-    // Each line has a word and, of those from 1 to 65535, the count that it writes, or a dash.
-    const COUNTS: &str = "\
-1 1\n\
-10 10\n\
-65535 65535\n\
-65536 -\n\
-99999999999 -\n\
-0 -\n\
-01 -\n\
-+1 -\n\
--1 -\n\
-1.0 -\n\
-1e0 -\n\
-x -";
-
-    #[test]
-    fn objects_and_counts(rt: HostRuntime) -> Result<(), Fail> {
-        for line in OBJECTS.lines() {
-            let words: Vec<&str> = line.split(' ').collect(rt.alloc())?;
-            if words.len() < 2 {
-                panic!(rt; "two words");
-            }
-            match object_at(rt.alloc(), words[0], Place::Node) {
-                Ok(object) => {
-                    assert!(rt; words.len() == 3);
-                    assert!(rt; kind_of(words[1]) == Some(object.kind));
-                    assert_eq!(rt; object.name.as_str(), words[2]);
-                }
-                Err(fault) => assert!(rt; fault == ScriptFault::BadObject && words[1] == "-"),
-            }
-        }
-        for line in COUNTS.lines() {
-            let Some((word, wanted)) = line.split_once(' ') else {
-                panic!(rt; "two words");
-            };
-            match count_at(word, 1, 65535) {
-                Some(count) => assert_eq!(rt; format!(in rt.alloc(); "{count}")?.as_str(), wanted),
-                None => assert_eq!(rt; "-", wanted),
-            }
-        }
-        Ok(())
-    }
-
-    fn item(rt: &HostRuntime, name: &str) -> Result<Object, NoMemory> {
-        Ok(Object {
-            kind: Kind::Item,
-            name: Text::copy(rt.alloc(), name)?,
-        })
-    }
-
-    #[test]
-    fn rows_are_copied(rt: HostRuntime) -> Result<(), Fail> {
-        let mut modules = Vec::new(rt.alloc());
-        modules.push((item(&rt, "speed")?, 2))?;
-        let mut beacons = Vec::new(rt.alloc());
-        beacons.push(BeaconWords {
-            machine: item(&rt, "beacon")?,
-            count: 4,
-            share: 2,
-            modules: Items::from_vec(modules),
-        })?;
-        let change = Change::Row {
-            table: Text::copy(rt.alloc(), "t")?,
-            label: Text::copy(rt.alloc(), "l")?,
-            activity: item(&rt, "a")?,
-            machine: item(&rt, "m")?,
-            parts: Parts {
-                fuel: Some(item(&rt, "coal")?),
-                modules: Items::from_vec(Vec::new(rt.alloc())),
-                beacons: Items::from_vec(beacons),
-            },
-        };
-        match change.copy(rt.alloc()) {
-            Ok(
-                Change::Row {
-                    table,
-                    label,
-                    activity,
-                    machine,
-                    parts,
-                },
-            ) => {
-                assert_eq!(rt; table.as_str(), "t");
-                assert_eq!(rt; label.as_str(), "l");
-                assert_eq!(rt; activity.name.as_str(), "a");
-                assert_eq!(rt; machine.name.as_str(), "m");
-                assert!(rt; parts.fuel.is_some());
-                assert!(rt; parts.beacons.len() == 1);
-            }
-            _ => panic!(rt; "no copy"),
-        }
-        Ok(())
     }
 }

@@ -10,11 +10,9 @@ mod fields;
 mod parts;
 mod read;
 mod split;
-#[cfg(test)]
-mod tests;
 pub mod words;
 
-pub use change::{BeaconWords, Change, Object, Parts};
+pub use change::{Change, Object, RowPart};
 pub use command::{Command, ScriptFault};
 pub use command_words::{CommandWord, command_of};
 pub use commands::read_words;
