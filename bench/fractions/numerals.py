@@ -1,9 +1,9 @@
 #!/usr/bin/env python3
-"""Writes the table of numerals that crates/fractions tests its reader on: a numeral, a blank, and its value as a
+"""Writes the table of numerals that crates/base_tests tests fractions on: a numeral, a blank, and its value as a
 fraction, or F1 (no numeral) or F2 (too large).
 
 The values are computed here from the decimal that the text writes, with the exact fractions of the standard library,
-and share no code with the crate.  `numerals.py energy` writes the table of crates/energy_units likewise.
+and share no code with the crate.  `numerals.py energy` writes the table of energies likewise.
 """
 import random
 import re

@@ -10,8 +10,6 @@ mod fields;
 mod parts;
 mod read;
 mod split;
-#[cfg(test)]
-mod tests;
 pub mod words;
 
 pub use change::{Change, Object, RowPart};

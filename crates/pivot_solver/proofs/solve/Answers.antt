@@ -1,5 +1,9 @@
 use Rattle.pivot_solver.proofs.Exactly.{done_of, wide_exactly, out_exactly, infeasible_exactly, no_basis_twice, settles, moderate_never_wide}
+use Rattle.pivot_solver.proofs.TrailLaws.{answer_tells}
 use Rattle.pivot_solver.proofs.solve.Goals as goal
+
+pub returns-in-Done-clause-plans : goal.returns-in-Done-clause-plans
+returns-in-Done-clause-plans c = answer_tells c.args.linear.now c.args.budget c.in-Done.answer (done_of c.args.linear.now c.args.budget _ c.in_ok-progress.progress c.in-Done.answer c.in-Done.is c.in_ok-progress.ensures).0
 
 pub returns-in-Done-clause-too_wide : goal.returns-in-Done-clause-too_wide
 returns-in-Done-clause-too_wide c = wide_exactly c.args.linear.now c.args.budget c.in-Done.answer c.requires (done_of c.args.linear.now c.args.budget _ c.in_ok-progress.progress c.in-Done.answer c.in-Done.is c.in_ok-progress.ensures)
