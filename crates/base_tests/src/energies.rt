@@ -1,7 +1,8 @@
 //! Energies beside values that were computed elsewhere.
 use energy_units::{EnergyFault, read_energy, read_power};
 use fractions::Ratio;
-use plan_base::Text;
+use plan_base::NoMemory;
+use std::alloc::Global;
 use std::test::Fail;
 
 // Each line has a text, and what it is as an energy and as a power: written by `bench/fractions/numerals.py energy`.
@@ -67,34 +68,62 @@ W E1 E1\n\
 5601590453078415.2787TJ 5601590453078420000000000000 336095427184705200000000000000\n\
 76195236047259.1MW E2 76195236047259100000";
 
+fn code(fault: EnergyFault) -> &'static str {
+    match fault {
+        EnergyFault::NoNumber => "E1",
+        EnergyFault::NoUnit => "E2",
+        EnergyFault::TooLarge => "E3",
+    }
+}
+
 // Whether a reading shows as the text says.
 fn shows(
-    rt: &HostRuntime,
+    alloc: Global,
     reading: Result<Ratio, EnergyFault>,
     wanted: &str,
-) -> Result<bool, Fail> {
-    let shown = match reading {
-        Ok(value) => value.print(rt.alloc())?,
-        Err(fault) => Text::from_string(format!(in rt.alloc(); "{fault}")?),
+) -> Result<bool, NoMemory> {
+    match reading {
+        Ok(value) => is_shown(alloc, &value, wanted),
+        Err(fault) => Ok(code(fault) == wanted),
+    }
+}
+
+fn is_shown(alloc: Global, value: &Ratio, wanted: &str) -> Result<bool, NoMemory> {
+    let text = value.print(alloc)?;
+    Ok(text.as_str() == wanted)
+}
+
+fn is_energy(alloc: Global, text: &str, wanted: &str) -> Result<bool, NoMemory> {
+    shows(alloc, read_energy(text.as_bytes()), wanted)
+}
+
+fn is_power(alloc: Global, text: &str, wanted: &str) -> Result<bool, NoMemory> {
+    shows(alloc, read_power(text.as_bytes()), wanted)
+}
+
+fn is_so(alloc: Global, line: &str) -> Result<bool, NoMemory> {
+    let Some((text, rest)) = line.split_once(' ') else {
+        return Ok(false);
     };
-    Ok(shown.as_str() == wanted)
+    let Some((energy, power)) = rest.split_once(' ') else {
+        return Ok(false);
+    };
+    Ok(is_energy(alloc, text, energy)? && is_power(alloc, text, power)?)
 }
 
 #[test]
 fn energies_and_powers(rt: HostRuntime) -> Result<(), Fail> {
     for line in ENERGIES.lines() {
-        let words: Vec<&str> = line.split(' ').collect(rt.alloc())?;
-        if words.len() != 3 {
-            panic!(rt; "three words");
-        }
-        if !shows(&rt, read_energy(words[0].as_bytes()), words[1])? {
-            panic!(rt; "{} is not the energy {}", words[0], words[1]);
-        }
-        if !shows(&rt, read_power(words[0].as_bytes()), words[2])? {
-            panic!(rt; "{} is not the power {}", words[0], words[2]);
+        if !is_so(rt.alloc(), line)? {
+            panic!(rt; "{line}");
         }
     }
-    assert!(rt; shows(&rt, read_energy(b""), "E1")?);
-    assert!(rt; shows(&rt, read_energy(b"4 MJ"), "E2")?);
+    Ok(())
+}
+
+#[test]
+fn a_number_stands_before_its_unit(rt: HostRuntime) -> Result<(), Fail> {
+    assert!(rt; is_energy(rt.alloc(), "", "E1")?);
+    assert!(rt; is_energy(rt.alloc(), "4 MJ", "E2")?);
     Ok(())
 }

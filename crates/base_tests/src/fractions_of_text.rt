@@ -1,6 +1,7 @@
 //! Results on fractions beside values that were computed elsewhere.
 use fractions::{Ratio, Wide, read_ratio};
-use plan_base::Text;
+use plan_base::NoMemory;
+use std::alloc::Global;
 use std::cmp::Ordering;
 use std::test::Fail;
 
@@ -32,56 +33,106 @@ fn fraction(text: &str) -> Ratio {
     read_ratio(text.as_bytes()).unwrap_or(Ratio::zero())
 }
 
-fn shown(rt: &HostRuntime, outcome: Result<Ratio, Wide>) -> Result<Text, Fail> {
-    match outcome {
-        Ok(value) => Ok(value.print(rt.alloc())?),
-        Err(Wide) => Ok(Text::copy(rt.alloc(), "wide")?),
+fn shows(alloc: Global, value: &Ratio, wanted: &str) -> Result<bool, NoMemory> {
+    let text = value.print(alloc)?;
+    Ok(text.as_str() == wanted)
+}
+
+fn result_of(call: &str, first: &Ratio, second: &Ratio) -> Option<Ratio> {
+    match call {
+        "add" => first.add(second).ok(),
+        "sub" => first.sub(second).ok(),
+        "mul" => first.mul(second).ok(),
+        _ => if second.is_zero() {
+            None
+        } else {
+            first.div(second).ok()
+        },
     }
+}
+
+fn order_of(first: &Ratio, second: &Ratio) -> &'static str {
+    match first.cmp(second) {
+        Ordering::Less => "-1",
+        Ordering::Equal => "0",
+        Ordering::Greater => "1",
+    }
+}
+
+// Whether the traits of comparison say the same as the call.
+fn agree(first: &Ratio, second: &Ratio, order: &str) -> bool {
+    (*first == *second) == (order == "0")
+        && (*first < *second) == (order == "-1")
+        && (*first > *second) == (order == "1")
+}
+
+fn is_order(first: &Ratio, second: &Ratio, wanted: &str) -> bool {
+    order_of(first, second) == wanted && agree(first, second, wanted)
+}
+
+fn gives(
+    alloc: Global,
+    call: &str,
+    first: &Ratio,
+    second: &Ratio,
+    wanted: &str,
+) -> Result<bool, NoMemory> {
+    if call == "cmp" {
+        return Ok(is_order(first, second, wanted));
+    }
+    match result_of(call, first, second) {
+        Some(result) => shows(alloc, &result, wanted),
+        None => Ok(wanted == "wide"),
+    }
+}
+
+fn is_so(alloc: Global, line: &str) -> Result<bool, NoMemory> {
+    let Some((call, rest)) = line.split_once(' ') else {
+        return Ok(false);
+    };
+    let Some((first, rest)) = rest.split_once(' ') else {
+        return Ok(false);
+    };
+    let Some((second, wanted)) = rest.split_once(' ') else {
+        return Ok(false);
+    };
+    gives(alloc, call, &fraction(first), &fraction(second), wanted)
 }
 
 #[test]
 fn results_are_exact(rt: HostRuntime) -> Result<(), Fail> {
     for line in RESULTS.lines() {
-        let words: Vec<&str> = line.split(' ').collect(rt.alloc())?;
-        if words.len() != 4 {
-            panic!(rt; "four words");
+        if !is_so(rt.alloc(), line)? {
+            panic!(rt; "{line}");
         }
-        let first = fraction(words[1]);
-        let second = fraction(words[2]);
-        let got = match words[0] {
-            "add" => shown(&rt, first.add(&second))?,
-            "sub" => shown(&rt, first.sub(&second))?,
-            "mul" => shown(&rt, first.mul(&second))?,
-            "cmp" => match first.cmp(&second) {
-                Ordering::Less => Text::copy(rt.alloc(), "-1")?,
-                Ordering::Equal => Text::copy(rt.alloc(), "0")?,
-                Ordering::Greater => Text::copy(rt.alloc(), "1")?,
-            },
-            _ => {
-                if second.is_zero() {
-                    panic!(rt; "zero");
-                }
-                shown(&rt, first.div(&second))?
-            }
-        };
-        assert_eq!(rt; got.as_str(), words[3]);
     }
     Ok(())
 }
 
+fn large() -> Ratio {
+    fraction("999999999999999999/1")
+}
+
+fn is_wide_cube() -> bool {
+    match large().mul(&large()) {
+        Ok(square) => square.mul(&large()) == Err(Wide),
+        Err(Wide) => false,
+    }
+}
+
+fn is_wide_update() -> bool {
+    Ratio::sub_mul(&large(), &large(), &Ratio::one()) == Ok(Ratio::zero())
+}
+
 #[test]
 fn wide_and_whole(rt: HostRuntime) -> Result<(), Fail> {
-    let large = fraction("999999999999999999/1");
-    let Ok(square) = large.mul(&large) else {
-        panic!(rt; "wide");
-    };
-    assert_eq!(rt; shown(&rt, square.mul(&large))?.as_str(), "wide");
-    assert_eq!(rt;
-        shown(&rt, Ratio::sub_mul(&large, &large, &Ratio::one()))?.as_str(),
-        "0"
-    );
-    assert_eq!(rt; Ratio::part(-7, 2).ceil().print(rt.alloc())?.as_str(), "-3");
-    assert_eq!(rt; Ratio::part(7, 2).ceil().print(rt.alloc())?.as_str(), "4");
+    assert!(rt; is_wide_cube());
+    assert!(rt; is_wide_update());
+    assert!(rt; Ratio::part(-7, 2).ceil() == Ratio::whole(-3));
+    assert!(rt; Ratio::part(7, 2).ceil() == Ratio::whole(4));
     assert!(rt; Ratio::part(-2, 12).is_neg());
+    assert!(rt; !Ratio::part(-2, 12).is_positive());
+    assert!(rt; !Ratio::zero().is_positive());
+    assert!(rt; Ratio::part(1, 12).is_positive());
     Ok(())
 }

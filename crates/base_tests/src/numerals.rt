@@ -1,6 +1,7 @@
 //! Numerals beside values that were computed elsewhere.
 use fractions::{NumeralFault, Ratio, read_numeral, read_ratio};
-use plan_base::Text;
+use plan_base::NoMemory;
+use std::alloc::Global;
 use std::test::Fail;
 
 // Each line has a numeral and its value, or the code of its fault: written by bench/fractions/numerals.py.
@@ -157,42 +158,66 @@ const RATIOS: &str = "\
 / F1\n\
 x F1";
 
+fn code(fault: NumeralFault) -> &'static str {
+    match fault {
+        NumeralFault::NotNumeral => "F1",
+        NumeralFault::TooLarge => "F2",
+    }
+}
+
 // Whether a reading shows as the text says.
 fn shows(
-    rt: &HostRuntime,
+    alloc: Global,
     reading: Result<Ratio, NumeralFault>,
     wanted: &str,
-) -> Result<bool, Fail> {
-    let shown = match reading {
-        Ok(value) => value.print(rt.alloc())?,
-        Err(fault) => Text::from_string(format!(in rt.alloc(); "{fault}")?),
-    };
-    Ok(shown.as_str() == wanted)
+) -> Result<bool, NoMemory> {
+    match reading {
+        Ok(value) => is_shown(alloc, &value, wanted),
+        Err(fault) => Ok(code(fault) == wanted),
+    }
+}
+
+fn is_shown(alloc: Global, value: &Ratio, wanted: &str) -> Result<bool, NoMemory> {
+    let text = value.print(alloc)?;
+    Ok(text.as_str() == wanted)
+}
+
+fn is_numeral_so(alloc: Global, line: &str) -> Result<bool, NoMemory> {
+    match line.split_once(' ') {
+        Some((text, wanted)) => shows(alloc, read_numeral(text.as_bytes()), wanted),
+        None => Ok(false),
+    }
+}
+
+fn is_ratio_so(alloc: Global, line: &str) -> Result<bool, NoMemory> {
+    match line.split_once(' ') {
+        Some((text, wanted)) => shows(alloc, read_ratio(text.as_bytes()), wanted),
+        None => Ok(false),
+    }
 }
 
 #[test]
 fn numerals_are_rounded_once(rt: HostRuntime) -> Result<(), Fail> {
     for line in NUMERALS.lines() {
-        let Some((text, wanted)) = line.split_once(' ') else {
-            panic!(rt; "no value");
-        };
-        if !shows(&rt, read_numeral(text.as_bytes()), wanted)? {
-            panic!(rt; "{text} is not read as {wanted}");
+        if !is_numeral_so(rt.alloc(), line)? {
+            panic!(rt; "{line}");
         }
     }
-    assert!(rt; shows(&rt, read_numeral(b""), "F1")?);
-    assert!(rt; shows(&rt, read_numeral(b"1 "), "F1")?);
+    Ok(())
+}
+
+#[test]
+fn texts_with_blanks_are_no_numerals(rt: HostRuntime) -> Result<(), Fail> {
+    assert!(rt; shows(rt.alloc(), read_numeral(b""), "F1")?);
+    assert!(rt; shows(rt.alloc(), read_numeral(b"1 "), "F1")?);
     Ok(())
 }
 
 #[test]
 fn quotients_are_exact(rt: HostRuntime) -> Result<(), Fail> {
     for line in RATIOS.lines() {
-        let Some((text, wanted)) = line.split_once(' ') else {
-            panic!(rt; "no value");
-        };
-        if !shows(&rt, read_ratio(text.as_bytes()), wanted)? {
-            panic!(rt; "{text} is not read as {wanted}");
+        if !is_ratio_so(rt.alloc(), line)? {
+            panic!(rt; "{line}");
         }
     }
     Ok(())

@@ -1,6 +1,6 @@
 //! Single words of a line.
-use script_reader::{Place, ScriptFault, count_at, kind_of, object_at};
-use std::test::Fail;
+use script_reader::{Object, Place, ScriptFault, count_at, kind_of, object_at};
+use std::alloc::Global;
 
 // Each line has a word, and the kind and the name of the object that it names, or a dash.
 const OBJECTS: &str = "\
@@ -32,30 +32,61 @@ const COUNTS: &str = "\
 1e0 -\n\
 x -";
 
+// Hidden from the proofs, which need not know the lines.
+fn objects() -> &'static str {
+    OBJECTS
+}
+
+fn counts() -> &'static str {
+    COUNTS
+}
+
+fn is_named(object: &Object, kind: &str, name: &str) -> bool {
+    kind_of(kind) == Some(object.kind) && object.name.as_str() == name
+}
+
+fn is_read(read: &Result<Object, ScriptFault>, wanted: &str) -> bool {
+    match read {
+        Ok(object) => match wanted.split_once(' ') {
+            Some((kind, name)) => is_named(object, kind, name),
+            None => false,
+        },
+        Err(fault) => *fault == ScriptFault::BadObject && wanted == "-",
+    }
+}
+
+fn is_object_so(alloc: Global, line: &str) -> bool {
+    let Some((word, wanted)) = line.split_once(' ') else {
+        return false;
+    };
+    let read = object_at(alloc, word, Place::Node);
+    is_read(&read, wanted)
+}
+
+fn is_count(count: Option<u32>, wanted: &str) -> bool {
+    match count {
+        Some(count) => wanted.parse() == Ok(count),
+        None => wanted == "-",
+    }
+}
+
+fn is_count_so(line: &str) -> bool {
+    match line.split_once(' ') {
+        Some((word, wanted)) => is_count(count_at(word, 1, 65535), wanted),
+        None => false,
+    }
+}
+
 #[test]
-fn objects_and_counts(rt: HostRuntime) -> Result<(), Fail> {
-    for line in OBJECTS.lines() {
-        let words: Vec<&str> = line.split(' ').collect(rt.alloc())?;
-        if words.len() < 2 {
-            panic!(rt; "two words");
-        }
-        match object_at(rt.alloc(), words[0], Place::Node) {
-            Ok(object) => {
-                assert!(rt; words.len() == 3);
-                assert!(rt; kind_of(words[1]) == Some(object.kind));
-                assert_eq!(rt; object.name.as_str(), words[2]);
-            }
-            Err(fault) => assert!(rt; fault == ScriptFault::BadObject && words[1] == "-"),
-        }
+fn words_name_objects(rt: HostRuntime) {
+    for line in objects().lines() {
+        assert!(rt; is_object_so(rt.alloc(), line), "{line}");
     }
-    for line in COUNTS.lines() {
-        let Some((word, wanted)) = line.split_once(' ') else {
-            panic!(rt; "two words");
-        };
-        match count_at(word, 1, 65535) {
-            Some(count) => assert_eq!(rt; format!(in rt.alloc(); "{count}")?.as_str(), wanted),
-            None => assert_eq!(rt; "-", wanted),
-        }
+}
+
+#[test]
+fn words_are_counts(rt: HostRuntime) {
+    for line in counts().lines() {
+        assert!(rt; is_count_so(line), "{line}");
     }
-    Ok(())
 }
