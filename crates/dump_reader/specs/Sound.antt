@@ -1,8 +1,8 @@
--- What the first pass over a dump leaves for the second: as many names as prototypes, few enough nodes, and in each record
--- numbers within their ranges.
+-- What the first pass over a dump leaves for the second: as many names as prototypes, few enough nodes, in each record numbers
+-- within their ranges, and no variants of fluids.
 use Rattle.std.specs.Prelude.{◌≡◌, ◌+◌, ◌≤◌, All, IfSome, length}
 use Rattle.fractions.specs.Fraction.{◌<ʳ◌, zero_fraction}
-use Rattle.game_types.specs.Sound.{IsSoundBonus}
+use Rattle.game_types.specs.Sound.{ArePlain, IsSoundBonus}
 use Rattle.game_types.specs.declared.games.TheConstants.{NODE_LIMIT}
 use Rattle.dump_reader.specs.declared.raw.RawEnergy.{RawEnergy}
 use Rattle.dump_reader.specs.declared.raw.RawEnergy.TheVariants as energy
@@ -55,4 +55,5 @@ pub record IsSoundDraft (g : RawGame) : Type 0 where
   pub counted : g.nodes ≡ 3 + length g.items + length g.fluids + length g.recipes + length g.sources + length g.machines + length g.techs
   pub few : g.nodes ≤ NODE_LIMIT
   pub items : All IsSoundRawItem g.items
+  pub fluids : ArePlain g.fluids
   pub machines : All IsSoundRawMachine g.machines
