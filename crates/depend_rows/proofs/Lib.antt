@@ -13,3 +13,5 @@ pub mod Signs
 pub mod TouchLemmas
 pub mod Walks
 pub mod TouchedNodes
+pub mod BaseLemmas
+pub mod FoundLemmas
