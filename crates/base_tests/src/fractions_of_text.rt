@@ -29,6 +29,11 @@ cmp 999999999999999998/999999999999999999 999999999999999997/999999999999999998 
 cmp -1/999999999999999999 -1/999999999999999998 1\n\
 cmp 5 4/999999999999999999 1";
 
+// Hidden from the proofs, which need not know the lines.
+fn results() -> &'static str {
+    RESULTS
+}
+
 fn fraction(text: &str) -> Ratio {
     read_ratio(text.as_bytes()).unwrap_or(Ratio::zero())
 }
@@ -101,7 +106,7 @@ fn is_so(alloc: Global, line: &str) -> Result<bool, NoMemory> {
 
 #[test]
 fn results_are_exact(rt: HostRuntime) -> Result<(), Fail> {
-    for line in RESULTS.lines() {
+    for line in results().lines() {
         if !is_so(rt.alloc(), line)? {
             panic!(rt; "{line}");
         }

@@ -1,10 +1,12 @@
-//! Tests of the small crates: lists, names, fractions, energies, the queue of nodes and the check of plans.
+//! Tests of the small crates: lists, files, names, fractions, energies, the queue of nodes and the check of plans.
 #![tactic(auto)]
 
 #[cfg(test)]
 mod certificates;
 #[cfg(test)]
 mod energies;
+#[cfg(test)]
+mod files;
 #[cfg(test)]
 mod fractions_of_text;
 #[cfg(test)]
