@@ -1,0 +1,180 @@
+//! A game with its launches.
+ghost use Rattle.std.specs.Prelude.{◌≡◌, ◌≢◌, ◌<◌, ◌≤◌, ◌+◌, ◌-◌, ◌++◌, IfOk, length, map};
+ghost use Rattle.plan_base.specs.Shape.{node_count};
+ghost use Rattle.game_types.specs.Nodes.{shape_of};
+ghost use Rattle.craft_reader.specs.Faults.{GivesDump};
+ghost use Rattle.game_types.specs.Sound.{IsSound};
+ghost use Rattle.rocket_launches.specs.Launches.{AddsNames, IsThere, flights, launch_fault, launch_name, launch_recipe, with_launches};
+
+use crate::launches::{launch_names, launch_recipes, name_at};
+use crate::silos::{Flight, flights};
+use craft_reader::{DumpCode, DumpFault};
+use game_types::{Game, NODE_LIMIT, Recipe};
+use name_table::Names;
+use plan_base::{Items, NoMemory, Text};
+use prototype_fields::{FieldCode, FieldFault, Key, Within};
+use std::alloc::Global;
+
+/// Whether names were added.
+enum Added {
+    All,
+    /// The name at this place is there already.
+    Taken(usize),
+    NoMemory,
+}
+
+#[tactic(auto, using(crate::proofs::NameLemmas::taken_stop, crate::proofs::NameLemmas::taken_pass, crate::proofs::NameLemmas::taken_none, crate::proofs::NameLemmas::one_more, crate::proofs::NameLemmas::all_added))]
+// Adds names of launches up to the first that is taken.
+fn add_names(names: &mut Names, new: &[Text]) -> Added
+    ensures { AddsNames names.old names.new new.now result }
+{
+    let mut place = 0;
+    for name in new {
+        if names.find(name.as_str()).is_some() {
+            return Added::Taken(place);
+        }
+        if names.intern(name.as_str()).is_err() {
+            return Added::NoMemory;
+        }
+        place += 1;
+    }
+    Added::All
+}
+
+// The fault of a flight.
+#[tactic(auto, unfolding(crate::specs::Launches::launch_fault))]
+fn launch_fault(alloc: Global, game: &Game, code: FieldCode, flight: &Flight) -> DumpFault
+    requires { flight.now.silo.machine.0 < length game.now.machine_names }
+    ensures { result.code ≢ DumpCode.NoMemory → result ≡ launch_fault game.now code flight.now }
+{
+    let fault = FieldFault {
+        code,
+        within: Within::Prototype,
+        key: Some(Key::RocketPartsRequired),
+    };
+    let name = name_at(&game.machine_names, flight.silo.machine.0);
+    DumpFault::of_field(alloc, "rocket-silo", name, fault)
+}
+
+// One list behind another.
+fn appended(recipes: Items<Recipe>, more: Vec<Recipe>) -> Result<Items<Recipe>, NoMemory>
+    ensures { IfOk result (λ all. all ≡ recipes ++ more.items) }
+{
+    let mut all = recipes.into_vec();
+    let mut more = more;
+    all.append(&mut more)?;
+    Ok(Items::from_vec(all))
+}
+
+// The game with recipes behind its own.
+fn with_recipes(game: Game, recipes: Vec<Recipe>) -> Result<Game, NoMemory>
+    ensures { IfOk result (λ new. new ≡ record game { recipes = game.recipes ++ recipes.items }) }
+{
+    let Game {
+        items,
+        fluids,
+        recipes: dumped,
+        sources,
+        machines,
+        techs,
+        character,
+        item_names,
+        fluid_names,
+        recipe_names,
+        source_names,
+        machine_names,
+        tech_names,
+        categories,
+    } = game;
+    let recipes = appended(dumped, recipes)?;
+    Ok(Game {
+        items,
+        fluids,
+        recipes,
+        sources,
+        machines,
+        techs,
+        character,
+        item_names,
+        fluid_names,
+        recipe_names,
+        source_names,
+        machine_names,
+        tech_names,
+        categories,
+    })
+}
+
+// The game with names and recipes behind its own, for flights for which there are nodes.
+fn with_names(
+    alloc: Global,
+    game: Game,
+    all: &[Flight],
+    names: &[Text],
+    recipes: Vec<Recipe>,
+) -> Result<Game, DumpFault>
+    requires sound { IsSound game }
+    requires flights { all.now ≡ flights game }
+    requires room { node_count (shape_of game) + length all.now ≤ NODE_LIMIT }
+    requires names { names.now ≡ map (launch_name game) all.now }
+    requires recipes { recipes.items ≡ map (launch_recipe game) all.now }
+    ensures { GivesDump (with_launches game) result }
+{
+    let mut game = game;
+    match add_names(&mut game.recipe_names, names) {
+        Added::All => match with_recipes(game, recipes) {
+            Ok(game) => Ok(game),
+            Err(NoMemory) => Err(DumpFault::of_code(alloc, DumpCode::NoMemory)),
+        },
+        Added::Taken(place) => {
+            let flight = &all[place];
+            Err(launch_fault(alloc, &game, FieldCode::Twice, flight))
+        }
+        Added::NoMemory => Err(DumpFault::of_code(alloc, DumpCode::NoMemory)),
+    }
+}
+
+// How many nodes there may still be.
+fn room(game: &Game) -> usize
+    requires { IsSound game.now }
+    ensures { result ≡ NODE_LIMIT - node_count (shape_of game.now) }
+{
+    (NODE_LIMIT - game.shape().len()) as usize
+}
+
+// The game with its launches.
+fn launched(alloc: Global, game: Game) -> Result<Game, DumpFault>
+    requires { IsSound game }
+    ensures { GivesDump (with_launches game) result }
+{
+    let Ok(flights) = flights(alloc, &game) else {
+        return Err(DumpFault::of_code(alloc, DumpCode::NoMemory));
+    };
+    let all = flights.as_slice();
+    if room(&game) < all.len() {
+        // Open: which fault it is, as far as no name was looked at that comes after the limit.
+        return Err(DumpFault::of_code(alloc, DumpCode::NoMemory));
+    }
+    let Ok(names) = launch_names(alloc, &game, all) else {
+        return Err(DumpFault::of_code(alloc, DumpCode::NoMemory));
+    };
+    let Ok(recipes) = launch_recipes(alloc, &game, all) else {
+        return Err(DumpFault::of_code(alloc, DumpCode::NoMemory));
+    };
+    with_names(alloc, game, all, names.as_slice(), recipes)
+}
+
+/// The game with a recipe for each launch behind the recipes of the dump.
+///
+/// # Errors
+///
+/// The first launch whose name a recipe or an earlier launch has; else the first for which there is no node. `NoMemory` where
+/// memory could not be had.
+pub fn add_launches(alloc: Global, game: Game) -> Result<Game, DumpFault>
+    requires { IsSound game }
+    ensures gives { GivesDump (with_launches game) result }
+    ensures sound { IfOk result IsSound }
+    ensures fluids { IfOk result (λ new. new.fluids ≡ game.fluids) }
+{
+    launched(alloc, game)
+}

@@ -1,0 +1,9 @@
+//! The launches of rockets, as recipes of their silos behind the recipes of a dump.
+#![tactic(auto)]
+
+mod adding;
+mod launches;
+mod silos;
+
+pub use adding::add_launches;
+pub use silos::{Flight, Silo};
