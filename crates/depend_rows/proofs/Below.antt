@@ -1,11 +1,12 @@
 -- The members of the rows of a sound game are nodes.
 use Rattle.std.proofs.Common.{◌≡◌, ◌∙◌, ◌<◌, ◌≤◌, ◌+◌, ◌-◌, ◌++◌, ℕ, zero, suc, Bool, true, false, cond, List, [], ◌∷◌, length, map, refl, ap, sym, subst, arith}
 use Rattle.std.specs.Prelude.{◌==◌, All, IfSome, Option, Some, None, filter, if◌then◌else◌, nat_lt, not}
-use Rattle.std.specs.List.{list_any, range_with_len, AllByRecursion}
+use Rattle.std.specs.List.{cons_option, filter_map, list_any, range_with_len, AllByRecursion}
 use Rattle.std.proofs.lemmas.Bool.Decides.{nat_tests}
 use Rattle.fractions.specs.Fraction.{Fraction}
 use Rattle.plan_base.specs.Shape.{node_count}
 use Rattle.plan_base.specs.declared.ids.NodeId.{NodeId}
+use Rattle.plan_base.specs.declared.ids.EntityId.{EntityId}
 use Rattle.plan_base.specs.declared.ids.GoodId.{GoodId}
 use Rattle.graph_store.specs.declared.Group.{Group}
 use Rattle.graph_store.specs.declared.Row.{Row}
@@ -19,11 +20,13 @@ use Rattle.game_types.specs.declared.machinery.Energy.TheVariants.{Electric, Bur
 use Rattle.game_types.specs.declared.machinery.Machine.{Machine}
 use Rattle.game_types.specs.declared.machinery.MachineKind.{MachineKind}
 use Rattle.game_types.specs.declared.machinery.MachineKind.TheVariants.{Crafter, Drill, Pump, Boiler, Generator, BurnerGenerator, Solar, Reactor, Lab, Beacon}
+use Rattle.game_types.specs.Temperatures.{fits_alone, fluid_at, is_base, is_fit_variant}
+use Rattle.game_types.specs.declared.recipes.Part.{Part}
 use Rattle.game_types.specs.declared.recipes.Recipe.{Recipe}
 use Rattle.game_types.specs.declared.recipes.Source.{Source}
 use Rattle.game_types.specs.declared.research.Tech.{Tech}
 use Rattle.depend_rows.specs.Members.{all_of, any_of, character_where, good_node, group_where, named, node, row_with, those}
-use Rattle.depend_rows.specs.Making.{first_recipe, first_source, first_machine, first_tech, good_count, givers, good_row, ingredients, crafters, unlockers, recipe_row, miners, fluid_group, source_row}
+use Rattle.depend_rows.specs.Making.{first_recipe, first_source, first_machine, first_tech, good_count, bounded_group, bounded_groups, crafters_by, fits, free_good, givers, good_row, ingredients, is_free, leavers, makers, putters, variants, crafters, unlockers, recipe_row, miners, fluid_group, source_row}
 use Rattle.depend_rows.specs.Doing.{placers, fuels_taken, burning_fluids, fluid_or_burning, energy_groups, given_input, input_groups, machine_row, labs, prerequisites, science_packs, tech_row, electricity_row, heat_row, makes_electricity, makes_heat}
 use Rattle.depend_rows.specs.Rows.{row_of, rows_of, special_row, tech_at}
 
@@ -88,24 +91,46 @@ module _ (g : Game) (sound : IsSound g) (high : ℕ) (enough : node_count (shape
   one_fluid fluid is = group high (good_node fluid ∷ []) (omega (arith, is.1, enough), tt)
 
   good_below : (good : ℕ) → BelowRow high (good_row g good)
-  unfolding good_row givers
-  good_below good = row high (any_of (givers g good) ∷ []) (
-    group high (givers g good)
-        (both_parts (λ (m : NodeId). m.0 < high) _ _
-        (both_parts (λ (m : NodeId). m.0 < high) _ _
-        (both_parts (λ (m : NodeId). m.0 < high) _ _
-        (below_those high _ 3 g.items (omega (arith, enough))) (below_those high _ (first_recipe g) g.recipes (omega (arith, enough))))
-        (below_those high _ (first_source g) g.sources (omega (arith, enough))))
-        (below_those high _ (first_machine g) g.machines (omega (arith, enough)))),
-    tt,
-  )
+  unfolding good_row givers makers variants leavers putters
+  good_below good = row high (any_of (givers g good) ∷ []) (group high (givers g good) (by_base (is_base g good)), tt)
+    where
+      made : Below high (makers g good)
+      made = both_parts (λ (m : NodeId). m.0 < high) _ _ (below_those high _ (first_recipe g) g.recipes (omega (arith, enough))) (below_those high _ (first_source g) g.sources (omega (arith, enough)))
+
+      by_base : (b : Bool) → Below high (if b then variants g good ++ makers g good else leavers g good ++ makers g good ++ putters g good)
+      by_base true = both_parts (λ (m : NodeId). m.0 < high) _ _ (below_those high _ (3 + length g.items) g.fluids (omega (arith, enough))) made
+      by_base false =
+          both_parts (λ (m : NodeId). m.0 < high) _ _
+          (both_parts (λ (m : NodeId). m.0 < high) _ _ (below_those high _ 3 g.items (omega (arith, enough))) made)
+          (below_those high _ (first_machine g) g.machines (omega (arith, enough)))
+
+  fits_below : (part : Part) → Below high (fits g part)
+  unfolding fits
+  fits_below part = by_tests (is_base g part.good.0) (fits_alone part.low part.high (fluid_at g part.good.0))
+    where
+      by_tests : (base alone : Bool) → Below high (if base then those (is_fit_variant part.good.0 part.low part.high) (3 + length g.items) g.fluids else if alone then named 3 (good_count g) (part.good.0 ∷ []) else [])
+      by_tests true alone = below_those high _ (3 + length g.items) g.fluids (omega (arith, enough))
+      by_tests false true = below_named high 3 (good_count g) (part.good.0 ∷ []) (omega (arith, enough))
+      by_tests false false = tt
+
+  bounded_below : (parts : List Part) → BelowGroups high (filter_map (bounded_group g) parts)
+  bounded_below [] = tt
+  bounded_below (part ∷ parts) = by_free (is_free part) (bounded_below parts)
+    where
+      by_free : (b : Bool) → BelowGroups high (filter_map (bounded_group g) parts) → BelowGroups high (cons_option (if b then None else Some (any_of (fits g part))) (filter_map (bounded_group g) parts))
+      by_free true rest = rest
+      by_free false rest = (group high (fits g part) (fits_below part), rest)
+
+  crafters_below : (number : ℕ) (recipe : Recipe) → (launch : Option EntityId) → Below high (crafters_by g number recipe launch)
+  crafters_below number recipe None = both_parts (λ (m : NodeId). m.0 < high) _ _ (below_character high _ (omega (arith, enough))) (below_those high _ (first_machine g) g.machines (omega (arith, enough)))
+  crafters_below number recipe (Some silo) = below_named high (first_machine g) (length g.machines) (silo.0 ∷ []) (omega (arith, enough))
 
   recipe_below : (number : ℕ) (recipe : Recipe) → BelowRow high (recipe_row g number recipe)
-  unfolding recipe_row ingredients crafters unlockers
-  recipe_below number recipe = row high (all_of (ingredients g recipe) ∷ any_of (crafters g number recipe) ∷ group_where (not recipe.enabled) (any_of (unlockers g number))) (
-    group high (ingredients g recipe) (below_named high 3 (good_count g) (map (λ part. part.good.0) recipe.ingredients) (omega (arith, enough))),
-    (
-      group high (crafters g number recipe) (both_parts (λ (m : NodeId). m.0 < high) _ _ (below_character high _ (omega (arith, enough))) (below_those high _ (first_machine g) g.machines (omega (arith, enough)))),
+  unfolding recipe_row ingredients bounded_groups crafters unlockers
+  recipe_below number recipe = row high (all_of (ingredients g recipe) ∷ (bounded_groups g recipe ++ (any_of (crafters g number recipe) ∷ group_where (not recipe.enabled) (any_of (unlockers g number))))) (
+    group high (ingredients g recipe) (below_named high 3 (good_count g) (filter_map free_good recipe.ingredients) (omega (arith, enough))),
+    both_parts (BelowGroup high) _ _ (bounded_below recipe.ingredients) (
+      group high (crafters g number recipe) (crafters_below number recipe recipe.launch),
       below_where high (not recipe.enabled) (any_of (unlockers g number)) (group high (unlockers g number) (below_those high _ (first_tech g) g.techs (omega (arith, enough)))),
     ),
   )

@@ -12,3 +12,5 @@ pub mod Ranges
 pub mod Signs
 pub mod TouchLemmas
 pub mod Walks
+pub mod BaseLemmas
+pub mod FoundLemmas

@@ -10,7 +10,9 @@ use Rattle.game_types.specs.declared.machinery.MachineKind.{MachineKind}
 use Rattle.game_types.specs.declared.machinery.MachineKind.TheVariants.{Crafter, Drill, Pump, Boiler, Generator, BurnerGenerator, Solar, Reactor, Lab, Beacon}
 use Rattle.std.proofs.lemmas.Bool.Decides.{nat_tests}
 use Rattle.plan_base.specs.Shape.{first_of}
+use Rattle.plan_base.specs.declared.ids.EntityId.{EntityId}
 use Rattle.plan_base.specs.declared.ids.GoodId.{GoodId}
+use Rattle.game_types.specs.Temperatures.{fluid_at, is_base}
 use Rattle.plan_base.specs.declared.ids.NodeId.{NodeId}
 use Rattle.plan_base.specs.declared.ids.RecipeId.{RecipeId}
 use Rattle.plan_base.specs.declared.ids.TechId.{TechId}
@@ -36,7 +38,7 @@ use Rattle.data_edit.proofs.EffectLaw.{effect_law}
 use Rattle.data_edit.proofs.Places.{with_at-past}
 use Rattle.depend_rows.proofs.OrderLemmas.{those_same}
 use Rattle.depend_rows.specs.Members.{node, those}
-use Rattle.depend_rows.specs.Making.{first_recipe, first_source, first_machine, first_tech, givers, good_row, ingredients, crafters, unlockers, recipe_row, miners, source_row}
+use Rattle.depend_rows.specs.Making.{first_recipe, first_source, first_machine, first_tech, bounded_groups, crafters_by, fits, givers, good_row, ingredients, leavers, makers, putters, variants, crafters, unlockers, recipe_row, miners, source_row}
 use Rattle.depend_rows.specs.Doing.{placers, fuels_taken, burning_fluids, fluid_or_burning, energy_groups, input_groups, machine_row, labs, prerequisites, science_packs, tech_row, electricity_row, heat_row}
 use Rattle.depend_rows.specs.Rows.{row_of, special_row, tech_at, no_tech}
 use Rattle.depend_rows.specs.Touched.{good_node_in, recipe_node, touched_by, StaysAs, TouchesAll}
@@ -128,12 +130,16 @@ module _ (g : Game) (rs : List Recipe) (long : length rs ≡ length g.recipes) w
   special_same n = if_same (n == 0) _ _ _ _ (λ _. refl) (λ _. if_same (n == 1) _ _ _ _ (λ _. electricity_same) (λ _. heat_same))
 
   good_same : (good : ℕ) → those (λ recipe. gives recipe.products good) (first_recipe g) rs ≡ those (λ recipe. gives recipe.products good) (first_recipe g) g.recipes → good_row (with_recipes g rs) good ≡ good_row g good
-  unfolding good_row givers
+  unfolding good_row givers is_base leavers variants makers putters
   good_same good same = rw (same, long)
 
+  crafters_same : (k : ℕ) (recipe : Recipe) (launch : Option EntityId) → crafters_by (with_recipes g rs) k recipe launch ≡ crafters_by g k recipe launch
+  crafters_same k recipe None = rw long
+  crafters_same k recipe (Some silo) = rw long
+
   recipe_same : (k : ℕ) (recipe : Recipe) → recipe_row (with_recipes g rs) k recipe ≡ recipe_row g k recipe
-  unfolding recipe_row ingredients crafters unlockers
-  recipe_same k recipe = rw long
+  unfolding recipe_row ingredients bounded_groups fits is_base fluid_at crafters unlockers
+  recipe_same k recipe = rw (crafters_same k recipe recipe.launch, long)
 
   source_same : (source : Source) → source_row (with_recipes g rs) source ≡ source_row g source
   unfolding source_row miners
@@ -194,11 +200,11 @@ with_techs g ts = record g { techs = ts }
 module _ (g : Game) (ts : List Tech) (long : length ts ≡ length g.techs) where
   unlocked_same : (k : ℕ) (recipe : Recipe) → those (λ tech. list_any (λ r. r.0 == k) tech.unlocks) (first_tech g) ts ≡ those (λ tech. list_any (λ r. r.0 == k) tech.unlocks) (first_tech g) g.techs
       → recipe_row (with_techs g ts) k recipe ≡ recipe_row g k recipe
-  unfolding recipe_row ingredients crafters unlockers
+  unfolding recipe_row ingredients bounded_groups fits is_base fluid_at crafters unlockers
   unlocked_same k recipe same = rw same
 
   good_kept : (good : ℕ) → good_row (with_techs g ts) good ≡ good_row g good
-  unfolding good_row givers
+  unfolding good_row givers is_base leavers variants makers putters
   good_kept good = refl
 
   source_kept : (source : Source) → source_row (with_techs g ts) source ≡ source_row g source
@@ -347,10 +353,14 @@ crafts_unseen k time old (Lab inputs speed) = refl
 crafts_unseen k time old (Beacon effectivity) = refl
 
 time_unseen : (g : Game) (k : ℕ) (time : Fraction) (old : Recipe) → recipe_row g k (record old { time = time }) ≡ recipe_row g k old
-unfolding recipe_row ingredients crafters unlockers
-time_unseen g k time old =
-    let machines = those_same (λ (machine : Machine). kind_crafts machine.kind k (record old { time = time })) (λ (machine : Machine). kind_crafts machine.kind k old) (λ machine. crafts_unseen k time old machine.kind) g.machines (first_machine g) in
-    rw machines
+unfolding recipe_row ingredients bounded_groups crafters unlockers
+time_unseen g k time old = rw (by_launch old.launch) refl
+  where
+    by_launch : (launch : Option EntityId) → crafters_by g k (record old { time = time }) launch ≡ crafters_by g k old launch
+    by_launch None =
+        let machines = those_same (λ (machine : Machine). kind_crafts machine.kind k (record old { time = time })) (λ (machine : Machine). kind_crafts machine.kind k old) (λ machine. crafts_unseen k time old machine.kind) g.machines (first_machine g) in
+        rw machines
+    by_launch (Some silo) = refl
 
 unlocks_unseen : (g : Game) (list : List RecipeId) (old : Tech) → tech_row g (record old { unlocks = list }) ≡ tech_row g old
 unfolding tech_row prerequisites science_packs labs

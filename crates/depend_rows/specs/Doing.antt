@@ -1,5 +1,5 @@
 -- What machines and technologies need.
-use Rattle.std.specs.Prelude.{ℕ, ◌+◌, ◌==◌, Bool, true, false, not, List, [], ◌∷◌, ◌++◌, Option, Some, None, length, map}
+use Rattle.std.specs.Prelude.{ℕ, ◌+◌, ◌==◌, ◌&&◌, Bool, true, false, not, is_none, List, [], ◌∷◌, ◌++◌, Option, Some, None, length, map}
 use Rattle.std.specs.List.{list_all, list_any}
 use Rattle.fractions.specs.Fraction.{Fraction}
 use Rattle.plan_base.specs.declared.ids.NodeId.{NodeId}
@@ -36,9 +36,9 @@ is_taken energy (Some fuel) = takes_fuel energy fuel
 unfoldable pub fuels_taken : Game → Energy → List NodeId
 fuels_taken g energy = those (λ item. is_taken energy item.fuel) 3 g.items
 
--- the fluids that burn
+-- the fluids that burn, without the variants
 unfoldable pub burning_fluids : Game → List NodeId
-burning_fluids g = those (λ fluid. is_positive fluid.fuel_value) (3 + length g.items) g.fluids
+burning_fluids g = those (λ fluid. is_none fluid.of && is_positive fluid.fuel_value) (3 + length g.items) g.fluids
 
 -- all of one fluid, or any that burns
 unfoldable pub fluid_or_burning : Game → Option GoodId → Group

@@ -3,13 +3,16 @@ use Rattle.std.specs.Prelude.{◌≡◌, false, true, length}
 use Rattle.game_types.specs.declared.games.Game.{Game}
 use Rattle.depend_rows.specs.declared.index.Index.{Index}
 use Rattle.depend_rows.specs.Members.{those}
-use Rattle.depend_rows.specs.Making.{first_machine, givers, good_count, unlockers}
+use Rattle.depend_rows.specs.Making.{first_machine, good_count, leavers, makers, putters, unlockers, variants}
 use Rattle.depend_rows.specs.Doing.{burning_fluids, placers}
 use Rattle.depend_rows.specs.Kinds.{crafts_all_of, crafts_alone, is_drill_of, is_fuel_of, is_lab, takes}
 use Rattle.depend_rows.specs.Lists.{AreLists, AreMarks}
 
 pub record IsIndex (g : Game) (index : Index) : Type 0 where
-  pub givers : AreLists (givers g) (good_count g) index.givers.items
+  pub leavers : AreLists (leavers g) (good_count g) index.leavers.items
+  pub variants : AreLists (variants g) (good_count g) index.variants.items
+  pub makers : AreLists (makers g) (good_count g) index.makers.items
+  pub putters : AreLists (putters g) (good_count g) index.putters.items
   pub unlockers : AreLists (unlockers g) (length g.recipes) index.unlockers.items
   pub placers : AreLists (placers g) (length g.machines) index.placers.items
   pub crafters : AreLists (λ category. those (λ machine. crafts_all_of machine.kind category) (first_machine g) g.machines) (length index.crafters.items) index.crafters.items

@@ -1,21 +1,24 @@
 -- What goods, recipes and sources need.
-use Rattle.std.specs.Prelude.{ℕ, ◌+◌, ◌==◌, Bool, false, not, List, [], ◌∷◌, ◌++◌, Option, Some, None, length, map}
-use Rattle.std.specs.List.{list_any}
+use Rattle.std.specs.Prelude.{ℕ, ◌+◌, ◌==◌, ◌&&◌, Bool, false, not, List, [], ◌∷◌, ◌++◌, Option, Some, None, is_none, length, if◌then◌else◌}
+use Rattle.std.specs.List.{filter_map, list_any}
 use Rattle.fractions.specs.Fraction.{Fraction}
 use Rattle.plan_base.specs.Shape.{first_of}
 use Rattle.plan_base.specs.declared.ids.NodeId.{NodeId}
+use Rattle.plan_base.specs.declared.ids.EntityId.{EntityId}
 use Rattle.plan_base.specs.declared.ids.GoodId.{GoodId}
 use Rattle.plan_base.specs.declared.shape.Kind.TheVariants.{Recipe as RecipeKind, Source as SourceKind, Machine as MachineKind_, Tech as TechKind}
 use Rattle.graph_store.specs.declared.Group.{Group}
 use Rattle.graph_store.specs.declared.Row.{Row}
+use Rattle.game_types.specs.Temperatures.{fits_alone, fluid_at, is_base, is_fit_variant, is_good}
 use Rattle.game_types.specs.Making.{character_crafts, character_mines, gives, kind_crafts, kind_mines}
 use Rattle.game_types.specs.Nodes.{shape_of}
 use Rattle.game_types.specs.declared.games.Game.{Game}
 use Rattle.game_types.specs.declared.machinery.MachineKind.{MachineKind}
 use Rattle.game_types.specs.declared.machinery.MachineKind.TheVariants.{Pump, Boiler}
+use Rattle.game_types.specs.declared.recipes.Part.{Part}
 use Rattle.game_types.specs.declared.recipes.Recipe.{Recipe}
 use Rattle.game_types.specs.declared.recipes.Source.{Source}
-use Rattle.depend_rows.specs.Members.{all_of, any_of, character_where, good_node, group_where, is_good, named, row_with, those}
+use Rattle.depend_rows.specs.Members.{all_of, any_of, character_where, good_node, group_where, named, row_with, those}
 
 -- the number of the first node of each kind
 abbrev pub first_recipe : Game → ℕ
@@ -41,37 +44,76 @@ puts_out (Pump fluid speed) good = fluid.0 == good
 puts_out (Boiler input output temperature) good = is_good output good
 puts_out kind good = false
 
--- what gives a good: the items that leave it when they are burnt, the recipes and the sources that give it, and the
--- machines that put it out. An item is left and is not put out, and a fluid is put out and is not left
-unfoldable pub givers : Game → ℕ → List NodeId
-givers g good = those (λ item. is_good item.burnt good) 3 g.items
-    ++ those (λ recipe. gives recipe.products good) (first_recipe g) g.recipes
+-- the items that leave a good when they are burnt
+unfoldable pub leavers : Game → ℕ → List NodeId
+leavers g good = those (λ item. is_good item.burnt good) 3 g.items
+
+-- the variants of a base
+unfoldable pub variants : Game → ℕ → List NodeId
+variants g good = those (λ fluid. is_good fluid.of good) (3 + length g.items) g.fluids
+
+-- the recipes and the sources that give a good
+unfoldable pub makers : Game → ℕ → List NodeId
+makers g good = those (λ recipe. gives recipe.products good) (first_recipe g) g.recipes
     ++ those (λ source. gives source.products good) (first_source g) g.sources
-    ++ those (λ machine. puts_out machine.kind good) (first_machine g) g.machines
+
+-- the machines that put a good out
+unfoldable pub putters : Game → ℕ → List NodeId
+putters g good = those (λ machine. puts_out machine.kind good) (first_machine g) g.machines
+
+-- what gives a good. A base is had as any of its variants; an item is left and is not put out, and a fluid is put out and is
+-- not left
+unfoldable pub givers : Game → ℕ → List NodeId
+givers g good = if is_base g good then variants g good ++ makers g good else leavers g good ++ makers g good ++ putters g good
 
 -- a good needs any that gives it
 unfoldable pub good_row : Game → ℕ → Row
 good_row g good = row_with (any_of (givers g good) ∷ [])
 
 -- ---- recipes
-unfoldable pub ingredients : Game → Recipe → List NodeId
-ingredients g recipe = named 3 (good_count g) (map (λ part. part.good.0) recipe.ingredients)
+-- whether an ingredient is taken at any temperature
+abbrev pub is_free : Part → Bool
+is_free part = is_none part.low && is_none part.high
 
--- the character and the machines that craft a recipe
-unfoldable pub crafters : Game → ℕ → Recipe → List NodeId
-crafters g number recipe = character_where (character_crafts g.character (length g.items) recipe)
+abbrev pub free_good : Part → Option ℕ
+free_good part = if is_free part then Some part.good.0 else None
+
+-- the ingredients without a bound
+unfoldable pub ingredients : Game → Recipe → List NodeId
+ingredients g recipe = named 3 (good_count g) (filter_map free_good recipe.ingredients)
+
+-- the goods that fit an ingredient with a bound: of a base its variants within the bounds, else the good itself where it fits
+unfoldable pub fits : Game → Part → List NodeId
+fits g part =
+    if is_base g part.good.0 then those (is_fit_variant part.good.0 part.low part.high) (3 + length g.items) g.fluids
+    else if fits_alone part.low part.high (fluid_at g part.good.0) then named 3 (good_count g) (part.good.0 ∷ [])
+    else []
+
+abbrev pub bounded_group : Game → Part → Option Group
+bounded_group g part = if is_free part then None else Some (any_of (fits g part))
+
+-- a group for each ingredient with a bound
+unfoldable pub bounded_groups : Game → Recipe → List Group
+bounded_groups g recipe = filter_map (bounded_group g) recipe.ingredients
+
+-- the character and the machines that craft a recipe; a launch is crafted by its silo alone
+abbrev pub crafters_by : Game → ℕ → Recipe → Option EntityId → List NodeId
+crafters_by g number recipe None = character_where (character_crafts g.character (length g.items) recipe)
     ++ those (λ machine. kind_crafts machine.kind number recipe) (first_machine g) g.machines
+crafters_by g number recipe (Some silo) = named (first_machine g) (length g.machines) (silo.0 ∷ [])
+
+unfoldable pub crafters : Game → ℕ → Recipe → List NodeId
+crafters g number recipe = crafters_by g number recipe recipe.launch
 
 -- the technologies that unlock a recipe
 unfoldable pub unlockers : Game → ℕ → List NodeId
 unlockers g number = those (λ tech. list_any (λ r. r.0 == number) tech.unlocks) (first_tech g) g.techs
 
--- a recipe needs all its ingredients, any that crafts it, and where it isn't known from the start any that unlocks it
+-- a recipe needs all its ingredients without a bound, any that fits each of the others, any that crafts it, and where it isn't known from the start any that unlocks it
 unfoldable pub recipe_row : Game → ℕ → Recipe → Row
 recipe_row g number recipe = row_with (
     all_of (ingredients g recipe)
-    ∷ any_of (crafters g number recipe)
-    ∷ group_where (not recipe.enabled) (any_of (unlockers g number)))
+    ∷ (bounded_groups g recipe ++ (any_of (crafters g number recipe) ∷ group_where (not recipe.enabled) (any_of (unlockers g number)))))
 
 -- ---- sources
 -- the character and the drills that mine a source

@@ -26,11 +26,6 @@ character_where does = if does then node 0 ∷ [] else []
 abbrev pub good_node : GoodId → NodeId
 good_node good = node (3 + good.0)
 
--- whether there is a good and it is this one
-abbrev pub is_good : Option GoodId → ℕ → Bool
-is_good None good = false
-is_good (Some g) good = g.0 == good
-
 -- all of these are needed; any one of these is enough
 abbrev pub all_of : List NodeId → Group
 all_of members = record { all = true; members = members }

@@ -1,15 +1,17 @@
 //! What goods need: any that gives them.
-ghost use Rattle.std.specs.Prelude.{◌≡◌, ◌<◌, IfOk};
+ghost use Rattle.std.specs.Prelude.{◌≡◌, ◌<◌, ◌++◌, IfOk, length, nat_lt};
 ghost use Rattle.game_types.specs.Making.{expected_amount, is_positive};
 ghost use Rattle.depend_rows.specs.Indexed.{IsIndex};
-ghost use Rattle.depend_rows.specs.Making.{good_count, good_row};
+ghost use Rattle.game_types.specs.Temperatures.{is_base};
+ghost use Rattle.depend_rows.specs.Lists.{list_at};
+ghost use Rattle.depend_rows.specs.Making.{givers, good_count, good_row, leavers, makers, putters, variants};
 
 use crate::index::Index;
 use crate::lists::list_at;
 use crate::members::{any_of, row_with};
 use game_types::{Game, Product, is_positive};
 use graph_store::Row;
-use plan_base::NoMemory;
+use plan_base::{NoMemory, NodeId};
 use std::alloc::Global;
 use std::cmp::Ordering;
 
@@ -27,6 +29,85 @@ pub fn is_expected(product: &Product) -> bool
     }
 }
 
+// Whether the list of a number has any nodes.
+fn has_nodes(lists: &[Vec<NodeId>], number: u32) -> bool
+    requires { number < length lists.now }
+    ensures { result ≡ nat_lt 0 (length (list_at lists.now number)) }
+{
+    let list = &lists[number as usize];
+    list.len() > 0
+}
+
+/// Whether a good is a base.
+#[tactic(auto, using(crate::proofs::BaseLemmas::base_has_variants))]
+pub fn is_base(game: &Game, index: &Index, good: u32) -> bool
+    requires index { IsIndex game.now index.now }
+    requires good { good < good_count game.now }
+    ensures { result ≡ is_base game.now good }
+{
+    let _game = game;
+    has_nodes(index.variants.as_slice(), good)
+}
+
+// Appends the list of a number.
+fn push_list_at(nodes: &mut Vec<NodeId>, lists: &[Vec<NodeId>], number: u32) -> Result<(), NoMemory>
+    requires { number < length lists.now }
+    ensures { IfOk result (λ done. nodes.new.items ≡ nodes.old.items ++ list_at lists.now number) }
+{
+    let list = &lists[number as usize];
+    nodes.extend_from_slice(list.as_slice())?;
+    Ok(())
+}
+
+// What gives a base.
+fn base_givers(
+    alloc: Global,
+    game: &Game,
+    index: &Index,
+    good: u32,
+) -> Result<Vec<NodeId>, NoMemory>
+    requires index { IsIndex game.now index.now }
+    requires good { good < good_count game.now }
+    ensures { IfOk result (λ nodes. nodes.items ≡ variants game.now good ++ makers game.now good) }
+{
+    let _game = game;
+    let mut nodes = list_at(alloc, index.variants.as_slice(), good)?;
+    push_list_at(&mut nodes, index.makers.as_slice(), good)?;
+    Ok(nodes)
+}
+
+// What gives any other good.
+fn plain_givers(
+    alloc: Global,
+    game: &Game,
+    index: &Index,
+    good: u32,
+) -> Result<Vec<NodeId>, NoMemory>
+    requires index { IsIndex game.now index.now }
+    requires good { good < good_count game.now }
+    ensures { IfOk result (λ nodes. nodes.items ≡ leavers game.now good ++ makers game.now good ++ putters game.now good) }
+{
+    let _game = game;
+    let mut nodes = list_at(alloc, index.leavers.as_slice(), good)?;
+    push_list_at(&mut nodes, index.makers.as_slice(), good)?;
+    push_list_at(&mut nodes, index.putters.as_slice(), good)?;
+    Ok(nodes)
+}
+
+// What gives a good.
+#[tactic(auto, unfolding(crate::specs::Making::givers))]
+fn givers(alloc: Global, game: &Game, index: &Index, good: u32) -> Result<Vec<NodeId>, NoMemory>
+    requires index { IsIndex game.now index.now }
+    requires good { good < good_count game.now }
+    ensures { IfOk result (λ nodes. nodes.items ≡ givers game.now good) }
+{
+    if is_base(game, index, good) {
+        base_givers(alloc, game, index, good)
+    } else {
+        plain_givers(alloc, game, index, good)
+    }
+}
+
 /// The row of a good.
 #[tactic(auto, unfolding(crate::specs::Making::good_row))]
 pub fn good_row(alloc: Global, game: &Game, index: &Index, good: u32) -> Result<Row, NoMemory>
@@ -34,7 +115,7 @@ pub fn good_row(alloc: Global, game: &Game, index: &Index, good: u32) -> Result<
     requires good { good < good_count game.now }
     ensures { IfOk result (λ row. row ≡ good_row game.now good) }
 {
-    let group = any_of(list_at(alloc, index.givers.as_slice(), good)?);
+    let group = any_of(givers(alloc, game, index, good)?);
     let mut groups = Vec::new(alloc);
     groups.push(group)?;
     Ok(row_with(groups))

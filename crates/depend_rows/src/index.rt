@@ -4,8 +4,9 @@ ghost use Rattle.std.specs.List.{list_any};
 ghost use Rattle.std.specs.Option.{option_copied, option_to_list};
 ghost use Rattle.game_types.specs.Making.{gives};
 ghost use Rattle.game_types.specs.Sound.{IsSound};
-ghost use Rattle.depend_rows.specs.Members.{is_good, those};
-ghost use Rattle.depend_rows.specs.Making.{first_machine, first_recipe, first_source, givers, good_count, puts_out, unlockers};
+ghost use Rattle.game_types.specs.Temperatures.{is_good};
+ghost use Rattle.depend_rows.specs.Members.{those};
+ghost use Rattle.depend_rows.specs.Making.{first_machine, first_recipe, first_source, good_count, leavers, makers, putters, puts_out, unlockers, variants};
 ghost use Rattle.depend_rows.specs.Doing.{burning_fluids, is_machine, names_good, placers};
 ghost use Rattle.depend_rows.specs.Kinds.{crafts_all_of, crafts_alone, has_category, is_drill_of, is_fuel_of, takes};
 ghost use Rattle.depend_rows.specs.Lists.{AreLists, Extends, is_among};
@@ -14,10 +15,13 @@ use crate::goods::is_expected;
 use crate::lists::{Keys, empty_lists, extend_lists, lists_of};
 use crate::machines::burning_fluids;
 use crate::marks::marks_of;
-use crate::places::{first_machine, first_recipe, first_source, first_tech, good_count};
+use crate::places::{
+    first_fluid, first_machine, first_recipe, first_source, first_tech, good_count,
+};
 use crate::techs::all_labs;
 use game_types::{
-    Fuel, Game, Item, Machine, MachineKind, Product, Recipe, Source, Tech, holds, is_positive,
+    Fluid, Fuel, Game, Item, Machine, MachineKind, Product, Recipe, Source, Tech, holds,
+    is_positive,
 };
 use plan_base::{EntityId, GoodId, Items, NoMemory, NodeId, RecipeId};
 use std::alloc::Global;
@@ -25,8 +29,14 @@ use std::alloc::Global;
 /// The nodes that rows are put together from.
 #[derive(Drop)]
 pub struct Index {
-    /// For each good, what gives it.
-    pub givers: Vec<Vec<NodeId>>,
+    /// For each good, the items that leave it when they are burnt.
+    pub leavers: Vec<Vec<NodeId>>,
+    /// For each good, its variants.
+    pub variants: Vec<Vec<NodeId>>,
+    /// For each good, the recipes and sources that give it.
+    pub makers: Vec<Vec<NodeId>>,
+    /// For each good, the machines that put it out.
+    pub putters: Vec<Vec<NodeId>>,
     /// For each recipe, the technologies that unlock it.
     pub unlockers: Vec<Vec<NodeId>>,
     /// For each machine, the items that are placed as it.
@@ -122,6 +132,14 @@ impl Keys<Item> for Given {
 
     fn keys(&self, alloc: Global, item: &Item) -> Result<Vec<u32>, NoMemory> {
         good_number(alloc, item.burnt)
+    }
+}
+
+impl Keys<Fluid> for Given {
+    ghost about = { λ _ fluid good. is_good fluid.of good };
+
+    fn keys(&self, alloc: Global, fluid: &Fluid) -> Result<Vec<u32>, NoMemory> {
+        good_number(alloc, fluid.of)
     }
 }
 
@@ -356,11 +374,40 @@ impl Keys<Machine> for Taken {
 
 // ---- the lists
 
-fn extend_by_items(alloc: Global, game: &Game, lists: &mut [Vec<NodeId>]) -> Result<(), NoMemory>
+#[tactic(auto, unfolding(crate::specs::Making::leavers))]
+fn leavers(alloc: Global, game: &Game) -> Result<Vec<Vec<NodeId>>, NoMemory>
     requires { IsSound game.now }
-    ensures { OnOk result (Extends (λ good. those (λ item. is_good item.burnt good) 3 game.now.items) lists.old lists.new) }
+    ensures { IfOk result (λ lists. AreLists (leavers game.now) (good_count game.now) lists.items) }
 {
-    extend_lists(alloc, lists, 3, game.items.as_slice(), &Given)
+    lists_of(alloc, good_count(game), 3, game.items.as_slice(), &Given)
+}
+
+#[tactic(auto, unfolding(crate::specs::Making::variants))]
+fn variants(alloc: Global, game: &Game) -> Result<Vec<Vec<NodeId>>, NoMemory>
+    requires { IsSound game.now }
+    ensures { IfOk result (λ lists. AreLists (variants game.now) (good_count game.now) lists.items) }
+{
+    lists_of(
+        alloc,
+        good_count(game),
+        first_fluid(game),
+        game.fluids.as_slice(),
+        &Given,
+    )
+}
+
+#[tactic(auto, unfolding(crate::specs::Making::putters))]
+fn putters(alloc: Global, game: &Game) -> Result<Vec<Vec<NodeId>>, NoMemory>
+    requires { IsSound game.now }
+    ensures { IfOk result (λ lists. AreLists (putters game.now) (good_count game.now) lists.items) }
+{
+    lists_of(
+        alloc,
+        good_count(game),
+        first_machine(game),
+        game.machines.as_slice(),
+        &Given,
+    )
 }
 
 fn extend_by_recipes(alloc: Global, game: &Game, lists: &mut [Vec<NodeId>]) -> Result<(), NoMemory>
@@ -389,36 +436,21 @@ fn extend_by_sources(alloc: Global, game: &Game, lists: &mut [Vec<NodeId>]) -> R
     )
 }
 
-fn extend_by_machines(alloc: Global, game: &Game, lists: &mut [Vec<NodeId>]) -> Result<(), NoMemory>
+fn extend_by_makers(alloc: Global, game: &Game, lists: &mut [Vec<NodeId>]) -> Result<(), NoMemory>
     requires { IsSound game.now }
-    ensures { OnOk result (Extends (λ good. those (λ machine. puts_out machine.kind good) (first_machine game.now) game.now.machines) lists.old lists.new) }
+    ensures { OnOk result (Extends (makers game.now) lists.old lists.new) }
 {
-    extend_lists(
-        alloc,
-        lists,
-        first_machine(game),
-        game.machines.as_slice(),
-        &Given,
-    )
-}
-
-fn extend_by_givers(alloc: Global, game: &Game, lists: &mut [Vec<NodeId>]) -> Result<(), NoMemory>
-    requires { IsSound game.now }
-    ensures { OnOk result (Extends (givers game.now) lists.old lists.new) }
-{
-    extend_by_items(alloc, game, lists)?;
     extend_by_recipes(alloc, game, lists)?;
     extend_by_sources(alloc, game, lists)?;
-    extend_by_machines(alloc, game, lists)?;
     Ok(())
 }
 
-fn givers(alloc: Global, game: &Game) -> Result<Vec<Vec<NodeId>>, NoMemory>
+fn makers(alloc: Global, game: &Game) -> Result<Vec<Vec<NodeId>>, NoMemory>
     requires { IsSound game.now }
-    ensures { IfOk result (λ lists. AreLists (givers game.now) (good_count game.now) lists.items) }
+    ensures { IfOk result (λ lists. AreLists (makers game.now) (good_count game.now) lists.items) }
 {
     let mut lists = empty_lists(alloc, good_count(game))?;
-    extend_by_givers(alloc, game, lists.as_mut_slice())?;
+    extend_by_makers(alloc, game, lists.as_mut_slice())?;
     Ok(lists)
 }
 
@@ -525,7 +557,10 @@ impl Index {
         requires { IsSound game.now }
         ensures { IfOk result (IsIndex game.now) }
     {
-        let givers = givers(alloc, game)?;
+        let leavers = leavers(alloc, game)?;
+        let variants = variants(alloc, game)?;
+        let makers = makers(alloc, game)?;
+        let putters = putters(alloc, game)?;
         let unlockers = unlockers(alloc, game)?;
         let placers = placers(alloc, game)?;
         let crafters = crafters(alloc, game)?;
@@ -540,7 +575,10 @@ impl Index {
         let crafting = marks_of(alloc, categories, game.character.crafting.as_slice())?;
         let mining = marks_of(alloc, categories, game.character.mining.as_slice())?;
         Ok(Index {
-            givers,
+            leavers,
+            variants,
+            makers,
+            putters,
             unlockers,
             placers,
             crafters,

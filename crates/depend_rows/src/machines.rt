@@ -1,5 +1,5 @@
 //! What machines need, and what gives electricity and heat.
-ghost use Rattle.std.specs.Prelude.{◌≡◌, ◌↔◌, ◌<◌, ◌++◌, ◌∷◌, [], All, IfOk, IfSome, IsTrue, OnOk, length};
+ghost use Rattle.std.specs.Prelude.{◌&&◌, is_none, ◌≡◌, ◌↔◌, ◌<◌, ◌++◌, ◌∷◌, [], All, IfOk, IfSome, IsTrue, OnOk, length};
 ghost use Rattle.fractions.specs.Fraction.{Fraction};
 ghost use Rattle.game_types.specs.declared.machinery.Energy.TheVariants.{Burner};
 ghost use Rattle.game_types.specs.Making.{is_positive};
@@ -90,15 +90,15 @@ fn fuels_taken(
     }
 }
 
-// Whether a fluid burns.
+// Whether a fluid burns, and is no variant.
 #[derive(Drop)]
 struct Burning;
 
 impl Test<Fluid> for Burning {
-    ghost passes = { λ _ fluid. is_positive fluid.fuel_value };
+    ghost passes = { λ _ fluid. is_none fluid.of && is_positive fluid.fuel_value };
 
     fn passes(&self, fluid: &Fluid) -> bool {
-        is_positive(&fluid.fuel_value)
+        fluid.of.is_none() && is_positive(&fluid.fuel_value)
     }
 }
 

@@ -1,33 +1,66 @@
 //! What recipes and sources need.
-ghost use Rattle.std.specs.Prelude.{◌≡◌, ◌<◌, ◌++◌, IfOk, length, map, nat_lt, slice_get};
-ghost use Rattle.std.specs.List.{list_all};
+ghost use Rattle.std.specs.Prelude.{◌≡◌, ◌<◌, ◌++◌, ◌∷◌, [], All, IfOk, None, Some, length, map, nat_lt, slice_get};
+ghost use Rattle.std.specs.List.{cons_option, filter_map, list_all};
+ghost use Rattle.game_types.specs.Temperatures.{fits_alone, fluid_at, is_fit_variant, is_good};
 ghost use Rattle.game_types.specs.Making.{character_crafts, character_mines, is_fixed_to_another, kind_crafts, kind_mines};
-ghost use Rattle.game_types.specs.Sound.{IsSound, IsSoundRecipe, IsSoundSource};
+ghost use Rattle.game_types.specs.Sound.{IsGood, IsSound, IsSoundRecipe, IsSoundSource};
 ghost use Rattle.depend_rows.specs.Indexed.{IsIndex};
 ghost use Rattle.depend_rows.specs.Lists.{list_at, AreLists, AreMarks, HoldInOrder};
 ghost use Rattle.depend_rows.specs.Kinds.{is_drill_of};
-ghost use Rattle.depend_rows.specs.Members.{those};
-ghost use Rattle.depend_rows.specs.Making.{crafters, first_machine, ingredients, miners, recipe_row, source_row};
+ghost use Rattle.depend_rows.specs.Members.{named, those};
+ghost use Rattle.depend_rows.specs.Making.{bounded_group, bounded_groups, crafters, crafters_by, first_machine, fits, free_good, good_count, ingredients, is_free, miners, recipe_row, source_row};
 
+use crate::goods::is_base;
 use crate::index::Index;
 use crate::lists::list_at;
 use crate::marks::is_marked;
 use crate::members::{Test, all_of, all_of_good, any_of, named, row_with, those, with_character};
-use crate::places::{first_machine, good_count};
+use crate::places::{first_fluid, first_machine, good_count};
 use crate::unions::{in_order, push_list};
-use game_types::{Character, Game, Machine, MachineKind, Part, Product, Recipe, Source, holds};
-use graph_store::Row;
-use plan_base::{NoMemory, NodeId, RecipeId};
+use game_types::{
+    Character, Fluid, Game, Machine, MachineKind, Part, Product, Recipe, Source, holds, is_within,
+};
+use graph_store::{Group, Row};
+use plan_base::{EntityId, GoodId, NoMemory, NodeId, RecipeId};
 use std::alloc::Global;
 
 // ---- recipes
 
+// Whether an ingredient is taken at any temperature.
+fn is_free(part: &Part) -> bool
+    ensures { result ≡ is_free part.now }
+{
+    part.low.is_none() && part.high.is_none()
+}
+
+fn free_good(part: &Part) -> Option<u32>
+    ensures { result ≡ free_good part.now }
+{
+    if is_free(part) {
+        Some(part.good.0)
+    } else {
+        None
+    }
+}
+
+// One more at the end, where it is there.
+fn put_found<T: Drop>(list: &mut Vec<T>, found: Option<T>) -> Result<(), NoMemory>
+    ensures { IfOk result (λ done. list.new.items ≡ list.old.items ++ cons_option found []) }
+{
+    if let Some(value) = found {
+        list.push(value)?;
+    }
+    Ok(())
+}
+
+// The goods of the ingredients without a bound.
+#[tactic(auto, using(crate::proofs::FoundLemmas::found_next, crate::proofs::FoundLemmas::found_end))]
 fn goods_of_parts(alloc: Global, parts: &[Part]) -> Result<Vec<u32>, NoMemory>
-    ensures { IfOk result (λ goods. goods.items ≡ map (λ part. part.good.0) parts.now) }
+    ensures { IfOk result (λ goods. goods.items ≡ filter_map free_good parts.now) }
 {
     let mut goods = Vec::new(alloc);
     for part in parts {
-        goods.push(part.good.0)?;
+        put_found(&mut goods, free_good(part))?;
     }
     Ok(goods)
 }
@@ -40,6 +73,108 @@ fn ingredients(alloc: Global, game: &Game, recipe: &Recipe) -> Result<Vec<NodeId
 {
     let goods = goods_of_parts(alloc, recipe.ingredients.as_slice())?;
     named(alloc, 3, good_count(game), goods)
+}
+
+// The variants of a base within bounds.
+#[derive(Drop)]
+struct FitVariants<'a> {
+    part: &'a Part,
+}
+
+impl Test<Fluid> for FitVariants<'_> {
+    ghost passes = { λ t fluid. is_fit_variant t.part.now.good.0 t.part.now.low t.part.now.high fluid };
+
+    fn passes(&self, fluid: &Fluid) -> bool {
+        is_variant_of(fluid.of, self.part.good)
+            && is_within(&self.part.low, &self.part.high, &fluid.at)
+    }
+}
+
+fn is_variant_of(of: Option<GoodId>, base: GoodId) -> bool
+    ensures { result ≡ is_good of base.0 }
+{
+    match of {
+        Some(of) => of.0 == base.0,
+        None => false,
+    }
+}
+
+// Whether a good that is no base fits its own ingredient.
+fn fits_alone(game: &Game, part: &Part) -> bool
+    ensures { result ≡ fits_alone part.now.low part.now.high (fluid_at game.now part.now.good.0) }
+{
+    match game.fluid(part.good) {
+        Some(fluid) => fluid.of.is_some() || is_within(&part.low, &part.high, &fluid.at),
+        None => true,
+    }
+}
+
+// The good of an ingredient itself.
+fn good_itself(alloc: Global, game: &Game, good: GoodId) -> Result<Vec<NodeId>, NoMemory>
+    requires sound { IsSound game.now }
+    requires good { IsGood game.now good.0 }
+    ensures { IfOk result (λ nodes. nodes.items ≡ named 3 (good_count game.now) (good.0 ∷ [])) }
+{
+    let mut goods = Vec::new(alloc);
+    goods.push(good.0)?;
+    named(alloc, 3, good_count(game), goods)
+}
+
+// The goods that fit an ingredient.
+#[tactic(auto, unfolding(crate::specs::Making::fits))]
+fn fits(alloc: Global, game: &Game, index: &Index, part: &Part) -> Result<Vec<NodeId>, NoMemory>
+    requires sound { IsSound game.now }
+    requires index { IsIndex game.now index.now }
+    requires part { IsGood game.now part.now.good.0 }
+    ensures { IfOk result (λ nodes. nodes.items ≡ fits game.now part.now) }
+{
+    if is_base(game, index, part.good.0) {
+        let test = FitVariants { part };
+        those(alloc, first_fluid(game), game.fluids.as_slice(), &test)
+    } else if fits_alone(game, part) {
+        good_itself(alloc, game, part.good)
+    } else {
+        Ok(Vec::new(alloc))
+    }
+}
+
+// The group of an ingredient with a bound.
+fn bounded_group(
+    alloc: Global,
+    game: &Game,
+    index: &Index,
+    part: &Part,
+) -> Result<Option<Group>, NoMemory>
+    requires sound { IsSound game.now }
+    requires index { IsIndex game.now index.now }
+    requires part { IsGood game.now part.now.good.0 }
+    ensures { IfOk result (λ group. group ≡ bounded_group game.now part.now) }
+{
+    if is_free(part) {
+        return Ok(None);
+    }
+    let nodes = fits(alloc, game, index, part)?;
+    Ok(Some(any_of(nodes)))
+}
+
+// A group for each ingredient with a bound.
+#[tactic(auto, using(crate::proofs::FoundLemmas::found_next, crate::proofs::FoundLemmas::found_end))]
+fn push_bounded(
+    alloc: Global,
+    game: &Game,
+    index: &Index,
+    parts: &[Part],
+    groups: &mut Vec<Group>,
+) -> Result<(), NoMemory>
+    requires sound { IsSound game.now }
+    requires index { IsIndex game.now index.now }
+    requires parts { All (λ part. IsGood game.now part.good.0) parts.now }
+    ensures { IfOk result (λ done. groups.new.items ≡ groups.old.items ++ filter_map (bounded_group game.now) parts.now) }
+{
+    for part in parts {
+        put_found(groups, bounded_group(alloc, game, index, part)?)?;
+    }
+    Ok(())
 }
 
 fn are_items(parts: &[Part], items: usize) -> bool
@@ -60,7 +195,8 @@ fn character_crafts(character: &Character, marks: &[bool], items: usize, recipe:
     requires { AreMarks character.now.crafting marks.now }
     ensures { result ≡ character_crafts character.now items recipe.now }
 {
-    is_marked(marks, character.crafting.as_slice(), recipe.category)
+    recipe.launch.is_none()
+        && is_marked(marks, character.crafting.as_slice(), recipe.category)
         && are_items(recipe.ingredients.as_slice(), items)
         && gives_items(recipe.products.as_slice(), items)
 }
@@ -144,9 +280,19 @@ fn machines_crafting(
     }
 }
 
-// The character and the machines that craft a recipe.
-#[tactic(auto, unfolding(crate::specs::Making::crafters))]
-fn crafters(
+// The silo of a launch.
+fn silo_alone(alloc: Global, game: &Game, silo: EntityId) -> Result<Vec<NodeId>, NoMemory>
+    requires sound { IsSound game.now }
+    requires silo { silo.0 < length game.now.machines }
+    ensures { IfOk result (λ nodes. nodes.items ≡ named (first_machine game.now) (length game.now.machines) (silo.0 ∷ [])) }
+{
+    let mut machines = Vec::new(alloc);
+    machines.push(silo.0)?;
+    named(alloc, first_machine(game), game.shape().machines, machines)
+}
+
+// The character and the machines that craft a recipe that is no launch.
+fn ordinary_crafters(
     alloc: Global,
     game: &Game,
     index: &Index,
@@ -157,7 +303,7 @@ fn crafters(
     requires index { IsIndex game.now index.now }
     requires recipe { slice_get game.now.recipes number ≡ Some recipe.now }
     requires number { number < length game.now.recipes }
-    ensures { IfOk result (λ nodes. nodes.items ≡ crafters game.now number recipe.now) }
+    ensures { IfOk result (λ nodes. nodes.items ≡ crafters_by game.now number recipe.now None) }
 {
     let marks = index.crafting.as_slice();
     let by_hand = character_crafts(&game.character, marks, game.items.len(), recipe);
@@ -165,8 +311,30 @@ fn crafters(
     with_character(alloc, by_hand, machines)
 }
 
+// What crafts a recipe.
+#[tactic(auto, unfolding(crate::specs::Making::crafters))]
+fn crafters(
+    alloc: Global,
+    game: &Game,
+    index: &Index,
+    number: u32,
+    recipe: &Recipe,
+) -> Result<Vec<NodeId>, NoMemory>
+    requires sound { IsSound game.now }
+    requires index { IsIndex game.now index.now }
+    requires there { slice_get game.now.recipes number ≡ Some recipe.now }
+    requires number { number < length game.now.recipes }
+    requires recipe { IsSoundRecipe game.now recipe.now }
+    ensures { IfOk result (λ nodes. nodes.items ≡ crafters game.now number recipe.now) }
+{
+    match recipe.launch {
+        Some(silo) => silo_alone(alloc, game, silo),
+        None => ordinary_crafters(alloc, game, index, number, recipe),
+    }
+}
+
 /// The row of a recipe.
-#[tactic(auto, unfolding(crate::specs::Making::recipe_row))]
+#[tactic(auto, unfolding(crate::specs::Making::recipe_row, crate::specs::Making::bounded_groups))]
 pub fn recipe_row(
     alloc: Global,
     game: &Game,
@@ -185,6 +353,13 @@ pub fn recipe_row(
     let makers = any_of(crafters(alloc, game, index, number, recipe)?);
     let mut groups = Vec::new(alloc);
     groups.push(parts)?;
+    push_bounded(
+        alloc,
+        game,
+        index,
+        recipe.ingredients.as_slice(),
+        &mut groups,
+    )?;
     groups.push(makers)?;
     if !recipe.enabled {
         groups.push(any_of(list_at(alloc, index.unlockers.as_slice(), number)?))?;

@@ -1,6 +1,7 @@
-use Rattle.std.proofs.Common.{[]}
-use Rattle.depend_rows.proofs.Walks.{Appended}
+use Rattle.std.proofs.Common.{◌≡◌, ◌++◌, drop}
+use Rattle.std.specs.List.{filter_map}
+use Rattle.depend_rows.specs.Making.{free_good}
 use Rattle.depend_rows.proofs.recipes.goods_of_parts.Given as goal
 
 abbrev pub invariant-loop-part : goal.invariant-loop-part
-invariant-loop-part l = Appended (λ part. part.good.0) [] l.parts l.part-index l.goods.items
+invariant-loop-part l = l.goods.items ++ filter_map free_good (drop l.part-index l.parts) ≡ filter_map free_good l.parts
