@@ -1,6 +1,6 @@
 -- A fault of a tree is none of JSON.
 use Rattle.std.proofs.Common.{◌≡◌, ◌∙◌, ℕ, List, [], ◌∷◌, Option, Some, None, Ok, Err, Result, Bool, true, false, ap, subst}
-use Rattle.std.specs.Prelude.{if◌then◌else◌}
+use Rattle.std.specs.Prelude.{if◌then◌else◌, nat_lt}
 use Rattle.std.specs.Str.{is_utf8}
 use Rattle.std.specs.Prelude.{MatchResult, ◌≢◌}
 use Rattle.json_text.specs.Kept.{Kept}
@@ -20,7 +20,13 @@ use Rattle.dump_reader.specs.Draft.{RawGame, draft_seen, empty_game}
 use Rattle.dump_reader.specs.Dump.{◌▷◌, each_after, game_in, member_of, members_in, named_of, no_object, prototype_of, raw_game, section_in, section_of, sections}
 use Rattle.dump_reader.specs.Sections.{section_text}
 use Rattle.game_types.specs.declared.games.Game.{Game}
-use Rattle.game_reader.specs.Games.{Gives, HasDraft, HasFault, HasFaultOf, HasGame, game_of}
+use Rattle.plan_base.specs.Shape.{node_count}
+use Rattle.game_types.specs.Nodes.{shape_of}
+use Rattle.game_types.specs.declared.games.TheConstants.{NODE_LIMIT}
+use Rattle.rocket_launches.specs.Launches.{flight_beyond, flight_taken, launch_fault, unless_some, with_launches}
+use Rattle.rocket_launches.specs.declared.silos.Flight.{Flight}
+use Rattle.fluid_variants.specs.Variants.{first_twice, first_variant_name, split, too_many_variants, unless_named, with_variants, within_limit}
+use Rattle.game_reader.specs.Games.{Gives, HasDraft, HasFault, HasFaultOf, HasGame, finished, game_of, resolved}
 use Rattle.game_reader.specs.Keys.{dump_wishes}
 use Rattle.game_reader.specs.Links.{each_linked, families_of, linked, linked_item, linked_machine, linked_recipe, linked_source, linked_tech}
 
@@ -96,7 +102,7 @@ each_prototype section_of link (raw ∷ raws) (name ∷ names) =
     chained (in_prototype (section_text (section_of raw)) name (link raw)) (λ first. each_linked section_of link raws names ▷ λ rest. Ok (first ∷ rest)) (placed (section_text (section_of raw)) name (link raw))
     (λ first. chained (each_linked section_of link raws names) (λ rest. Ok (first ∷ rest)) (each_prototype section_of link raws names) (λ rest. tt))
 
-pub linked_faults : (g : RawGame) → FaultIsOfTree (linked g)
+linked_faults : (g : RawGame) → FaultIsOfTree (linked g)
 unfolding linked
 linked_faults g =
     chained (each_linked (λ item. item.section) (linked_item (families_of g)) g.items g.item_names) _ (each_prototype (λ item. item.section) (linked_item (families_of g)) g.items g.item_names)
@@ -104,6 +110,42 @@ linked_faults g =
     (λ recipes. chained (each_linked (λ source. source.section) (linked_source (families_of g)) g.sources g.source_names) _ (each_prototype (λ source. source.section) (linked_source (families_of g)) g.sources g.source_names)
     (λ sources. chained (each_linked (λ machine. machine.section) (linked_machine (families_of g)) g.machines g.machine_names) _ (each_prototype (λ machine. machine.section) (linked_machine (families_of g)) g.machines g.machine_names)
     (λ machines. chained (each_linked (λ _. section.Technology) (linked_tech (families_of g)) g.techs g.tech_names) _ (each_prototype (λ _. section.Technology) (linked_tech (families_of g)) g.techs g.tech_names) (λ techs. tt)))))
+
+-- ---- what comes after it
+launch_fault_of_tree : (g : Game) (code : FieldCode) (flight : Option Flight) → FaultIsOfTree (unless_some g code flight)
+unfolding launch_fault fault_in
+launch_fault_of_tree g code None = tt
+launch_fault_of_tree g code (Some flight) = code_of_tree code
+
+launches_faults : (g : Game) → FaultIsOfTree (with_launches g)
+unfolding with_launches
+launches_faults g =
+    chained (unless_some g f.Twice (flight_taken g)) _ (launch_fault_of_tree g f.Twice (flight_taken g))
+    (λ u. chained (unless_some g f.Limit (flight_beyond g)) _ (launch_fault_of_tree g f.Limit (flight_beyond g)) (λ v. tt))
+
+name_fault_of_tree : (name : Option (List ℕ)) → FaultIsOfTree (unless_named name)
+unfolding fault_in
+name_fault_of_tree None = tt
+name_fault_of_tree (Some name) = tt
+
+limit_fault_of_tree : (g : Game) → FaultIsOfTree (within_limit g)
+unfolding within_limit
+limit_fault_of_tree g = by_test (nat_lt NODE_LIMIT (node_count (shape_of g)))
+  where
+    by_test : (test : Bool) → FaultIsOfTree (if test then Err too_many_variants else Ok g)
+    by_test true = tt
+    by_test false = tt
+
+variants_faults : (g : Game) → FaultIsOfTree (with_variants g)
+unfolding with_variants
+variants_faults g =
+    chained (unless_named (first_variant_name g)) _ (name_fault_of_tree (first_variant_name g))
+    (λ u. chained (within_limit (split g)) _ (limit_fault_of_tree (split g))
+    (λ new. chained (unless_named (first_twice [] new.fluid_names)) _ (name_fault_of_tree (first_twice [] new.fluid_names)) (λ v. tt)))
+
+resolved_faults : (g : RawGame) → FaultIsOfTree (resolved g)
+unfolding resolved finished
+resolved_faults g = chained (linked g) _ (linked_faults g) (λ game. chained (with_launches game) _ (launches_faults game) variants_faults)
 
 -- ---- of a dump
 pub has_fault : (dump : List ℕ) (fault : DumpFault) → (code : DumpCode) → IsOfTree code → Gives dump (Err fault) → HasFaultOf dump fault code
@@ -119,11 +161,11 @@ has_fault dump fault d.NoMemory of_tree gives = gives
 
 pub first_fault : (dump : List ℕ) (tree : Kept) (fault : DumpFault) → raw_game tree ≡ Err fault → (game_of tree ≡ Err fault → Gives dump (Err fault)) → HasFaultOf dump fault fault.code
 unfolding game_of
-first_fault dump tree fault is gives = has_fault dump fault fault.code (subst (λ (r : Result RawGame DumpFault). FaultIsOfTree r) is (raw_game_faults tree)) (gives (ap (λ r. r ▷ linked) is))
+first_fault dump tree fault is gives = has_fault dump fault fault.code (subst (λ (r : Result RawGame DumpFault). FaultIsOfTree r) is (raw_game_faults tree)) (gives (ap (λ r. r ▷ resolved) is))
 
-pub second_fault : (dump : List ℕ) (tree : Kept) (draft : RawGame) (fault : DumpFault) → raw_game tree ≡ Ok draft → linked draft ≡ Err fault → (game_of tree ≡ Err fault → Gives dump (Err fault)) → HasFaultOf dump fault fault.code
+pub second_fault : (dump : List ℕ) (tree : Kept) (draft : RawGame) (fault : DumpFault) → raw_game tree ≡ Ok draft → resolved draft ≡ Err fault → (game_of tree ≡ Err fault → Gives dump (Err fault)) → HasFaultOf dump fault fault.code
 unfolding game_of
-second_fault dump tree draft fault first is gives = has_fault dump fault fault.code (subst (λ (r : Result Game DumpFault). FaultIsOfTree r) is (linked_faults draft)) (gives (ap (λ r. r ▷ linked) first ∙ is))
+second_fault dump tree draft fault first is gives = has_fault dump fault fault.code (subst (λ (r : Result Game DumpFault). FaultIsOfTree r) is (resolved_faults draft)) (gives (ap (λ r. r ▷ resolved) first ∙ is))
 
 -- ---- what the calls answer
 pub draft_answered : (dump : List ℕ) (tree : Kept) → IsAccepted dump_wishes dump tree → (answer : Result Draft DumpFault) → GivesDump (raw_game tree) (seen_as draft_seen answer)
@@ -131,11 +173,11 @@ pub draft_answered : (dump : List ℕ) (tree : Kept) → IsAccepted dump_wishes 
 draft_answered dump tree accepted (Ok draft) gives = record { tree = tree; accepted = accepted; draft_is = gives }
 draft_answered dump tree accepted (Err fault) gives = λ memory. first_fault dump tree fault (gives memory) (λ is. record { tree = tree; accepted = accepted; given_is = is })
 
-game_is : (tree : Kept) (draft : RawGame) (given : Result Game DumpFault) → raw_game tree ≡ Ok draft → linked draft ≡ given → game_of tree ≡ given
+game_is : (tree : Kept) (draft : RawGame) (given : Result Game DumpFault) → raw_game tree ≡ Ok draft → resolved draft ≡ given → game_of tree ≡ given
 unfolding game_of
-game_is tree draft given first is = ap (λ r. r ▷ linked) first ∙ is
+game_is tree draft given first is = ap (λ r. r ▷ resolved) first ∙ is
 
-pub game_answered : (dump : List ℕ) (draft : RawGame) → HasDraft dump draft → (answer : Result Game DumpFault) → GivesDump (linked draft) answer
+pub game_answered : (dump : List ℕ) (draft : RawGame) → HasDraft dump draft → (answer : Result Game DumpFault) → GivesDump (resolved draft) answer
     → MatchResult answer (HasGame dump) (λ fault. fault.code ≢ d.NoMemory → HasFault dump fault)
 game_answered dump draft had (Ok game) gives = record { tree = had.tree; accepted = had.accepted; given_is = game_is had.tree draft (Ok game) had.draft_is gives }
 game_answered dump draft had (Err fault) gives =

@@ -1,9 +1,9 @@
 -- What is linked of a sound first pass is a sound game.
 use Rattle.std.proofs.Common.{◌≡◌, ◌∙◌, ℕ, ◌+◌, ◌<◌, ◌≤◌, List, [], ◌∷◌, Option, Some, None, Ok, Err, Result, Bool, true, false, length, refl, sym, subst, arith}
-use Rattle.std.specs.Prelude.{All, IfOk, IfSome, if◌then◌else◌, option_map}
+use Rattle.std.specs.Prelude.{All, IfOk, IfSome, if◌then◌else◌, option_map, slice_get}
 use Rattle.std.specs.List.{cons_option, filter_map}
 use Rattle.std.proofs.lemmas.List.Elements.{All-nil, All-cons, All-head, All-tail}
-use Rattle.std.proofs.lemmas.Option.{slice_get_within}
+use Rattle.std.proofs.lemmas.Option.{get_or_from_slice_get, slice_get_within}
 use Rattle.fractions.specs.Fraction.{Fraction}
 use Rattle.plan_base.specs.declared.ids.GoodId.{GoodId}
 use Rattle.plan_base.specs.declared.ids.RecipeId.{RecipeId}
@@ -26,13 +26,14 @@ use Rattle.craft_reader.specs.declared.technologies.RawTech.{RawTech}
 use Rattle.craft_reader.specs.Faults.{GivesDump, in_prototype}
 use Rattle.game_types.specs.declared.games.Game.{Game}
 use Rattle.game_types.specs.declared.games.TheConstants.{NODE_LIMIT}
+use Rattle.game_types.specs.declared.goods.Fluid.{Fluid}
 use Rattle.game_types.specs.declared.goods.Item.{Item}
 use Rattle.game_types.specs.declared.machinery.Energy.{Energy}
 use Rattle.game_types.specs.declared.machinery.Machine.{Machine}
 use Rattle.game_types.specs.declared.recipes.Recipe.{Recipe}
 use Rattle.game_types.specs.declared.recipes.Source.{Source}
 use Rattle.game_types.specs.declared.research.Tech.{Tech}
-use Rattle.game_types.specs.Sound.{IsItem, IsGood, IsFluid, IsSound, IsSoundItem, IsSoundModule, IsSoundRecipe, IsSoundSource, IsSoundKind, IsSoundEnergy, IsSoundBurning, IsSoundMachine, IsSoundTech, IsBurner, IsSoundBonus}
+use Rattle.game_types.specs.Sound.{ArePlain, AreApart, IsBase, IsItem, IsGood, IsFluid, IsSound, IsSoundFluid, IsSoundItem, IsSoundModule, IsSoundRecipe, IsSoundSource, IsSoundKind, IsSoundEnergy, IsSoundBurning, IsSoundMachine, IsSoundTech, IsBurner, IsSoundBonus}
 use Rattle.dump_reader.specs.declared.raw.RawEnergy.{RawEnergy}
 use Rattle.dump_reader.specs.declared.raw.RawEnergy.TheVariants as raw_energy
 use Rattle.dump_reader.specs.declared.raw.RawItem.{RawItem}
@@ -48,7 +49,7 @@ use Rattle.dump_reader.specs.Dump.{◌▷◌}
 use Rattle.dump_reader.specs.Sections.{section_text}
 use Rattle.dump_reader.specs.Sound.{IsSoundRawItem, IsSoundRawKind, IsSoundRawEnergy, IsRawBurner, IsSoundRawBurning, IsSoundRawMachine, IsSoundDraft}
 use Rattle.game_reader.specs.declared.families.Families.{Families}
-use Rattle.game_reader.specs.Links.{Working, each_linked, families_of, fluid_named, good_at, good_by, if_given, item_named, known_machine, known_recipes, linked, linked_energy, linked_fluid, linked_good, linked_item, linked_kind, linked_machine, linked_module, linked_pack, linked_part, linked_product, linked_recipe, linked_source, linked_tech, linked_working, machine_at, or_unknown, recipe_at, recipe_named, tech_at, tech_named}
+use Rattle.game_reader.specs.Links.{Working, each_linked, families_of, fluid_named, good_at, good_by, if_given, item_named, known_machine, known_recipes, linked, linked_energy, linked_fluid, linked_good, linked_item, linked_kind, linked_launch, linked_machine, linked_module, linked_pack, linked_part, linked_product, linked_recipe, linked_source, linked_tech, linked_working, machine_at, or_unknown, recipe_at, recipe_named, tech_at, tech_named}
 
 -- ---- what holds of a value that is read
 sure : {A B : Type 0} (P : A → Type 0) (Q : B → Type 0) (r : Reading A) (next : A → Reading B) → IfOk r P → ((value : A) → P value → IfOk (next value) Q) → IfOk (r ▸ next) Q
@@ -152,6 +153,10 @@ module _ (names : Families) (game : Game) (counts : HasCounts names game) where
   unfolding linked_product
   product_sure product = sure (λ good. IsGood game good.0) (λ found. IsGood game found.good.0) (linked_good names product.good) _ (good_sure product.good) (λ good holds. holds)
 
+  launch_sure : (product : RawProduct) → IfOk (linked_launch names product) (λ found. IsItem game found.good.0)
+  unfolding linked_launch
+  launch_sure product = sure (λ good. IsItem game good.0) (λ found. IsItem game found.good.0) (item_named names product.good.within product.good.key product.good.name) _ (item_sure product.good.within product.good.key product.good.name) (λ good holds. holds)
+
   pack_sure : (pack : RawPack) → IfOk (linked_pack names pack) (λ found. IsItem game found.0.0)
   unfolding linked_pack
   pack_sure pack = sure (λ good. IsItem game good.0) (λ found. IsItem game found.0.0) (item_named names within.UnitIngredients Name pack.name) _ (item_sure within.UnitIngredients Name pack.name) (λ good holds. holds)
@@ -167,14 +172,15 @@ module _ (names : Families) (game : Game) (counts : HasCounts names game) where
   item_sound item sound =
       sure (λ found. IfSome found (λ good. IsItem game good.0)) (IsSoundItem game) (if_given (item_named names within.Prototype BurntResult) item.burnt) _
       (given_sure (λ good. IsItem game good.0) (item_named names within.Prototype BurntResult) (item_sure within.Prototype BurntResult) item.burnt)
-      (λ burnt holds. record { place = machine_sure item.place; burnt = holds; module_ = module_sure item.module sound })
+      (λ burnt holds. sure (All (λ product. IsItem game product.good.0)) (IsSoundItem game) (each (linked_launch names) item.launch) _ (each_sure (λ product. IsItem game product.good.0) (linked_launch names) launch_sure item.launch)
+      (λ launch given. record { place = machine_sure item.place; burnt = holds; module_ = module_sure item.module sound; launch = given }))
 
   pub recipe_sound : (recipe : RawRecipe) → IfOk (linked_recipe names recipe) (IsSoundRecipe game)
   unfolding linked_recipe
   recipe_sound recipe =
       sure (All (λ part. IsGood game part.good.0)) (IsSoundRecipe game) (each (linked_part names) recipe.ingredients) _ (each_sure (λ part. IsGood game part.good.0) (linked_part names) part_sure recipe.ingredients)
       (λ ingredients parts. sure (All (λ product. IsGood game product.good.0)) (IsSoundRecipe game) (each (linked_product names) recipe.products) _ (each_sure (λ product. IsGood game product.good.0) (linked_product names) product_sure recipe.products)
-      (λ products given. record { ingredients = parts; products = given }))
+      (λ products given. record { ingredients = parts; products = given; launch = tt }))
 
   taken_sure : (taken : List ℕ × Fraction) → IfOk (linked_fluid names taken) (λ f. IsFluid game f.0.0)
   unfolding linked_fluid
@@ -323,6 +329,15 @@ made g items recipes sources machines techs = record {
 any_holds : {A : Type 0} (xs : List A) → All (λ _. Unit {0}) xs
 any_holds xs = λ k d below. tt
 
+plain_sound : (game : Game) (fluids : List Fluid) → ArePlain fluids → All (IsSoundFluid game) fluids
+plain_sound game fluids plain = λ k d below. subst (λ (of : Option GoodId). IfSome of (IsBase game)) (sym (plain k d below)) tt
+
+plain_at : (fluids : List Fluid) (i : ℕ) (one : Fluid) → ArePlain fluids → slice_get fluids i ≡ Some one → one.of ≡ None
+plain_at fluids i one plain is = subst (λ (f : Fluid). f.of ≡ None) (get_or_from_slice_get fluids i one one is) (plain i one (slice_get_within fluids i one is))
+
+plain_apart : (fluids : List Fluid) → ArePlain fluids → AreApart fluids
+plain_apart fluids plain = λ i j one other base first second of_one of_other same. let none : one.of ≡ None = plain_at fluids i one plain first in absurd (cc)
+
 made_sound : (g : RawGame) → IsSoundDraft g → (items : List Item) (recipes : List Recipe) (sources : List Source) (machines : List Machine) (techs : List Tech)
     → Later (families_of g) IsSoundItem g.items items → Later (families_of g) IsSoundRecipe g.recipes recipes → Later (families_of g) IsSoundSource g.sources sources → Later (families_of g) IsSoundMachine g.machines machines → Later (families_of g) IsSoundTech g.techs techs
     → IsSound (made g items recipes sources machines techs)
@@ -351,11 +366,32 @@ made_sound g sound items recipes sources machines techs a b c d e =
       tech_names = sound.tech_names ∙ sym e.0;
       nodes = omega arith;
       items = a.1 game counts;
+      fluids = plain_sound game g.fluids sound.fluids;
+      apart = plain_apart g.fluids sound.fluids;
       recipes = b.1 game counts;
       sources = c.1 game counts;
       machines = d.1 game counts;
       techs = e.1 game counts;
     }
+
+pub linked_fluids : (g : RawGame) → IfOk (linked g) (λ game. game.fluids ≡ g.fluids)
+unfolding linked
+linked_fluids g =
+    let names : Families = families_of g in
+    after (each_linked (λ item. item.section) (linked_item names) g.items g.item_names) _ λ items.
+    after (each_linked (λ _. section.Recipe) (linked_recipe names) g.recipes g.recipe_names) _ λ recipes.
+    after (each_linked (λ source. source.section) (linked_source names) g.sources g.source_names) _ λ sources.
+    after (each_linked (λ machine. machine.section) (linked_machine names) g.machines g.machine_names) _ λ machines.
+    after (each_linked (λ _. section.Technology) (linked_tech names) g.techs g.tech_names) _ λ techs.
+    refl
+  where
+    after : {A : Type 0} (r : Result A DumpFault) (next : A → Result Game DumpFault) → ((value : A) → IfOk (next value) (λ game. game.fluids ≡ g.fluids)) → IfOk (r ▷ next) (λ game. game.fluids ≡ g.fluids)
+    after (Ok value) next later = later value
+    after (Err fault) next later = tt
+
+pub answer_plain : (g : RawGame) → IsSoundDraft g → (answer : Result Game DumpFault) → GivesDump (linked g) answer → IfOk answer (λ game. ArePlain game.fluids)
+answer_plain g sound (Ok game) gives = subst ArePlain (sym (subst (λ (r : Result Game DumpFault). IfOk r (λ game. game.fluids ≡ g.fluids)) gives (linked_fluids g))) sound.fluids
+answer_plain g sound (Err fault) gives = tt
 
 pub linked_sound : (g : RawGame) → IsSoundDraft g → IfOk (linked g) IsSound
 unfolding linked

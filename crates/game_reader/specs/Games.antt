@@ -10,11 +10,22 @@ use Rattle.dump_reader.specs.Draft.{RawGame}
 use Rattle.dump_reader.specs.Dump.{◌▷◌, raw_game}
 use Rattle.game_types.specs.declared.games.Game.{Game}
 use Rattle.game_reader.specs.Keys.{dump_wishes}
+use Rattle.rocket_launches.specs.Launches.{with_launches}
+use Rattle.fluid_variants.specs.Variants.{with_variants}
 use Rattle.game_reader.specs.Links.{linked}
 
--- the game of a tree of JSON, or its first fault: the first pass finds all but names that stand for nothing
+-- what a game with ids in place of names becomes: launches are recipes, and fluids have one temperature each
+unfoldable pub finished : Game → Result Game DumpFault
+finished game = with_launches game ▷ with_variants
+
+-- what the prototypes of a dump become, with names in place of ids
+unfoldable pub resolved : RawGame → Result Game DumpFault
+resolved draft = linked draft ▷ finished
+
+-- the game of a tree of JSON, or its first fault: the first pass finds all but names that stand for nothing, the second finds
+-- those, and the others come after
 unfoldable pub game_of : Kept → Result Game DumpFault
-game_of tree = raw_game tree ▷ linked
+game_of tree = raw_game tree ▷ resolved
 
 -- the dump is accepted JSON, and this is what its tree gives
 pub record Gives (dump : List ℕ) (given : Result Game DumpFault) : Type 0 where

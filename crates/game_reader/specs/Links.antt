@@ -113,10 +113,19 @@ linked_part names part =
     linked_good names part.good ▸ λ good.
     Ok (record { good = good; amount = part.amount; low = part.low; high = part.high })
 
+abbrev pub product_with : RawProduct → GoodId → Product
+product_with product good = record { good = good; low = product.low; high = product.high; probability = product.probability; catalyst = product.catalyst; temperature = product.temperature }
+
 unfoldable pub linked_product : Families → RawProduct → Reading Product
 linked_product names product =
     linked_good names product.good ▸ λ good.
-    Ok (record { good = good; low = product.low; high = product.high; probability = product.probability; catalyst = product.catalyst; temperature = product.temperature })
+    Ok (product_with product good)
+
+-- what a launch brings back is an item
+unfoldable pub linked_launch : Families → RawProduct → Reading Product
+linked_launch names product =
+    item_named names product.good.within product.good.key product.good.name ▸ λ good.
+    Ok (product_with product good)
 
 unfoldable pub linked_pack : Families → RawPack → Reading (GoodId × Fraction)
 linked_pack names pack =
@@ -134,14 +143,15 @@ linked_module names found = record {
 unfoldable pub linked_item : Families → RawItem → Reading Item
 linked_item names item =
     if_given (item_named names within.Prototype BurntResult) item.burnt ▸ λ burnt.
-    Ok (record { place = known_machine names item.place; fuel = item.fuel; burnt = burnt; «module» = option_map (linked_module names) item.module })
+    each (linked_launch names) item.launch ▸ λ launch.
+    Ok (record { place = known_machine names item.place; fuel = item.fuel; burnt = burnt; «module» = option_map (linked_module names) item.module; launch = launch })
 
 -- ---- recipe
 unfoldable pub linked_recipe : Families → RawRecipe → Reading Recipe
 linked_recipe names recipe =
     each (linked_part names) recipe.ingredients ▸ λ ingredients.
     each (linked_product names) recipe.products ▸ λ products.
-    Ok (record { category = recipe.category; time = recipe.time; enabled = recipe.enabled; emissions = recipe.emissions; ingredients = ingredients; products = products })
+    Ok (record { category = recipe.category; time = recipe.time; enabled = recipe.enabled; emissions = recipe.emissions; ingredients = ingredients; products = products; launch = None })
 
 -- ---- resource, tree, simple-entity, fish
 unfoldable pub linked_fluid : Families → List ℕ × Fraction → Reading (GoodId × Fraction)
@@ -223,6 +233,7 @@ linked_machine names machine =
       slots = machine.slots;
       allowed = machine.allowed;
       base_productivity = machine.base_productivity;
+      parts = machine.parts;
     }
     )
 

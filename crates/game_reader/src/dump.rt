@@ -2,15 +2,18 @@
 ghost use Rattle.std.specs.Prelude.{◌≡◌, ◌≢◌, IfOk, MatchResult};
 ghost use Rattle.dump_reader.specs.Draft.{draft_seen};
 ghost use Rattle.dump_reader.specs.Sound.{IsSoundDraft};
-ghost use Rattle.game_types.specs.Sound.{IsSound};
-ghost use Rattle.game_reader.specs.Games.{HasDraft, HasFault, HasGame, json_fault};
+ghost use Rattle.craft_reader.specs.Faults.{GivesDump};
+ghost use Rattle.game_types.specs.Sound.{ArePlain, IsSound};
+ghost use Rattle.game_reader.specs.Games.{HasDraft, HasFault, HasGame, finished, json_fault, resolved};
 
 use crate::keys::dump_wanted;
 use crate::links::link;
 use craft_reader::{DumpCode, DumpFault};
 use dump_reader::{Draft, read_game};
+use fluid_variants::split_fluids;
 use game_types::Game;
 use json_text::{JsonCode, JsonFault, read_spans};
+use rocket_launches::add_launches;
 use std::alloc::Global;
 
 // The fault of a text that is no JSON.
@@ -39,6 +42,33 @@ fn read_draft(alloc: Global, bytes: &[u8]) -> Result<Draft, DumpFault>
     read_game(alloc, &tree)
 }
 
+// A game with its launches, and with its fluids by temperature.
+#[tactic(auto, unfolding(crate::specs::Games::finished))]
+fn finish(alloc: Global, game: Game) -> Result<Game, DumpFault>
+    requires sound { IsSound game }
+    requires plain { ArePlain game.fluids }
+    ensures gives { GivesDump (finished game) result }
+    ensures sound { IfOk result IsSound }
+{
+    match add_launches(alloc, game) {
+        Ok(game) => split_fluids(alloc, game),
+        Err(fault) => Err(fault),
+    }
+}
+
+// The game of what a first pass left.
+#[tactic(auto, unfolding(crate::specs::Games::resolved))]
+fn resolve(alloc: Global, draft: Draft) -> Result<Game, DumpFault>
+    requires { IsSoundDraft (draft_seen draft) }
+    ensures gives { GivesDump (resolved (draft_seen draft)) result }
+    ensures sound { IfOk result IsSound }
+{
+    match link(alloc, draft) {
+        Ok(game) => finish(alloc, game),
+        Err(fault) => Err(fault),
+    }
+}
+
 /// The game of a dump.
 ///
 /// # Errors
@@ -49,7 +79,7 @@ pub fn read_dump(alloc: Global, bytes: &[u8]) -> Result<Game, DumpFault>
     ensures game { MatchResult result (HasGame bytes.now) (λ fault. fault.code ≢ DumpCode.NoMemory → HasFault bytes.now fault) }
 {
     match read_draft(alloc, bytes) {
-        Ok(draft) => link(alloc, draft),
+        Ok(draft) => resolve(alloc, draft),
         Err(fault) => Err(fault),
     }
 }

@@ -1,7 +1,7 @@
 //! Ingredients, products, science packs and items with ids in place of names.
 ghost use Rattle.std.specs.Prelude.{◌≡◌, IfOk, option_map};
 ghost use Rattle.prototype_fields.specs.Values.{Gives, each};
-ghost use Rattle.game_reader.specs.Links.{linked_good, linked_item, linked_module, linked_pack, linked_part, linked_product};
+ghost use Rattle.game_reader.specs.Links.{linked_good, linked_item, linked_launch, linked_module, linked_pack, linked_part, linked_product, product_with};
 
 use crate::families::Families;
 use craft_reader::{GoodKind, NamedGood, RawPack, RawPart, RawProduct};
@@ -36,19 +36,27 @@ fn link_part(names: &Families, part: &RawPart) -> Result<Part, FieldFault>
     })
 }
 
-// A product.
-#[tactic(auto, unfolding(crate::specs::Links::linked_product))]
-fn link_product(names: &Families, product: &RawProduct) -> Result<Product, FieldFault>
-    ensures { result ≡ linked_product names.now product.now }
+// A product of a good.
+fn product_with(product: &RawProduct, good: GoodId) -> Product
+    ensures { result ≡ product_with product.now good }
 {
-    Ok(Product {
-        good: link_good(names, &product.good)?,
+    Product {
+        good,
         low: product.low,
         high: product.high,
         probability: product.probability,
         catalyst: product.catalyst,
         temperature: product.temperature,
-    })
+    }
+}
+
+// A product.
+#[tactic(auto, unfolding(crate::specs::Links::linked_product))]
+fn link_product(names: &Families, product: &RawProduct) -> Result<Product, FieldFault>
+    ensures { result ≡ linked_product names.now product.now }
+{
+    let good = link_good(names, &product.good)?;
+    Ok(product_with(product, good))
 }
 
 // A science pack.
@@ -145,17 +153,48 @@ fn link_optional_module(
     }
 }
 
+// What a launch brings back.
+#[tactic(auto, unfolding(crate::specs::Links::linked_launch))]
+fn link_launch(names: &Families, product: &RawProduct) -> Result<Product, FieldFault>
+    ensures { result ≡ linked_launch names.now product.now }
+{
+    let named = &product.good;
+    let good = names.item(named.within, named.key, named.name.as_str())?;
+    Ok(product_with(product, good))
+}
+
+// All that it brings back.
+#[tactic(auto, using(crate::proofs::Loops::each_from_nothing))]
+fn link_launches(
+    alloc: Global,
+    names: &Families,
+    products: &Items<RawProduct>,
+) -> Result<Items<Product>, FieldFault>
+    ensures { Gives (each (linked_launch names.now) products.now) result }
+{
+    let mut linked = Vec::new(alloc);
+    for product in products.as_slice() {
+        match link_launch(names, product) {
+            Ok(product) => linked.push(product)?,
+            Err(fault) => return Err(fault),
+        }
+    }
+    Ok(Items::from_vec(linked))
+}
+
 /// An item.
 #[tactic(auto, unfolding(crate::specs::Links::linked_item))]
 pub fn link_item(alloc: Global, names: &Families, item: &RawItem) -> Result<Item, FieldFault>
     ensures { Gives (linked_item names.now item.now) result }
 {
     let burnt = names.optional_item(Within::Prototype, Key::BurntResult, &item.burnt)?;
+    let launch = link_launches(alloc, names, &item.launch)?;
     let module = link_optional_module(alloc, names, &item.module)?;
     Ok(Item {
         place: names.known_machine(&item.place),
         fuel: item.fuel,
         burnt,
         module,
+        launch,
     })
 }

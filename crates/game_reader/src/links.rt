@@ -6,7 +6,7 @@ ghost use Rattle.craft_reader.specs.Faults.{GivesDump, in_prototype};
 ghost use Rattle.dump_reader.specs.Draft.{draft_seen};
 ghost use Rattle.dump_reader.specs.Sections.{section_text};
 ghost use Rattle.dump_reader.specs.Sound.{IsSoundDraft};
-ghost use Rattle.game_types.specs.Sound.{IsSound};
+ghost use Rattle.game_types.specs.Sound.{ArePlain, IsSound};
 ghost use Rattle.game_reader.specs.Links.{each_linked, linked, linked_item, linked_machine, linked_recipe, linked_source, linked_tech};
 
 use crate::families::Families;
@@ -219,14 +219,9 @@ fn link_techs(
     Ok(Items::from_vec(linked))
 }
 
-/// The game that a first pass left, with ids in place of names.
-///
-/// # Errors
-///
-/// The first name that stands for nothing, with its section and the name of its prototype. `NoMemory` where memory could not
-/// be had.
+// The game that a first pass left.
 #[tactic(auto, unfolding(crate::specs::Links::linked))]
-pub fn link(alloc: Global, draft: Draft) -> Result<Game, DumpFault>
+fn link_draft(alloc: Global, draft: Draft) -> Result<Game, DumpFault>
     requires { IsSoundDraft (draft_seen draft) }
     ensures { GivesDump (linked (draft_seen draft)) result }
 {
@@ -280,4 +275,19 @@ pub fn link(alloc: Global, draft: Draft) -> Result<Game, DumpFault>
         tech_names: names.techs,
         categories,
     })
+}
+
+/// The game that a first pass left, with ids in place of names. It is sound, and each fluid is one record.
+///
+/// # Errors
+///
+/// The first name that stands for nothing, with its section and the name of its prototype. `NoMemory` where memory could not
+/// be had.
+pub fn link(alloc: Global, draft: Draft) -> Result<Game, DumpFault>
+    requires { IsSoundDraft (draft_seen draft) }
+    ensures gives { GivesDump (linked (draft_seen draft)) result }
+    ensures sound { IfOk result IsSound }
+    ensures plain { IfOk result (λ game. ArePlain game.fluids) }
+{
+    link_draft(alloc, draft)
 }

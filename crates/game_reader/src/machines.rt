@@ -169,6 +169,7 @@ pub fn link_machine(
         slots,
         allowed,
         base_productivity,
+        parts,
     } = machine;
     let (kind, energy) = link_kind(alloc, names, kind, energy)?;
     Ok(Machine {
@@ -180,5 +181,6 @@ pub fn link_machine(
         slots,
         allowed,
         base_productivity,
+        parts,
     })
 }

@@ -31,6 +31,7 @@ pub fn link_recipe(
         emissions: recipe.emissions,
         ingredients,
         products,
+        launch: None,
     })
 }
 
