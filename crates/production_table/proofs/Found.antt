@@ -13,7 +13,9 @@ use Rattle.production_table.specs.declared.faults.TableFault.{TableFault}
 use Rattle.production_table.specs.declared.faults.TableFault.TheVariants.{Unknown, Negative}
 use Rattle.production_table.specs.declared.tables.Table.{Table}
 use Rattle.production_table.specs.declared.tables.TableRow.{TableRow}
-use Rattle.production_table.specs.Changes.{dropped, guard, is_below_zero, is_negative, place_of, priced, with_price, without_row}
+use Rattle.production_table.specs.Numbers.{guard}
+use Rattle.production_table.proofs.Signs.{negative_is, not_negative}
+use Rattle.production_table.specs.Changes.{dropped, place_of, priced, with_price, without_row}
 use Rattle.production_table.specs.Tables.{is_label}
 
 chosen : (n k m : ℕ) (b : Bool) → nat_lt n m ≡ b → cond b (Some n) None ≡ Some k → (n ≡ k) × (k < m)
@@ -78,21 +80,6 @@ unfolding with_price
 price_is t label price k row h is =
     let at = place_is label t.rows k h in
     ap (λ n. priced t price n (slice_get t.rows n)) at.0 ∙ ap (priced t price k) is
-
--- the sign of a price
-below : (z : ℤ) → ¬ (pos 0 ≤ℤ z) → is_below_zero z ≡ true
-below (pos n) h = absurd (h (omega (arith, ints)))
-below (negsuc n) h = refl
-
-pub negative_is : (x : Fraction) → x <ʳ zero_fraction → is_negative x ≡ true
-negative_is x h = below x.num (λ k. <ʳ_not_≤ʳ x zero_fraction h (nonneg_of_num x k))
-
-not_below : (z : ℤ) → pos 0 ≤ℤ z → is_below_zero z ≡ false
-not_below (pos n) h = refl
-not_below (negsuc n) h = absurd (omega (arith, ints))
-
-pub not_negative : (x : Fraction) → zero_fraction ≤ʳ x → is_negative x ≡ false
-not_negative x h = not_below x.num (num_of_nonneg x h)
 
 -- a price that is below 0
 pub low_price : (t : Table) (label : List ℕ) (price : Fraction) (k : ℕ) → position (is_label label) t.rows ≡ Some k → price <ʳ zero_fraction → with_price label price t ≡ Err Negative

@@ -13,7 +13,7 @@ use Rattle.production_table.specs.declared.faults.TableFault.TheVariants.{NoMemo
 use Rattle.production_table.specs.declared.tables.Table.{Table}
 use Rattle.production_table.specs.declared.tables.TableRow.{TableRow}
 use Rattle.production_table.specs.Answers.{Outcome}
-use Rattle.production_table.specs.Linear.{is_zero}
+use Rattle.production_table.specs.Numbers.{guard, is_full, is_negative, repriced, rewanted}
 use Rattle.production_table.specs.Tables.{is_label}
 use Rattle.table_rows.specs.declared.faults.SetupFault.{SetupFault}
 use Rattle.table_rows.specs.Setups.{checked_setup}
@@ -35,13 +35,6 @@ empty_table name = record { name = name; rows = []; wants = []; imports = []; su
 -- ---- rows
 abbrev pub is_used : Table → List ℕ → Bool
 is_used t label = list_any (is_label label) t.rows
-
-abbrev pub guard : Bool → TableFault → Outcome (Unit {0})
-guard refuses fault = if refuses then Err fault else Ok tt
-
--- whether there are as many as there may be
-abbrev pub is_full : {A : Type 0} → List A → Bool
-is_full things = not (nat_lt (length things) 512)
 
 -- a row as it comes in
 abbrev pub new_row : List ℕ → Setup → TableRow
@@ -83,13 +76,6 @@ unfoldable pub with_row_at : ℕ → TableRow → Table → Table
 with_row_at place row t = record t { rows = insert t.rows place row }
 
 -- ---- prices of rows
-abbrev pub is_below_zero : ℤ → Bool
-is_below_zero (pos n) = false
-is_below_zero (negsuc n) = true
-
-abbrev pub is_negative : Fraction → Bool
-is_negative x = is_below_zero x.num
-
 abbrev pub priced : Table → Fraction → ℕ → Option TableRow → Outcome (Fraction × Table)
 priced t price place None = Err Unknown
 priced t price place (Some row) =
@@ -100,55 +86,7 @@ priced t price place (Some row) =
 unfoldable pub with_price : List ℕ → Fraction → Table → Outcome (Fraction × Table)
 with_price label price t = priced t price (place_of label t.rows) (slice_get t.rows (place_of label t.rows))
 
--- ---- numbers of goods: wants, prices of imports and of surpluses, in the order of goods
--- the number of a good, where it has one
-unfoldable pub number_of : List (GoodId × Fraction) → GoodId → Option Fraction
-number_of [] good = None
-number_of (p ∷ ps) good = if p.0.0 == good.0 then Some p.1 else number_of ps good
-
--- a good's number set, at its place in the order
-unfoldable pub with_number : GoodId → Fraction → List (GoodId × Fraction) → List (GoodId × Fraction)
-with_number good number [] = (good, number) ∷ []
-with_number good number (p ∷ ps) =
-    if nat_lt good.0 p.0.0 then (good, number) ∷ p ∷ ps
-    else if p.0.0 == good.0 then (good, number) ∷ ps
-    else p ∷ with_number good number ps
-
--- a good's number taken away
-unfoldable pub without_number : GoodId → List (GoodId × Fraction) → List (GoodId × Fraction)
-without_number good [] = []
-without_number good (p ∷ ps) = if p.0.0 == good.0 then ps else p ∷ without_number good ps
-
-abbrev pub lacks : List (GoodId × Fraction) → GoodId → Bool
-lacks pairs good = is_none (number_of pairs good)
-
--- a new good beside so many others as there may be
-abbrev pub no_room : List (GoodId × Fraction) → GoodId → Bool
-no_room pairs good = lacks pairs good && is_full pairs
-
-abbrev pub put_or_take : GoodId → Option Fraction → List (GoodId × Fraction) → List (GoodId × Fraction)
-put_or_take good (Some number) pairs = with_number good number pairs
-put_or_take good None pairs = without_number good pairs
-
--- a price set, or with none taken away: first whether there is one to take away, then its sign, then the room. The old price,
--- or none, undoes it
-abbrev pub price_fits : List (GoodId × Fraction) → GoodId → Option Fraction → Outcome (Unit {0})
-price_fits pairs good None = guard (lacks pairs good) Unknown
-price_fits pairs good (Some price) = guard (is_negative price) Negative ▸ λ _. guard (no_room pairs good) Full
-
-unfoldable pub repriced : GoodId → Option Fraction → List (GoodId × Fraction) → Outcome (Option Fraction × List (GoodId × Fraction))
-repriced good price pairs = price_fits pairs good price ▸ λ _. Ok (number_of pairs good, put_or_take good price pairs)
-
-abbrev pub or_nothing : Fraction → Option Fraction
-or_nothing rate = if is_zero rate then None else Some rate
-
--- a want set, where 0 takes it away: first its sign, then the room. The old want, or 0, undoes it
-abbrev pub want_fits : List (GoodId × Fraction) → GoodId → Fraction → Outcome (Unit {0})
-want_fits pairs good rate = guard (is_negative rate) Negative ▸ λ _. guard (not (is_zero rate) && no_room pairs good) Full
-
-unfoldable pub rewanted : GoodId → Fraction → List (GoodId × Fraction) → Outcome (Option Fraction × List (GoodId × Fraction))
-rewanted good rate pairs = want_fits pairs good rate ▸ λ _. Ok (number_of pairs good, put_or_take good (or_nothing rate) pairs)
-
+-- ---- wants, and prices of what comes in and goes out
 unfoldable pub with_want : GoodId → Fraction → Table → Outcome (Option Fraction × Table)
 with_want good rate t = rewanted good rate t.wants ▸ λ both. Ok (both.0, record t { wants = both.1 })
 

@@ -18,6 +18,7 @@ use Rattle.production_table.specs.declared.faults.TableFault.TheVariants.{Wide a
 use Rattle.production_table.specs.declared.tables.Table.{Table}
 use Rattle.production_table.specs.declared.tables.TableRow.{TableRow}
 use Rattle.production_table.specs.Answers.{Outcome}
+use Rattle.production_table.specs.Numbers.{is_zero}
 use Rattle.table_rows.specs.Columns.{column_of}
 use Rattle.production_table.specs.Tables.{goods_of}
 
@@ -50,13 +51,6 @@ place_in [] good = 0
 place_in (g ∷ goods) good = if g.0 == good then 0 else place_in goods good + 1
 
 -- ---- the columns of the linear form
-abbrev pub is_zero_number : ℤ → Bool
-is_zero_number (pos n) = n == 0
-is_zero_number (negsuc n) = false
-
-abbrev pub is_zero : Fraction → Bool
-is_zero x = is_zero_number x.num
-
 -- a part for each good whose sum isn't 0, at the good's place
 unfoldable pub parts_at : List GoodId → List (GoodId × Fraction) → List (ℕ × Fraction)
 parts_at goods [] = []

@@ -6,6 +6,7 @@ ghost use Rattle.production_table.specs.Changes.{empty_table, is_used, with_bala
 ghost use Rattle.production_table.specs.Tables.{is_label, IsSoundTable};
 ghost use Rattle.table_rows.specs.Setups.{IsFitting};
 
+use crate::numbers::{reprice, rewant};
 use crate::{Table, TableFault, TableRow};
 use fractions::Ratio;
 use game_types::{Game, Setup};
@@ -14,7 +15,7 @@ use std::alloc::Global;
 use std::mem;
 
 // The row at a place has another price. Answers the old one.
-fn reprice(rows: &mut Vec<TableRow>, place: usize, price: &Ratio) -> Ratio
+fn set_price_at(rows: &mut Vec<TableRow>, place: usize, price: &Ratio) -> Ratio
     requires { place < length rows.old.items }
     ensures { (row : TableRow) → slice_get rows.old.items place ≡ Some row → (result ≡ row.price) × (rows.new.items ≡ slice_set rows.old.items place (record row { price = price.now })) }
 {
@@ -161,8 +162,7 @@ impl Table {
         ensures change { ChangesInMemory (with_want good rate.now self.old) result self.old self.new }
         ensures sound { IsSoundTable self.new }
     {
-        let (_table, _alloc, _good, _rate) = (self, alloc, good, rate);
-        Err(TableFault::NoMemory)
+        rewant(alloc, &mut self.wants, good, rate)
     }
 
     /// A good may come in, at this price of one unit; with none it may not. Answers the old price; setting that undoes it.
@@ -181,8 +181,7 @@ impl Table {
         ensures change { ChangesInMemory (with_import good price self.old) result self.old self.new }
         ensures sound { IsSoundTable self.new }
     {
-        let (_table, _alloc, _good, _price) = (self, alloc, good, price);
-        Err(TableFault::NoMemory)
+        reprice(alloc, &mut self.imports, good, price)
     }
 
     /// A good may go out, at this price of one unit; with none it may not. Answers the old price; setting that undoes it.
@@ -200,8 +199,7 @@ impl Table {
         ensures change { ChangesInMemory (with_surplus good price self.old) result self.old self.new }
         ensures sound { IsSoundTable self.new }
     {
-        let (_table, _alloc, _good, _price) = (self, alloc, good, price);
-        Err(TableFault::NoMemory)
+        reprice(alloc, &mut self.surpluses, good, price)
     }
 
     /// What one craft a second of the row with this label costs. Answers the old price; setting that undoes it.
@@ -227,7 +225,7 @@ impl Table {
         }
         let no_rows = Items::from_vec(Vec::new(alloc));
         let mut rows = mem::replace(&mut self.rows, no_rows).into_vec();
-        let old = reprice(&mut rows, place, price);
+        let old = set_price_at(&mut rows, place, price);
         self.rows = Items::from_vec(rows);
         Ok(old)
     }

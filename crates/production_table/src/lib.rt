@@ -4,6 +4,7 @@
 mod changes;
 mod faults;
 mod linear;
+mod numbers;
 mod tables;
 
 pub use faults::TableFault;

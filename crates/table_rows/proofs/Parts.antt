@@ -11,16 +11,16 @@ use Rattle.game_types.specs.Steps.{◌▸◌, added}
 use Rattle.table_rows.specs.Columns.{with_part}
 use Rattle.table_rows.specs.Places.{has_at, is_of, AllBelow, IsPlace, StartsFrom}
 
-first_branch : {A : Type 0} (b : Bool) (x y : A) → b ≡ true → (if b then x else y) ≡ x
+pub first_branch : {A : Type 0} (b : Bool) (x y : A) → b ≡ true → (if b then x else y) ≡ x
 first_branch true x y h = refl
 first_branch false x y h = absurd (cc)
 
-second_branch : {A : Type 0} (b c : Bool) (x y z : A) → b ≡ false → c ≡ true → (if b then x else if c then y else z) ≡ y
+pub second_branch : {A : Type 0} (b c : Bool) (x y z : A) → b ≡ false → c ≡ true → (if b then x else if c then y else z) ≡ y
 second_branch false true x y z h k = refl
 second_branch true c x y z h k = absurd (cc)
 second_branch false false x y z h k = absurd (cc)
 
-third_branch : {A : Type 0} (b c : Bool) (x y z : A) → b ≡ false → c ≡ false → (if b then x else if c then y else z) ≡ z
+pub third_branch : {A : Type 0} (b c : Bool) (x y z : A) → b ≡ false → c ≡ false → (if b then x else if c then y else z) ≡ z
 third_branch false false x y z h k = refl
 third_branch true c x y z h k = absurd (cc)
 third_branch false true x y z h k = absurd (cc)

@@ -10,8 +10,8 @@ use game_types::Wide;
 use game_types::steps::added;
 use plan_base::GoodId;
 
-// How many goods of a column come before a good.
-fn place_in(column: &[(GoodId, Ratio)], good: GoodId) -> usize
+/// How many goods of a list whose goods rise come before a good.
+pub fn place_in(column: &[(GoodId, Ratio)], good: GoodId) -> usize
     ensures within { result ≤ length column.now }
     ensures place { IsPlace column.now good result }
 {
@@ -24,8 +24,8 @@ fn place_in(column: &[(GoodId, Ratio)], good: GoodId) -> usize
     column.len()
 }
 
-// Whether a good's part stands at a place.
-fn has_at(column: &[(GoodId, Ratio)], place: usize, good: GoodId) -> bool
+/// Whether a good stands at a place of a list of goods.
+pub fn has_at(column: &[(GoodId, Ratio)], place: usize, good: GoodId) -> bool
     ensures { result ≡ has_at column.now place good }
 {
     match column.get(place) {

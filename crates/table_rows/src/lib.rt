@@ -8,6 +8,7 @@ mod faults;
 mod rates;
 mod setups;
 
+pub use columns::{has_at, place_in};
 pub use contributions::column_of;
 pub use faults::{RowFault, SetupFault};
 pub use rates::{RowRates, rates_of_row, row_rates};

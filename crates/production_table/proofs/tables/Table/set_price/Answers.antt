@@ -25,7 +25,7 @@ returns-clause-change c =
     let taken : c.into_vec-rows.result.items ≡ t.rows = c.into_vec-rows.ensures ∙ c.replace.ensures.value in
     let at = place_is c.args.label.now t.rows c.in-Some.place (sym c.find_row.ensures ∙ c.in-Some.is) in
     let row = some_row t.rows c.in-Some.place at.1 in
-    let told = c.reprice-old.ensures row.0 (ap (λ (rows : List TableRow). slice_get rows c.in-Some.place) taken ∙ row.1) in
+    let told = c.set_price_at-old.ensures row.0 (ap (λ (rows : List TableRow). slice_get rows c.in-Some.place) taken ∙ row.1) in
     let left : c.from_vec.result ≡ slice_set t.rows c.in-Some.place (record row.0 { price = c.args.price.now })
     = c.from_vec.ensures ∙ told.1 ∙ ap (λ (rows : List TableRow). slice_set rows c.in-Some.place (record row.0 { price = c.args.price.now })) taken in
     let one : with_price c.args.label.now c.args.price.now t ≡ Ok (row.0.price, record t { rows = slice_set t.rows c.in-Some.place (record row.0 { price = c.args.price.now }) })
@@ -38,7 +38,7 @@ returns-clause-sound c =
     let taken : c.into_vec-rows.result.items ≡ t.rows = c.into_vec-rows.ensures ∙ c.replace.ensures.value in
     let at = place_is c.args.label.now t.rows c.in-Some.place (sym c.find_row.ensures ∙ c.in-Some.is) in
     let row = some_row t.rows c.in-Some.place at.1 in
-    let told = c.reprice-old.ensures row.0 (ap (λ (rows : List TableRow). slice_get rows c.in-Some.place) taken ∙ row.1) in
+    let told = c.set_price_at-old.ensures row.0 (ap (λ (rows : List TableRow). slice_get rows c.in-Some.place) taken ∙ row.1) in
     let left : c.from_vec.result ≡ slice_set t.rows c.in-Some.place (record row.0 { price = c.args.price.now })
     = c.from_vec.ensures ∙ told.1 ∙ ap (λ (rows : List TableRow). slice_set rows c.in-Some.place (record row.0 { price = c.args.price.now })) taken in
     subst (λ (rows : List TableRow). IsSoundTable (record t { rows = rows })) (sym left)
