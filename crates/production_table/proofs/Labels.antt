@@ -7,11 +7,11 @@ use Rattle.std.proofs.lemmas.Slice.Eq.{bytes_eq-Decides}
 use Rattle.production_table.specs.declared.tables.TableRow.{TableRow}
 use Rattle.production_table.specs.Tables.{is_label, HasOwnLabels}
 
-or_false : (a b : Bool) → (a || b) ≡ false → (a ≡ false) × (b ≡ false)
+pub or_false : (a b : Bool) → (a || b) ≡ false → (a ≡ false) × (b ≡ false)
 or_false false b h = (refl, h)
 or_false true b h = absurd (cc)
 
-false_or : (a b : Bool) → a ≡ false → b ≡ false → (a || b) ≡ false
+pub false_or : (a b : Bool) → a ≡ false → b ≡ false → (a || b) ≡ false
 false_or false b h k = k
 false_or true b h k = absurd (cc)
 
@@ -23,7 +23,7 @@ turned one other true h k =
     let back : bytes_eq one other ≡ true = (bytes_eq-Decides one other).1 (sym same) in
     absurd (cc)
 
-differ : (one other : List ℕ) → bytes_eq one other ≡ false → bytes_eq other one ≡ false
+pub differ : (one other : List ℕ) → bytes_eq one other ≡ false → bytes_eq other one ≡ false
 differ one other h = turned one other (bytes_eq other one) refl h
 
 -- ---- one row less
@@ -81,3 +81,9 @@ own_set (x ∷ rows) zero old row h e own =
     (subst (λ (l : List ℕ). list_any (is_label l) rows ≡ false) (sym labels) own.0, own.1)
 own_set (x ∷ rows) (suc k) old row h e own =
     (any_set x.label rows k old row h e ∙ own.0, own_set rows k old row h e own.1)
+
+-- a row that stands among others
+pub any_at : (p : TableRow → Bool) (rows : List TableRow) (k : ℕ) (row : TableRow) → list_any p rows ≡ false → slice_get rows k ≡ Some row → p row ≡ false
+any_at p [] k row h is = absurd (cc)
+any_at p (x ∷ rows) zero row h is = let same : x ≡ row = cc in subst (λ (r : TableRow). p r ≡ false) same (or_false (p x) (list_any p rows) h).0
+any_at p (x ∷ rows) (suc k) row h is = any_at p rows k row (or_false (p x) (list_any p rows) h).1 is

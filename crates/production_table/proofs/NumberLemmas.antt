@@ -28,7 +28,7 @@ unfolding number_of
 find_end pairs k good end = ap (λ (ps : List (GoodId × Fraction)). number_of ps good) (drop_all pairs k end)
 
 -- ---- a number put
-put_behind : (good : GoodId) (number : Fraction) (p : GoodId × Fraction) (ps : List (GoodId × Fraction)) → p.0.0 < good.0 → with_number good number (p ∷ ps) ≡ p ∷ with_number good number ps
+pub put_behind : (good : GoodId) (number : Fraction) (p : GoodId × Fraction) (ps : List (GoodId × Fraction)) → p.0.0 < good.0 → with_number good number (p ∷ ps) ≡ p ∷ with_number good number ps
 unfolding with_number
 put_behind good number p ps h =
     let above : nat_lt good.0 p.0.0 ≡ false = grind (arith, nat_tests) in

@@ -14,7 +14,7 @@ use Rattle.production_table.specs.Tables.{Rises}
 use Rattle.production_table.proofs.Signs.{nonneg_is, positive_is}
 
 -- ---- order
-lower : (low more : ℕ) → (ps : List (GoodId × Fraction)) → low ≤ more → Rises more ps → Rises low ps
+pub lower : (low more : ℕ) → (ps : List (GoodId × Fraction)) → low ≤ more → Rises more ps → Rises low ps
 lower low more [] h rise = tt
 lower low more (p ∷ ps) h rise = let first = rise.0 in (omega arith, rise.1)
 

@@ -4,7 +4,7 @@ use Rattle.std.specs.Prelude.{Bool, true, false, IsTrue, ◌↔◌, ℤ, pos, ne
 use Rattle.std.proofs.lemmas.Int.{ints}
 use Rattle.std.proofs.lemmas.Bool.Decides.{nat_tests}
 use Rattle.fractions.specs.Fraction.{Fraction, zero_fraction, ◌≤ʳ◌, ◌<ʳ◌}
-use Rattle.fractions.proofs.Order.{num_of_nonneg, nonneg_of_num, positive_of_num, <ʳ_not_≤ʳ, ≤ʳ_from_not_<ʳ}
+use Rattle.fractions.proofs.Order.{num_of_nonneg, nonneg_of_num, num_of_positive, positive_of_num, <ʳ_not_≤ʳ, ≤ʳ_from_not_<ʳ}
 use Rattle.fractions.proofs.Parts.{num-zero}
 use Rattle.production_table.specs.Numbers.{is_below_zero, is_negative, is_zero, is_zero_number}
 
@@ -42,7 +42,7 @@ nothing (negsuc n) h = absurd (cc)
 pub zero_is : (x : Fraction) → is_zero x ≡ true → x ≡ zero_fraction
 zero_is x h = num-zero x (nothing x.num h)
 
-zero_of : is_zero zero_fraction ≡ true
+pub zero_of : is_zero zero_fraction ≡ true
 unfolding zero_fraction
 zero_of = refl
 
@@ -60,3 +60,14 @@ more (negsuc n) h k = absurd (cc)
 
 pub positive_is : (x : Fraction) → is_negative x ≡ false → is_zero x ≡ false → zero_fraction <ʳ x
 positive_is x h k = positive_of_num x (more x.num h k)
+
+pub zero_not_negative : is_negative zero_fraction ≡ false
+unfolding zero_fraction
+zero_not_negative = refl
+
+other : (z : ℤ) → pos 0 <ℤ z → is_zero_number z ≡ false
+other (pos n) h = let e : n ≢ 0 = λ k. omega (arith, ints) in grind (arith, nat_tests, e)
+other (negsuc n) h = refl
+
+pub positive_not_zero : (x : Fraction) → zero_fraction <ʳ x → is_zero x ≡ false
+positive_not_zero x h = other x.num (num_of_positive x h)

@@ -45,12 +45,17 @@ abbrev pub in_table : Result (Unit {0}) SetupFault → Outcome (Unit {0})
 in_table (Ok fine) = Ok tt
 in_table (Err fault) = Err (OfSetup fault)
 
--- a row comes in at the end, with price 0: first its label, then the room, then the set-up. Dropping it undoes that
-unfoldable pub with_row : Game → List ℕ → Setup → Table → Outcome (Unit {0} × Table)
-with_row g label setup t =
+-- whether a row can come in: first its label, then the room, then the set-up
+abbrev pub row_fits : Game → List ℕ → Setup → Table → Outcome (Unit {0})
+row_fits g label setup t =
     guard (is_used t label) LabelUsed ▸ λ _.
     guard (is_full t.rows) Full ▸ λ _.
-    in_table (checked_setup g setup) ▸ λ _.
+    in_table (checked_setup g setup)
+
+-- a row comes in at the end, with price 0. Dropping it undoes that
+unfoldable pub with_row : Game → List ℕ → Setup → Table → Outcome (Unit {0} × Table)
+with_row g label setup t =
+    row_fits g label setup t ▸ λ _.
     Ok (tt, record t { rows = t.rows ++ new_row label setup ∷ [] })
 
 -- the place of the first row with a label; where there is none, how many rows there are

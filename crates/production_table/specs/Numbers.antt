@@ -1,7 +1,7 @@
 -- Numbers of goods, in the order of goods: what is wanted of each, and the prices of what may come in and go out. What each
 -- change makes of them, when it is refused, and what it answers, which undoes it.
 use Rattle.std.specs.Prelude.{◌≡◌, ◌≢◌, ℕ, ◌==◌, ◌&&◌, Bool, true, false, not, nat_lt, is_none, ℤ, pos, negsuc, List, [], ◌∷◌, length, Option, Some, None, Result, Ok, Err, if◌then◌else◌}
-use Rattle.fractions.specs.Fraction.{Fraction}
+use Rattle.fractions.specs.Fraction.{Fraction, zero_fraction}
 use Rattle.plan_base.specs.declared.ids.GoodId.{GoodId}
 use Rattle.game_types.specs.Steps.{◌▸◌}
 use Rattle.production_table.specs.declared.faults.TableFault.{TableFault}
@@ -77,6 +77,11 @@ repriced good price pairs = price_fits pairs good price ▸ λ _. Ok (number_of 
 
 abbrev pub or_nothing : Fraction → Option Fraction
 or_nothing rate = if is_zero rate then None else Some rate
+
+-- the want that an answer is
+abbrev pub or_zero : Option Fraction → Fraction
+or_zero (Some rate) = rate
+or_zero None = zero_fraction
 
 -- a want set, where 0 takes it away: first its sign, then the room. The old want, or 0, undoes it
 abbrev pub want_fits : List (GoodId × Fraction) → GoodId → Fraction → Outcome (Unit {0})

@@ -3,9 +3,11 @@
 
 mod changes;
 mod faults;
+mod laws;
 mod linear;
 mod numbers;
 mod tables;
 
 pub use faults::TableFault;
+pub use laws::changes_are_undone;
 pub use tables::{LIMIT, Table, TableRow};

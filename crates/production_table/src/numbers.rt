@@ -98,7 +98,8 @@ fn is_zero(number: &Ratio) -> bool
     number.is_zero()
 }
 
-fn guard(refuses: bool, fault: TableFault) -> Result<(), TableFault>
+/// A fault, or none.
+pub fn guard(refuses: bool, fault: TableFault) -> Result<(), TableFault>
     ensures { result ≡ guard refuses fault }
 {
     if refuses { Err(fault) } else { Ok(()) }
