@@ -9,3 +9,5 @@ pub mod Undone
 pub mod Numbered
 pub mod Added
 pub mod RowsBack
+pub mod Goods
+pub mod Forms

@@ -9,8 +9,8 @@ use std::alloc::Global;
 use std::mem;
 use table_rows::{has_at, place_in};
 
-// The number of a good, where it has one.
-fn number_of(pairs: &[(GoodId, Ratio)], good: GoodId) -> Option<Ratio>
+/// The number of a good, where it has one.
+pub fn number_of(pairs: &[(GoodId, Ratio)], good: GoodId) -> Option<Ratio>
     ensures { result ≡ number_of pairs.now good }
 {
     for pair in pairs {
@@ -91,8 +91,8 @@ fn is_negative(number: &Ratio) -> bool
     number.is_neg()
 }
 
-// Whether a number is 0.
-fn is_zero(number: &Ratio) -> bool
+/// Whether a number is 0.
+pub fn is_zero(number: &Ratio) -> bool
     ensures { result ≡ is_zero number.now }
 {
     number.is_zero()
