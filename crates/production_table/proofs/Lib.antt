@@ -11,3 +11,4 @@ pub mod Added
 pub mod RowsBack
 pub mod Goods
 pub mod Forms
+pub mod Whole

@@ -1,5 +1,5 @@
 //! The linear form of a table.
-ghost use Rattle.std.specs.Prelude.{◌≡◌, ◌≤◌, ◌++◌, ◌∷◌, [], All, IfOk, OnErr, OnOk, length, map, position};
+ghost use Rattle.std.specs.Prelude.{◌≡◌, ◌≤◌, ◌++◌, ◌∷◌, [], All, IfErr, IfOk, OnErr, OnOk, length, map, position};
 ghost use Rattle.game_types.specs.Sound.{IsSound};
 ghost use Rattle.linear_table.specs.Plans.{IsWellFormed};
 ghost use Rattle.production_table.specs.Answers.{Gives};
@@ -94,10 +94,7 @@ fn add_goods(goods: &mut Vec<GoodId>, pairs: &[(GoodId, Ratio)]) -> Result<(), N
 }
 
 // The goods of columns more.
-fn add_columns(
-    goods: &mut Vec<GoodId>,
-    columns: &[Items<(GoodId, Ratio)>],
-) -> Result<(), NoMemory>
+fn add_columns(goods: &mut Vec<GoodId>, columns: &[Items<(GoodId, Ratio)>]) -> Result<(), NoMemory>
     ensures { OnOk result (goods.new.items ≡ with_columns goods.old.items columns.now) }
 {
     for column in columns {
@@ -258,6 +255,125 @@ fn want_of(wants: &[(GoodId, Ratio)], good: GoodId) -> Ratio
     }
 }
 
+// The columns of rows.
+fn add_rows(
+    alloc: Global,
+    made: &mut Vec<LinearColumn>,
+    goods: &[GoodId],
+    rows: &[TableRow],
+    columns: &[Items<(GoodId, Ratio)>],
+) -> Result<(), NoMemory>
+    requires goods { length goods.now ≤ 512 }
+    requires rows { length rows.now ≤ 512 }
+    requires columns { length columns.now ≡ length rows.now }
+    ensures { OnOk result (made.new.items ≡ made.old.items ++ row_columns goods.now 0 rows.now columns.now) }
+{
+    for number in 0..rows.len() {
+        let row = &rows[number];
+        let column = &columns[number];
+        let one = row_column(alloc, goods, number as u32, row, column.as_slice())?;
+        made.push(one)?;
+    }
+    Ok(())
+}
+
+// The columns of what comes in.
+fn add_imports(
+    alloc: Global,
+    made: &mut Vec<LinearColumn>,
+    goods: &[GoodId],
+    pairs: &[(GoodId, Ratio)],
+) -> Result<(), NoMemory>
+    requires { length goods.now ≤ 512 }
+    ensures { OnOk result (made.new.items ≡ made.old.items ++ map (import_column goods.now) pairs.now) }
+{
+    for pair in pairs {
+        let one = import_column(alloc, goods, pair)?;
+        made.push(one)?;
+    }
+    Ok(())
+}
+
+// The columns of what goes out.
+fn add_surpluses(
+    alloc: Global,
+    made: &mut Vec<LinearColumn>,
+    goods: &[GoodId],
+    pairs: &[(GoodId, Ratio)],
+) -> Result<(), NoMemory>
+    requires { length goods.now ≤ 512 }
+    ensures { OnOk result (made.new.items ≡ made.old.items ++ map (surplus_column goods.now) pairs.now) }
+{
+    for pair in pairs {
+        let one = surplus_column(alloc, goods, pair)?;
+        made.push(one)?;
+    }
+    Ok(())
+}
+
+// What is wanted of each good.
+fn wants_of(
+    alloc: Global,
+    goods: &[GoodId],
+    wants: &[(GoodId, Ratio)],
+) -> Result<Items<Ratio>, NoMemory>
+    ensures { IfOk result (λ rates. rates ≡ map (want_of wants.now) goods.now) }
+{
+    let mut rates = Vec::new(alloc);
+    for good in goods {
+        rates.push(want_of(wants, *good))?;
+    }
+    Ok(Items::from_vec(rates))
+}
+
+// A linear form of these goods and columns.
+fn linear_with(
+    alloc: Global,
+    table: &Table,
+    goods: Vec<GoodId>,
+    columns: &[Items<(GoodId, Ratio)>],
+) -> Result<Linear, NoMemory>
+    requires goods { length goods.items ≤ 512 }
+    requires rows { length table.now.rows ≤ 512 }
+    requires columns { length columns.now ≡ length table.now.rows }
+    ensures { IfOk result (λ linear. linear ≡ linear_with table.now goods.items columns.now) }
+{
+    let mut made = Vec::new(alloc);
+    add_rows(
+        alloc,
+        &mut made,
+        goods.as_slice(),
+        table.rows.as_slice(),
+        columns,
+    )?;
+    add_imports(alloc, &mut made, goods.as_slice(), table.imports.as_slice())?;
+    add_surpluses(
+        alloc,
+        &mut made,
+        goods.as_slice(),
+        table.surpluses.as_slice(),
+    )?;
+    let wants = wants_of(alloc, goods.as_slice(), table.wants.as_slice())?;
+    Ok(Linear {
+        goods: Items::from_vec(goods),
+        columns: Items::from_vec(made),
+        wants,
+    })
+}
+
+// A linear form that is well formed.
+fn well_formed(linear: Linear) -> Result<Linear, TableFault>
+    ensures same { IfOk result (λ same. same ≡ linear) }
+    ensures formed { IfOk result IsWellFormed }
+    ensures memory { IfErr result (λ fault. fault ≡ TableFault.NoMemory) }
+{
+    if linear.is_well_formed() {
+        Ok(linear)
+    } else {
+        Err(TableFault::NoMemory)
+    }
+}
+
 impl Table {
     /// The linear form of the table: the goods that it mentions, a column for each row, import and surplus, and what is
     /// wanted.
@@ -273,7 +389,12 @@ impl Table {
         ensures linear { Gives (linear_of game.now self.now) result }
         ensures formed { IfOk result IsWellFormed }
     {
-        let (_table, _alloc, _game) = (self, alloc, game);
-        Err(TableFault::NoMemory)
+        let columns = columns_of(alloc, game, self.power, self.rows.as_slice())?;
+        let goods = goods_of(alloc, self, columns.as_slice())?;
+        if goods.len() > LIMIT {
+            return Err(TableFault::Full);
+        }
+        let linear = linear_with(alloc, self, goods, columns.as_slice())?;
+        well_formed(linear)
     }
 }
