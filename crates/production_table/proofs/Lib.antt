@@ -1,0 +1,14 @@
+pub mod Labels
+pub mod Sound
+pub mod Signs
+pub mod Found
+pub mod Pairs
+pub mod NumberLemmas
+pub mod NumberSound
+pub mod Undone
+pub mod Numbered
+pub mod Added
+pub mod RowsBack
+pub mod Goods
+pub mod Forms
+pub mod Whole

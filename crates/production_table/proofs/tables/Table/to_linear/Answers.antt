@@ -1,0 +1,42 @@
+use Rattle.std.proofs.Common.{◌≡◌, ◌∙◌, ◌<◌, ◌≤◌, List, length, sym, ap, subst, arith, rules}
+use Rattle.std.specs.Prelude.{◌≢◌, Err, Ok}
+use Rattle.fractions.specs.Fraction.{Fraction}
+use Rattle.plan_base.specs.declared.ids.GoodId.{GoodId}
+use Rattle.game_types.proofs.Walks.{returned}
+use Rattle.production_table.specs.declared.faults.TableFault.TheVariants.{NoMemory}
+use Rattle.production_table.specs.declared.tables.TableRow.{TableRow}
+use Rattle.production_table.specs.Linear.{columns_of, linear_with, table_goods}
+use Rattle.production_table.proofs.Forms.{columns_count}
+use Rattle.production_table.proofs.Whole.{ends, rows_fault, too_many, whole}
+use Rattle.production_table.proofs.tables.Table.to_linear.Goals as goal
+
+pub returns-in_err-columns-clause-linear : goal.returns-in_err-columns-clause-linear
+returns-in_err-columns-clause-linear c =
+    rows_fault c.args.game.now c.args.self.now c.in_err-columns.field-0.0 c.from_residual.result (returned c.from_residual.result c.in_err-columns.field-0.0 c.from_residual.ensures)
+    (λ (not_memory : c.in_err-columns.field-0.0 ≢ NoMemory).
+    ap (λ (rows : List TableRow). columns_of c.args.game.now c.args.self.now.power rows) (sym c.as_slice.ensures) ∙ c.in_err-columns.ensures not_memory)
+
+pub returns-then-len-gt-LIMIT-clause-linear : goal.returns-then-len-gt-LIMIT-clause-linear
+returns-then-len-gt-LIMIT-clause-linear c =
+    let made : columns_of c.args.game.now c.args.self.now.power c.args.self.now.rows ≡ Ok c.in_ok-columns.columns
+    = ap (λ (rows : List TableRow). columns_of c.args.game.now c.args.self.now.power rows) (sym c.as_slice.ensures) ∙ c.in_ok-columns.ensures in
+    let far : 512 < length c.in_ok-goods.goods.items = first_of (omega arith, omega (arith, c.in_ok-goods.goods.ok.0), search rules) in
+    λ _. too_many c.args.game.now c.args.self.now c.in_ok-columns.columns c.in_ok-goods.goods.items made
+    (c.in_ok-goods.ensures ∙ ap (λ (columns : List (List (GoodId × Fraction))). table_goods c.args.self.now columns) c.as_slice-2.ensures) far
+
+pub linear_with-requires-clause-columns : goal.linear_with-requires-clause-columns
+linear_with-requires-clause-columns c =
+    let made : columns_of c.args.game.now c.args.self.now.power c.args.self.now.rows ≡ Ok c.in_ok-columns.columns
+    = ap (λ (rows : List TableRow). columns_of c.args.game.now c.args.self.now.power rows) (sym c.as_slice.ensures) ∙ c.in_ok-columns.ensures in
+    ap (λ (columns : List (List (GoodId × Fraction))). length columns) c.as_slice-3.ensures ∙ columns_count c.args.game.now c.args.self.now.power c.args.self.now.rows c.in_ok-columns.columns made
+
+pub returns-clause-linear : goal.returns-clause-linear
+returns-clause-linear c =
+    let made : columns_of c.args.game.now c.args.self.now.power c.args.self.now.rows ≡ Ok c.in_ok-columns.columns
+    = ap (λ (rows : List TableRow). columns_of c.args.game.now c.args.self.now.power rows) (sym c.as_slice.ensures) ∙ c.in_ok-columns.ensures in
+    let near : length c.in_ok-goods.goods.items ≤ 512 = first_of (omega arith, omega (arith, c.in_ok-goods.goods.ok.0), search rules) in
+    let is = whole c.args.game.now c.args.self.now c.in_ok-columns.columns c.in_ok-goods.goods.items made
+    (c.in_ok-goods.ensures ∙ ap (λ (columns : List (List (GoodId × Fraction))). table_goods c.args.self.now columns) c.as_slice-2.ensures) near in
+    let same : linear_with c.args.self.now c.in_ok-goods.goods.items c.in_ok-columns.columns ≡ c.in_ok-linear.linear
+    = sym (c.in_ok-linear.ensures ∙ ap (λ (columns : List (List (GoodId × Fraction))). linear_with c.args.self.now c.in_ok-goods.goods.items columns) c.as_slice-3.ensures) in
+    ends _ c.in_ok-linear.linear c.well_formed-2.result (is ∙ ap Ok same) c.well_formed-2.ensures.same c.well_formed-2.ensures.memory

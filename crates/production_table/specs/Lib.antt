@@ -1,0 +1,6 @@
+pub mod Answers
+pub mod Tables
+pub mod Numbers
+pub mod Linear
+pub mod Changes
+pub mod Balance

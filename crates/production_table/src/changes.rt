@@ -1,0 +1,341 @@
+//! Tables made, copied and changed.
+ghost use Rattle.std.specs.Prelude.{◌≡◌, ◌<◌, ◌≤◌, Some, IfOk, OnOk, OnErr, length, position, slice_get, slice_set};
+ghost use Rattle.std.specs.List.{insert, list_any};
+ghost use Rattle.production_table.specs.declared.tables.TableRow.{TableRow};
+ghost use Rattle.game_types.specs.Sound.{IsSound, IsSoundSetup};
+ghost use Rattle.production_table.specs.Changes.{empty_table, new_row, row_fits, with_balance, with_import, with_price, with_row, with_row_at, with_surplus, with_want, without_row, Changes, ChangesInMemory, HasRoom};
+ghost use Rattle.production_table.specs.Tables.{is_label, IsSoundTable};
+ghost use Rattle.table_rows.specs.Setups.{IsFitting};
+
+use crate::numbers::{guard, reprice, rewant};
+use crate::{LIMIT, Table, TableFault, TableRow};
+use fractions::Ratio;
+use game_types::{Game, Setup};
+use plan_base::{GoodId, Items, NoMemory, Text};
+use std::alloc::Global;
+use std::mem;
+use table_rows::check_setup;
+
+// The row at a place has another price. Answers the old one.
+fn set_price_at(rows: &mut Vec<TableRow>, place: usize, price: &Ratio) -> Ratio
+    requires { place < length rows.old.items }
+    ensures { (row : TableRow) → slice_get rows.old.items place ≡ Some row → (result ≡ row.price) × (rows.new.items ≡ slice_set rows.old.items place (record row { price = price.now })) }
+{
+    let row = &mut rows[place];
+    mem::replace(&mut row.price, *price)
+}
+
+// A list of the same numbers.
+fn copied(alloc: Global, pairs: &Items<(GoodId, Ratio)>) -> Result<Items<(GoodId, Ratio)>, NoMemory>
+    ensures { IfOk result (λ copy. copy ≡ pairs.now) }
+{
+    let copy = Vec::from_slice(alloc, pairs.as_slice())?;
+    Ok(Items::from_vec(copy))
+}
+
+// A list of the same rows.
+fn copied_rows(alloc: Global, rows: &[TableRow]) -> Result<Items<TableRow>, NoMemory>
+    ensures { IfOk result (λ copy. copy ≡ rows.now) }
+{
+    let mut copy = Vec::with_capacity(alloc, rows.len())?;
+    for row in rows {
+        let row = row.copy(alloc)?;
+        copy.push(row)?;
+    }
+    Ok(Items::from_vec(copy))
+}
+
+// Whether a row has this label.
+fn is_used(rows: &[TableRow], label: &str) -> bool
+    ensures { result ≡ list_any (is_label label.now) rows.now }
+{
+    rows.iter().any(|row| row.label.as_str() == label)
+}
+
+// Whether a row of this label and set-up can come in.
+fn check_row(table: &Table, game: &Game, label: &str, setup: &Setup) -> Result<(), TableFault>
+    requires game { IsSound game.now }
+    requires setup { IsSoundSetup game.now setup.now }
+    ensures { result ≡ row_fits game.now label.now setup.now table.now }
+{
+    guard(is_used(table.rows.as_slice(), label), TableFault::LabelUsed)?;
+    guard(table.rows.len() >= LIMIT, TableFault::Full)?;
+    match check_setup(game, setup) {
+        Ok(()) => Ok(()),
+        Err(fault) => Err(TableFault::Setup(fault)),
+    }
+}
+
+// A row as it comes in.
+fn new_row(alloc: Global, label: &str, setup: Setup) -> Result<TableRow, NoMemory>
+    ensures { IfOk result (λ row. row ≡ new_row label.now setup) }
+{
+    let label = Text::copy(alloc, label)?;
+    Ok(TableRow {
+        label,
+        setup,
+        price: Ratio::zero(),
+    })
+}
+
+// A row at a place.
+fn insert_at(rows: &mut Vec<TableRow>, place: usize, row: TableRow) -> Result<(), NoMemory>
+    requires { place ≤ length rows.old.items }
+    ensures ok { OnOk result (rows.new.items ≡ insert rows.old.items place row) }
+    ensures err { OnErr result (rows.new.items ≡ rows.old.items) }
+{
+    rows.reserve(1)?;
+    rows.insert(place, row)?;
+    Ok(())
+}
+
+// A row at a place of a table's.
+fn insert_row(
+    alloc: Global,
+    rows: &mut Items<TableRow>,
+    place: usize,
+    row: TableRow,
+) -> Result<(), NoMemory>
+    requires { place ≤ length rows.old }
+    ensures ok { OnOk result (rows.new ≡ insert rows.old place row) }
+    ensures err { OnErr result (rows.new ≡ rows.old) }
+{
+    let no_rows = Items::from_vec(Vec::new(alloc));
+    let mut list = mem::replace(rows, no_rows).into_vec();
+    let done = insert_at(&mut list, place, row);
+    *rows = Items::from_vec(list);
+    done
+}
+
+impl TableRow {
+    /// An equal row of its own.
+    ///
+    /// # Errors
+    ///
+    /// `NoMemory` where memory could not be had.
+    pub fn copy(&self, alloc: Global) -> Result<TableRow, NoMemory>
+        ensures { IfOk result (λ copy. copy ≡ self.now) }
+    {
+        let label = Text::copy(alloc, self.label.as_str())?;
+        let setup = self.setup.copy(alloc)?;
+        Ok(TableRow {
+            label,
+            setup,
+            price: self.price,
+        })
+    }
+}
+
+impl Table {
+    /// A table with no rows and no goods, which balances no power.
+    ///
+    /// # Errors
+    ///
+    /// `NoMemory` where memory could not be had.
+    pub fn make(alloc: Global, name: &str) -> Result<Table, NoMemory>
+        ensures table { IfOk result (λ table. table ≡ empty_table name.now) }
+        ensures sound { IfOk result IsSoundTable }
+    {
+        let name = Text::copy(alloc, name)?;
+        Ok(Table {
+            name,
+            rows: Items::from_vec(Vec::new(alloc)),
+            wants: Items::from_vec(Vec::new(alloc)),
+            imports: Items::from_vec(Vec::new(alloc)),
+            surpluses: Items::from_vec(Vec::new(alloc)),
+            power: false,
+        })
+    }
+
+    /// An equal table of its own.
+    ///
+    /// # Errors
+    ///
+    /// `NoMemory` where memory could not be had.
+    pub fn copy(&self, alloc: Global) -> Result<Table, NoMemory>
+        ensures { IfOk result (λ copy. copy ≡ self.now) }
+    {
+        let name = Text::copy(alloc, self.name.as_str())?;
+        let rows = copied_rows(alloc, self.rows.as_slice())?;
+        let wants = copied(alloc, &self.wants)?;
+        let imports = copied(alloc, &self.imports)?;
+        let surpluses = copied(alloc, &self.surpluses)?;
+        Ok(Table {
+            name,
+            rows,
+            wants,
+            imports,
+            surpluses,
+            power: self.power,
+        })
+    }
+
+    /// The place of the row with a label, where there is one.
+    pub fn find_row(&self, label: &str) -> Option<usize>
+        ensures { result ≡ position (is_label label.now) self.now.rows }
+    {
+        self.rows
+            .as_slice()
+            .iter()
+            .position(|row| row.label.as_str() == label)
+    }
+
+    /// A row of this label comes in at the end, with price 0. `drop_row` of the label undoes it.
+    ///
+    /// # Errors
+    ///
+    /// The first of these, exactly, unless memory could not be had: `LabelUsed` (P5) where a row has the label; `Full` (P3)
+    /// where there are 512 rows; the faults of `check_setup`, of which `Temperature` (P4) comes first.
+    pub fn add_row(
+        &mut self,
+        alloc: Global,
+        game: &Game,
+        label: &str,
+        setup: Setup,
+    ) -> Result<(), TableFault>
+        requires game { IsSound game.now }
+        requires setup { IsSoundSetup game.now setup }
+        requires sound { IsSoundTable self.old }
+        ensures change { ChangesInMemory (with_row game.now label.now setup self.old) result self.old self.new }
+        ensures fits { OnOk result (IsFitting game.now setup) }
+        ensures sound { IsSoundTable self.new }
+    {
+        check_row(self, game, label, &setup)?;
+        let row = new_row(alloc, label, setup)?;
+        let end = self.rows.len();
+        insert_row(alloc, &mut self.rows, end, row)?;
+        Ok(())
+    }
+
+    /// The row with this label is dropped. Answers its place and the row; `put_row` of both undoes it.
+    ///
+    /// # Errors
+    ///
+    /// `Unknown` (P1) exactly where no row has the label.
+    pub fn drop_row(&mut self, alloc: Global, label: &str) -> Result<(u32, TableRow), TableFault>
+        requires sound { IsSoundTable self.old }
+        ensures change { Changes (without_row label.now self.old) result self.old self.new }
+        ensures sound { IsSoundTable self.new }
+    {
+        let Some(place) = self.find_row(label) else {
+            return Err(TableFault::Unknown);
+        };
+        let no_rows = Items::from_vec(Vec::new(alloc));
+        let mut rows = mem::replace(&mut self.rows, no_rows).into_vec();
+        let row = rows.remove(place);
+        self.rows = Items::from_vec(rows);
+        Ok((place as u32, row))
+    }
+
+    /// A row goes to a place, which undoes a `drop_row` that gave both.
+    ///
+    /// # Errors
+    ///
+    /// `NoMemory` where memory could not be had.
+    pub fn put_row(&mut self, alloc: Global, place: u32, row: TableRow) -> Result<(), NoMemory>
+        requires room { HasRoom self.old place row }
+        requires sound { IsSoundTable self.old }
+        ensures change { OnOk result (self.new ≡ with_row_at place row self.old) }
+        ensures err { OnErr result (self.new ≡ self.old) }
+        ensures sound { IsSoundTable self.new }
+    {
+        insert_row(alloc, &mut self.rows, place as usize, row)
+    }
+
+    /// What is wanted of a good, in units a second, where 0 takes the want away. Answers the old want; setting that, or 0,
+    /// undoes it.
+    ///
+    /// # Errors
+    ///
+    /// The first of these, exactly, unless memory could not be had: `Negative` (P2); `Full` (P3) where a rate above 0 is of a
+    /// new good beside 512 others.
+    pub fn set_want(
+        &mut self,
+        alloc: Global,
+        good: GoodId,
+        rate: &Ratio,
+    ) -> Result<Option<Ratio>, TableFault>
+        requires sound { IsSoundTable self.old }
+        ensures change { ChangesInMemory (with_want good rate.now self.old) result self.old self.new }
+        ensures sound { IsSoundTable self.new }
+    {
+        rewant(alloc, &mut self.wants, good, rate)
+    }
+
+    /// A good may come in, at this price of one unit; with none it may not. Answers the old price; setting that undoes it.
+    ///
+    /// # Errors
+    ///
+    /// The first of these, exactly, unless memory could not be had: `Unknown` (P1) where there is none to take away;
+    /// `Negative` (P2); `Full` (P3) where the good is new beside 512 others.
+    pub fn set_import(
+        &mut self,
+        alloc: Global,
+        good: GoodId,
+        price: Option<Ratio>,
+    ) -> Result<Option<Ratio>, TableFault>
+        requires sound { IsSoundTable self.old }
+        ensures change { ChangesInMemory (with_import good price self.old) result self.old self.new }
+        ensures sound { IsSoundTable self.new }
+    {
+        reprice(alloc, &mut self.imports, good, price)
+    }
+
+    /// A good may go out, at this price of one unit; with none it may not. Answers the old price; setting that undoes it.
+    ///
+    /// # Errors
+    ///
+    /// Those of `set_import`.
+    pub fn set_surplus(
+        &mut self,
+        alloc: Global,
+        good: GoodId,
+        price: Option<Ratio>,
+    ) -> Result<Option<Ratio>, TableFault>
+        requires sound { IsSoundTable self.old }
+        ensures change { ChangesInMemory (with_surplus good price self.old) result self.old self.new }
+        ensures sound { IsSoundTable self.new }
+    {
+        reprice(alloc, &mut self.surpluses, good, price)
+    }
+
+    /// What one craft a second of the row with this label costs. Answers the old price; setting that undoes it.
+    ///
+    /// # Errors
+    ///
+    /// The first of these, exactly: `Unknown` (P1) where no row has the label; `Negative` (P2).
+    pub fn set_price(
+        &mut self,
+        alloc: Global,
+        label: &str,
+        price: &Ratio,
+    ) -> Result<Ratio, TableFault>
+        requires sound { IsSoundTable self.old }
+        ensures change { Changes (with_price label.now price.now self.old) result self.old self.new }
+        ensures sound { IsSoundTable self.new }
+    {
+        let Some(place) = self.find_row(label) else {
+            return Err(TableFault::Unknown);
+        };
+        if price.is_neg() {
+            return Err(TableFault::Negative);
+        }
+        let no_rows = Items::from_vec(Vec::new(alloc));
+        let mut rows = mem::replace(&mut self.rows, no_rows).into_vec();
+        let old = set_price_at(&mut rows, place, price);
+        self.rows = Items::from_vec(rows);
+        Ok(old)
+    }
+
+    /// Sets whether the table balances its electric power, and answers what was so before; setting that undoes it.
+    pub fn set_power(&mut self, on: bool) -> bool
+        requires { IsSoundTable self.old }
+        ensures old { result ≡ (with_balance on self.old).0 }
+        ensures new { self.new ≡ (with_balance on self.old).1 }
+        ensures sound { IsSoundTable self.new }
+    {
+        let old = self.power;
+        self.power = on;
+        old
+    }
+}
