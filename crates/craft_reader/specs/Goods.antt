@@ -7,9 +7,10 @@ use Rattle.fractions.specs.Fraction.{Fraction, zero_fraction, one_fraction}
 use Rattle.prototype_fields.specs.declared.names.Key.{Key}
 use Rattle.prototype_fields.specs.declared.names.Key.TheVariants as k
 use Rattle.prototype_fields.specs.declared.names.Within.{Within}
+use Rattle.prototype_fields.specs.declared.names.Within.TheVariants as w
 use Rattle.prototype_fields.specs.declared.fault.FieldCode.TheVariants.{WrongKind}
 use Rattle.prototype_fields.specs.Numbers.{is_less}
-use Rattle.prototype_fields.specs.Objects.{Object, Member, as_object, as_list, pair_members}
+use Rattle.prototype_fields.specs.Objects.{Object, Member, as_object, as_list, field, pair_members}
 use Rattle.prototype_fields.specs.Values.{Reading, ◌▸◌, amount, amount_or, each, name, number, of_kind, required_amount, required_name, short_list, text, wrong, wrong_element}
 use Rattle.craft_reader.specs.declared.goods.GoodKind.{GoodKind}
 use Rattle.craft_reader.specs.declared.goods.GoodKind.TheVariants.{Item, Fluid}
@@ -129,6 +130,26 @@ product within element =
     number form.object k.Temperature ▸ λ temperature.
     Ok (record { good = good; low = range.0; high = range.1; probability = at_most_one probability; catalyst = catalyst; temperature = temperature })
 
+-- ---- what a launch brings back, which are items: a list of products, or where that is absent one product
+unfoldable pub item_product : Within → Kept → Reading RawProduct
+item_product within element =
+    form_of within element ▸ λ form.
+    good_kind form.object ▸ λ kind.
+    only_item form.object kind ▸ λ item.
+    product within element
+
+abbrev pub lone_launch : Option Kept → Reading (List RawProduct)
+lone_launch None = Ok []
+lone_launch (Some element) = item_product w.RocketLaunchProduct element ▸ λ product. Ok (product ∷ [])
+
+abbrev pub listed_launch : Object → Option (List Kept) → Reading (List RawProduct)
+listed_launch object (Some elements) = each (item_product w.RocketLaunchProducts) elements
+listed_launch object None = lone_launch (field object k.RocketLaunchProduct)
+
+unfoldable pub launch_products : Object → Reading (List RawProduct)
+launch_products object = short_list object k.RocketLaunchProducts ▸ listed_launch object
+
+-- ---- products of recipes and of what is mined
 -- the product of a lone name, with its count under a key
 unfoldable pub lone_product : Object → Key → List ℕ → Reading RawProduct
 lone_product object count_key name =

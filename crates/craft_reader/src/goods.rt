@@ -1,9 +1,9 @@
 //! Ingredients, products and science packs.
-ghost use Rattle.std.specs.Prelude.{◌≡◌, [], ◌∷◌, Ok};
+ghost use Rattle.std.specs.Prelude.{◌≡◌, [], ◌∷◌, Ok, option_map};
 ghost use Rattle.json_text.specs.SpanSeen.{span_seen, spans_seen};
 ghost use Rattle.prototype_fields.specs.Seen.{object_seen};
 ghost use Rattle.prototype_fields.specs.Values.{◌▸◌, Gives, each, seen_as};
-ghost use Rattle.craft_reader.specs.Goods.{at_most_one, bounds_beside, form_amount, form_of, good_kind, ingredient, kind_of, list_form, lone_product, named_good, pack, product, product_range, products, range_beside, temperatures};
+ghost use Rattle.craft_reader.specs.Goods.{at_most_one, bounds_beside, form_amount, form_of, good_kind, ingredient, item_product, kind_of, launch_products, list_form, lone_launch, lone_product, named_good, pack, product, product_range, products, range_beside, temperatures};
 ghost use Rattle.craft_reader.specs.Seen.{form_seen};
 
 use fractions::Ratio;
@@ -289,6 +289,71 @@ pub fn product(
         catalyst,
         temperature,
     })
+}
+
+// A product that is an item.
+#[tactic(auto, unfolding(crate::specs::Goods::item_product, crate::specs::Seen::form_seen))]
+fn item_product(
+    alloc: Global,
+    within: Within,
+    element: &SpanTree<'_>,
+) -> Result<RawProduct, FieldFault>
+    ensures { Gives (item_product within (span_seen element.now)) result }
+{
+    let form = form_of(within, element)?;
+    if good_kind(&form.fields)? == GoodKind::Fluid {
+        return Err(form.fields.fault(FieldCode::WrongKind, Key::TypeName));
+    }
+    product(alloc, within, element)
+}
+
+fn each_item_product(
+    alloc: Global,
+    within: Within,
+    elements: &[SpanTree<'_>],
+) -> Result<Items<RawProduct>, FieldFault>
+    ensures { Gives (each (item_product within) (spans_seen elements.now)) result }
+{
+    let mut products = Vec::new(alloc);
+    for element in elements {
+        let product = item_product(alloc, within, element)?;
+        products.push(product)?;
+    }
+    Ok(Items::from_vec(products))
+}
+
+// The one product of a launch, where it is there.
+fn lone_launch(
+    alloc: Global,
+    element: Option<&SpanTree<'_>>,
+) -> Result<Items<RawProduct>, FieldFault>
+    ensures { Gives (lone_launch (option_map (λ value. span_seen value.now) element)) result }
+{
+    let mut products = Vec::new(alloc);
+    if let Some(element) = element {
+        let product = item_product(alloc, Within::RocketLaunchProduct, element)?;
+        products.push(product)?;
+    }
+    Ok(Items::from_vec(products))
+}
+
+/// What the launch of an item brings back: the products of `rocket_launch_products`, or where that is absent the one of
+/// `rocket_launch_product`, where that is there.
+///
+/// # Errors
+///
+/// The first fault of the fields; a fluid is of the wrong kind. `NoMemory` where memory could not be had.
+#[tactic(auto, unfolding(crate::specs::Goods::launch_products))]
+pub fn launch_products(
+    alloc: Global,
+    fields: &Fields<'_, '_>,
+) -> Result<Items<RawProduct>, FieldFault>
+    ensures { Gives (launch_products (object_seen fields.now)) result }
+{
+    match fields.short_list(Key::RocketLaunchProducts)? {
+        Some(elements) => each_item_product(alloc, Within::RocketLaunchProducts, elements),
+        None => lone_launch(alloc, fields.field(Key::RocketLaunchProduct)),
+    }
 }
 
 // The product of a lone name.

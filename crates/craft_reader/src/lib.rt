@@ -10,8 +10,8 @@ mod tests;
 
 pub use fault::{DumpCode, DumpFault};
 pub use goods::{
-    GoodKind, NamedGood, RawPack, RawPart, RawProduct, ingredient, ingredients, pack, packs,
-    product, products,
+    GoodKind, NamedGood, RawPack, RawPart, RawProduct, ingredient, ingredients, launch_products,
+    pack, packs, product, products,
 };
 pub use recipes::{RawRecipe, chosen, is_switched_off, raw_recipe, read_recipe};
 pub use technologies::{RawTech, raw_tech, read_tech};

@@ -70,10 +70,11 @@ module _ (g : Game) (recipes : List Recipe) (techs : List Tech) (same : length g
     place = h.place;
     burnt = h.burnt;
     module_ = if_some (IsSoundModule g) (IsSoundModule (changed_game g recipes techs)) of_module item.module h.module_;
+    launch = h.launch;
   }
 
   of_recipe : (recipe : Recipe) → IsSoundRecipe g recipe → IsSoundRecipe (changed_game g recipes techs) recipe
-  of_recipe recipe h = record { ingredients = h.ingredients; products = h.products }
+  of_recipe recipe h = record { ingredients = h.ingredients; products = h.products; launch = h.launch }
 
   of_source : (source : Source) → IsSoundSource g source → IsSoundSource (changed_game g recipes techs) source
   of_source source h = record { products = h.products; fluid = h.fluid }
@@ -127,6 +128,8 @@ module _ (g : Game) (recipes : List Recipe) (techs : List Tech) (same : length g
     tech_names = h.tech_names ∙ same_techs;
     nodes = subst (λ (n : ℕ). n ≤ NODE_LIMIT) (sym nodes_same) h.nodes;
     items = All-weaker (IsSoundItem g) (IsSoundItem (changed_game g recipes techs)) of_item g.items h.items;
+    fluids = h.fluids;
+    apart = h.apart;
     recipes = All-weaker (IsSoundRecipe g) (IsSoundRecipe (changed_game g recipes techs)) of_recipe recipes recipes_sound;
     sources = All-weaker (IsSoundSource g) (IsSoundSource (changed_game g recipes techs)) of_source g.sources h.sources;
     machines = All-weaker (IsSoundMachine g) (IsSoundMachine (changed_game g recipes techs)) of_machine g.machines h.machines;
@@ -215,10 +218,10 @@ length-with_at f place xs = changed (slice_get xs place)
     changed (Some x) = length-set xs place (f x)
 
 recipe_keeps : (book : Book) (recipe : RecipeId) (part : RecipePart) → IsSoundPart (OfRecipe recipe part) book → (r : Recipe) → IsSoundRecipe book.game r → IsSoundRecipe book.game (with_recipe_part part r)
-recipe_keeps book recipe (Ingredients list) h r s = record { ingredients = h; products = s.products }
-recipe_keeps book recipe (Products list) h r s = record { ingredients = s.ingredients; products = h }
-recipe_keeps book recipe (Time time) h r s = record { ingredients = s.ingredients; products = s.products }
-recipe_keeps book recipe (Enabled on) h r s = record { ingredients = s.ingredients; products = s.products }
+recipe_keeps book recipe (Ingredients list) h r s = record { ingredients = h; products = s.products; launch = s.launch }
+recipe_keeps book recipe (Products list) h r s = record { ingredients = s.ingredients; products = h; launch = s.launch }
+recipe_keeps book recipe (Time time) h r s = record { ingredients = s.ingredients; products = s.products; launch = s.launch }
+recipe_keeps book recipe (Enabled on) h r s = record { ingredients = s.ingredients; products = s.products; launch = s.launch }
 
 pub restored_sound : (part : Inverse) (book : Book) → IsSoundPart part book → IsSoundBook book → IsSoundBook (restored part book)
 restored_sound (OfRecipe recipe part) book h s =

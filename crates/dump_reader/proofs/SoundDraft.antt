@@ -27,7 +27,7 @@ use Rattle.dump_reader.specs.Goods.{fluid_of}
 use Rattle.dump_reader.specs.Sources.{category_of, gathered_of, if_minable, drilled_of, mined_of, resource_of, plant_of}
 use Rattle.dump_reader.specs.Draft.{RawGame, Taken, taken, taken_beside, source_taken, source_by, source_of, one_more, with_item, with_fluid, with_recipe, with_tech, with_source, with_machine, with_character, class_of, with_entry, with_prototype, empty_game}
 use Rattle.dump_reader.specs.Sound.{IsSoundDraft, IsSoundRawItem, IsSoundRawMachine}
-use Rattle.dump_reader.proofs.SoundGoods.{item_sound}
+use Rattle.dump_reader.proofs.SoundGoods.{fluid_plain, item_sound}
 use Rattle.dump_reader.proofs.SoundMachines.{machine_sound}
 
 -- ---- a name and a node more, where there is one
@@ -130,6 +130,7 @@ item_added g item seen t s k sound =
       counted = omega arith;
       few = k.few;
       items = All-push IsSoundRawItem g.items item s.items sound;
+      fluids = s.fluids;
       machines = s.machines;
     }
 
@@ -140,8 +141,9 @@ with_item_sound section name object g s =
     and_then (item_sound section object g.categories) λ found sound.
     record { holds = item_added g found.0 found.1 t s k sound }
 
-fluid_added : (g : RawGame) (fluid : Fluid) (t : Taken) → IsSoundDraft g → IsTaken true g.fluid_names g.nodes t → IsSoundDraft (record g { fluids = g.fluids ++ fluid ∷ []; fluid_names = t.0; nodes = t.1 })
-fluid_added g fluid t s k =
+fluid_added : (g : RawGame) (fluid : Fluid) (t : Taken) → IsSoundDraft g → IsTaken true g.fluid_names g.nodes t → fluid.of ≡ None
+    → IsSoundDraft (record g { fluids = g.fluids ++ fluid ∷ []; fluid_names = t.0; nodes = t.1 })
+fluid_added g fluid t s k plain =
     let more = longer g.fluids fluid in
     record {
       item_names = s.item_names;
@@ -153,12 +155,13 @@ fluid_added g fluid t s k =
       counted = omega arith;
       few = k.few;
       items = s.items;
+      fluids = All-push (λ fluid. fluid.of ≡ None) g.fluids fluid s.fluids plain;
       machines = s.machines;
     }
 
 with_fluid_sound : (name : List ℕ) (object : Object) (g : RawGame) → IsSoundDraft g → Yields (with_fluid name object g) IsSoundDraft
 unfolding with_fluid
-with_fluid_sound name object g s = and_then (taken_yields g.fluid_names g.nodes name) λ t k. whatever (fluid_of object) λ fluid. record { holds = fluid_added g fluid t s k }
+with_fluid_sound name object g s = and_then (taken_yields g.fluid_names g.nodes name) λ t k. and_then (fluid_plain object) λ fluid plain. record { holds = fluid_added g fluid t s k plain }
 
 recipe_added : (g : RawGame) (recipe : RawRecipe) (seen : Names) (t : Taken) → IsSoundDraft g → IsTaken true g.recipe_names g.nodes t
     → IsSoundDraft (record g { recipes = g.recipes ++ recipe ∷ []; recipe_names = t.0; categories = seen; nodes = t.1 })
@@ -174,6 +177,7 @@ recipe_added g recipe seen t s k =
       counted = omega arith;
       few = k.few;
       items = s.items;
+      fluids = s.fluids;
       machines = s.machines;
     }
 
@@ -194,6 +198,7 @@ tech_added g tech t s k =
       counted = omega arith;
       few = k.few;
       items = s.items;
+      fluids = s.fluids;
       machines = s.machines;
     }
 
@@ -215,6 +220,7 @@ source_added g found seen there t s k same =
       counted = omega arith;
       few = k.few;
       items = s.items;
+      fluids = s.fluids;
       machines = s.machines;
     }
 
@@ -239,6 +245,7 @@ machine_added g machine seen t s k sound =
       counted = omega arith;
       few = k.few;
       items = s.items;
+      fluids = s.fluids;
       machines = All-push IsSoundRawMachine g.machines machine s.machines sound;
     }
 
@@ -262,6 +269,7 @@ character_added g crafting mining seen s =
       counted = s.counted;
       few = s.few;
       items = s.items;
+      fluids = s.fluids;
       machines = s.machines;
     }
 
@@ -300,5 +308,6 @@ empty_sound =
       counted = refl;
       few = omega arith;
       items = λ k d within. absurd (omega arith);
+      fluids = λ k d within. absurd (omega arith);
       machines = λ k d within. absurd (omega arith);
     }

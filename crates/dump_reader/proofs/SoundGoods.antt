@@ -7,17 +7,18 @@ use Rattle.fractions.specs.Fraction.{Fraction, zero_fraction, one_fraction, whol
 use Rattle.game_types.specs.Sound.{IsSmall, IsSoundBonus}
 use Rattle.prototype_fields.specs.declared.fault.FieldCode.TheVariants.{Limit}
 use Rattle.prototype_fields.specs.declared.names.Key.{Key}
-use Rattle.prototype_fields.specs.declared.names.Key.TheVariants.{Bonus as BonusKey, Speed, Productivity, Consumption, Pollution, Effect, Limitation, LimitationBlacklist, PlaceResult, FuelCategory, FuelValue, FuelEmissionsMultiplier, BurntResult}
+use Rattle.prototype_fields.specs.declared.names.Key.TheVariants.{Bonus as BonusKey, Speed, Productivity, Consumption, Pollution, Effect, Limitation, LimitationBlacklist, PlaceResult, FuelCategory, FuelValue, FuelEmissionsMultiplier, BurntResult, HeatCapacity, DefaultTemperature}
 use Rattle.prototype_fields.specs.declared.names.Within.{Within}
 use Rattle.prototype_fields.specs.declared.names.Within.TheVariants as within
 use Rattle.prototype_fields.specs.Numbers.{hundredths, is_less}
 use Rattle.prototype_fields.specs.Objects.{Object, field}
-use Rattle.prototype_fields.specs.Values.{Names, name, number_in, hundredths_or_zero, optional_category, energy_or, amount_or, object_or_empty, list_or_empty, names_in}
+use Rattle.prototype_fields.specs.Values.{Names, name, number_in, hundredths_or_zero, optional_category, energy_or, amount_or, number_or, object_or_empty, list_or_empty, names_in}
 use Rattle.prototype_fields.proofs.CutLemmas.{moderate}
 use Rattle.prototype_fields.proofs.Yields.{Yields, and_then, whatever, or_wrong_yields, optional_yields, or_default_yields}
+use Rattle.craft_reader.specs.Goods.{launch_products}
 use Rattle.dump_reader.specs.declared.sections.Section.{Section}
 use Rattle.dump_reader.specs.declared.sections.Section.TheVariants.{Module}
-use Rattle.dump_reader.specs.Goods.{bonus_in, bonus_of, module_of, optional_module, item_of}
+use Rattle.dump_reader.specs.Goods.{bonus_in, bonus_of, fluid_of, module_of, optional_module, item_of}
 use Rattle.dump_reader.specs.Sound.{IsSoundRawItem}
 
 -- ---- hundredths
@@ -71,6 +72,13 @@ optional_sound Module object = and_then (module_sound object) λ found small. re
 optional_sound section object = record { holds = tt }
 
 -- ---- items
+pub fluid_plain : (object : Object) → Yields (fluid_of object) (λ fluid. fluid.of ≡ None)
+fluid_plain object =
+    whatever (energy_or object FuelValue zero_fraction) λ fuel_value.
+    whatever (energy_or object HeatCapacity (whole_fraction (pos 1000))) λ heat_capacity.
+    whatever (number_or object DefaultTemperature (whole_fraction (pos 15))) λ default_temperature.
+    record { holds = refl }
+
 pub item_sound : (section : Section) (object : Object) (names : Names) → Yields (item_of section object names) (λ found. IsSoundRawItem found.0)
 item_sound section object names =
     whatever (name object PlaceResult) λ place.
@@ -80,4 +88,5 @@ item_sound section object names =
     whatever (amount_or object FuelEmissionsMultiplier one_fraction) λ emissions.
     whatever (name object BurntResult) λ burnt.
     and_then (optional_sound section object) λ found small.
+    whatever (launch_products object) λ launch.
     record { holds = small }

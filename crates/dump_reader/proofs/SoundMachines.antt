@@ -13,7 +13,7 @@ use Rattle.dump_reader.specs.declared.energy.EnergyKind.TheVariants as kind
 use Rattle.dump_reader.specs.declared.sections.Section.{Section}
 use Rattle.dump_reader.specs.declared.sections.Section.TheVariants as section
 use Rattle.dump_reader.specs.Energy.{filter_of, fuel_categories_of, kind_of, burner_of, fluid_energy_of, source_by, source_of, burner_source_of}
-use Rattle.dump_reader.specs.Machines.{all_allowed, none_allowed, allowed_of, fixed_of, slots_of, crafter_of, drill_of, pump_of, boiler_of, generator_of, burner_generator_of, solar_of, reactor_of, lab_of, beacon_of}
+use Rattle.dump_reader.specs.Machines.{all_allowed, none_allowed, allowed_of, fixed_of, parts_of, slots_of, crafter_of, drill_of, pump_of, boiler_of, generator_of, burner_generator_of, solar_of, reactor_of, lab_of, beacon_of}
 use Rattle.dump_reader.specs.Draft.{machine_by, machine_of}
 use Rattle.dump_reader.specs.Sound.{IsSoundRawEnergy, IsRawBurner, IsSoundRawMachine}
 
@@ -72,6 +72,7 @@ crafter_sound section object names =
     whatever (allowed_of object none_allowed) λ allowed.
     whatever (number_or object BaseProductivity zero_fraction) λ base_productivity.
     whatever (fixed_of section object) λ fixed.
+    whatever (parts_of section object) λ parts.
     record { holds = record { kind = positive; energy = powered; burning = tt; slots = few } }
 
 drill_sound : (section : Section) (object : Object) (names : Names) → Yields (drill_of section object names) (λ found. IsSoundRawMachine found.0)

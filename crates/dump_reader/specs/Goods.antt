@@ -8,6 +8,7 @@ use Rattle.prototype_fields.specs.declared.names.Within.{Within}
 use Rattle.prototype_fields.specs.declared.names.Within.TheVariants as within
 use Rattle.prototype_fields.specs.Objects.{Object}
 use Rattle.prototype_fields.specs.Values.{Reading, ◌▸◌, Names, name, optional_category, energy_or, amount_or, number_or, hundredths_or_zero, object_or_empty, list_or_empty, names_in}
+use Rattle.craft_reader.specs.Goods.{launch_products}
 use Rattle.game_types.specs.declared.effects.Bonus.{Bonus}
 use Rattle.game_types.specs.declared.goods.Fluid.{Fluid}
 use Rattle.game_types.specs.declared.goods.Fuel.{Fuel}
@@ -16,13 +17,13 @@ use Rattle.dump_reader.specs.declared.raw.RawModule.{RawModule}
 use Rattle.dump_reader.specs.declared.sections.Section.{Section}
 use Rattle.dump_reader.specs.declared.sections.Section.TheVariants.{Module}
 
--- ---- fluid
+-- ---- fluid: one record, until it is known at which temperatures it is made
 abbrev pub fluid_of : Object → Reading Fluid
 fluid_of object =
     energy_or object FuelValue zero_fraction ▸ λ fuel_value.
     energy_or object HeatCapacity (whole_fraction (pos 1000)) ▸ λ heat_capacity.
     number_or object DefaultTemperature (whole_fraction (pos 15)) ▸ λ default_temperature.
-    Ok (record { fuel_value = fuel_value; heat_capacity = heat_capacity; default_temperature = default_temperature })
+    Ok (record { fuel_value = fuel_value; heat_capacity = heat_capacity; default_temperature = default_temperature; of = None; at = default_temperature })
 
 -- ---- module
 -- the bonus of one kind, in hundredths
@@ -67,4 +68,5 @@ item_of section object names =
     amount_or object FuelEmissionsMultiplier one_fraction ▸ λ emissions.
     name object BurntResult ▸ λ burnt.
     optional_module section object ▸ λ found.
-    Ok (record { section = section; place = place; fuel = fuel_of category.0 value emissions; burnt = burnt; «module» = found }, category.1)
+    launch_products object ▸ λ launch.
+    Ok (record { section = section; place = place; fuel = fuel_of category.0 value emissions; burnt = burnt; «module» = found; launch = launch }, category.1)

@@ -6,7 +6,7 @@ use Rattle.std.specs.Str.{bytes_eq}
 use Rattle.json_text.specs.Kept.{Kept}
 use Rattle.fractions.specs.Fraction.{Fraction, zero_fraction, one_fraction, whole_fraction, ◌/ʳ◌}
 use Rattle.game_types.specs.declared.effects.Allowed.{Allowed}
-use Rattle.prototype_fields.specs.declared.names.Key.TheVariants.{CraftingSpeed, CraftingCategories, EnergyUsage, EnergySource, ModuleSpecification, ModuleSlots, AllowedEffects, BaseProductivity, FixedRecipe, MiningSpeed, ResourceCategories, InputFluidBox, PumpingSpeed, EnergyConsumption, Mode, TargetTemperature, FluidBox, OutputFluidBox, Effectivity, FluidUsagePerTick, MaximumTemperature, BurnsFluid, MaxPowerOutput, Production, Consumption, Inputs, ResearchingSpeed, DistributionEffectivity, Fluid as FluidKey, Burner as BurnerKey}
+use Rattle.prototype_fields.specs.declared.names.Key.TheVariants.{CraftingSpeed, CraftingCategories, EnergyUsage, EnergySource, ModuleSpecification, ModuleSlots, AllowedEffects, BaseProductivity, FixedRecipe, RocketPartsRequired, MiningSpeed, ResourceCategories, InputFluidBox, PumpingSpeed, EnergyConsumption, Mode, TargetTemperature, FluidBox, OutputFluidBox, Effectivity, FluidUsagePerTick, MaximumTemperature, BurnsFluid, MaxPowerOutput, Production, Consumption, Inputs, ResearchingSpeed, DistributionEffectivity, Fluid as FluidKey, Burner as BurnerKey}
 use Rattle.prototype_fields.specs.declared.names.Within.TheVariants as within
 use Rattle.prototype_fields.specs.Objects.{Object, as_text, field}
 use Rattle.prototype_fields.specs.Values.{Reading, ◌▸◌, Names, text, name, required_name, flag_or, number_or, amount_or, required_amount, required_positive, positive_or, whole_or, power, required_power, object_at, required_object, object_or_empty, required_list, names_in, categories}
@@ -72,6 +72,11 @@ unfoldable pub fixed_of : Section → Object → Reading (Option (List ℕ))
 fixed_of section.Furnace object = Ok None
 fixed_of section object = name object FixedRecipe
 
+-- a silo puts 100 parts together to a rocket where it doesn't say how many
+unfoldable pub parts_of : Section → Object → Reading ℕ
+parts_of section.RocketSilo object = whole_or object RocketPartsRequired 100
+parts_of section object = Ok 0
+
 unfoldable pub crafter_of : Section → Object → Names → Reading (RawMachine × Names)
 crafter_of section object names =
     required_positive object CraftingSpeed ▸ λ speed.
@@ -84,6 +89,7 @@ crafter_of section object names =
     allowed_of object none_allowed ▸ λ allowed.
     number_or object BaseProductivity zero_fraction ▸ λ base_productivity.
     fixed_of section object ▸ λ fixed.
+    parts_of section object ▸ λ parts.
     Ok (
       record {
         section = section;
@@ -95,6 +101,7 @@ crafter_of section object names =
         slots = slots;
         allowed = allowed;
         base_productivity = base_productivity;
+        parts = parts;
       },
       source.1,
     )
@@ -123,6 +130,7 @@ drill_of section object names =
         slots = slots;
         allowed = allowed;
         base_productivity = base_productivity;
+        parts = 0;
       },
       source.1,
     )
@@ -139,6 +147,7 @@ plain_machine section kind source usage = record {
   slots = 0;
   allowed = none_allowed;
   base_productivity = zero_fraction;
+  parts = 0;
 }
 
 -- what needs no energy
@@ -224,6 +233,7 @@ lab_of section object names =
         slots = slots;
         allowed = allowed;
         base_productivity = base_productivity;
+        parts = 0;
       },
       source.1,
     )
@@ -248,6 +258,7 @@ beacon_of section object names =
         slots = slots;
         allowed = allowed;
         base_productivity = zero_fraction;
+        parts = 0;
       },
       source.1,
     )

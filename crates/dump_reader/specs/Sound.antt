@@ -1,6 +1,6 @@
--- What the first pass over a dump leaves for the second: as many names as prototypes, few enough nodes, and in each record
--- numbers within their ranges.
-use Rattle.std.specs.Prelude.{◌≡◌, ◌+◌, ◌≤◌, All, IfSome, length}
+-- What the first pass over a dump leaves for the second: as many names as prototypes, few enough nodes, in each record numbers
+-- within their ranges, and no variants of fluids.
+use Rattle.std.specs.Prelude.{◌≡◌, ◌+◌, ◌≤◌, All, IfSome, None, length}
 use Rattle.fractions.specs.Fraction.{◌<ʳ◌, zero_fraction}
 use Rattle.game_types.specs.Sound.{IsSoundBonus}
 use Rattle.game_types.specs.declared.games.TheConstants.{NODE_LIMIT}
@@ -55,4 +55,5 @@ pub record IsSoundDraft (g : RawGame) : Type 0 where
   pub counted : g.nodes ≡ 3 + length g.items + length g.fluids + length g.recipes + length g.sources + length g.machines + length g.techs
   pub few : g.nodes ≤ NODE_LIMIT
   pub items : All IsSoundRawItem g.items
+  pub fluids : All (λ fluid. fluid.of ≡ None) g.fluids
   pub machines : All IsSoundRawMachine g.machines

@@ -6,6 +6,7 @@ ghost use Rattle.dump_reader.specs.Goods.{fluid_of, bonus_in, bonus_of, module_o
 
 use crate::raw::{RawItem, RawModule};
 use crate::sections::Section;
+use craft_reader::launch_products;
 use fractions::Ratio;
 use game_types::{Bonus, Fluid, Fuel};
 use name_table::Names;
@@ -24,6 +25,8 @@ pub fn read_fluid(fields: &Fields<'_, '_>) -> Result<Fluid, FieldFault>
         fuel_value,
         heat_capacity,
         default_temperature,
+        of: None,
+        at: default_temperature,
     })
 }
 
@@ -121,11 +124,13 @@ pub fn read_item(
     let emissions = fields.amount_or(Key::FuelEmissionsMultiplier, Ratio::one())?;
     let burnt = owned(alloc, fields.name(Key::BurntResult)?)?;
     let module = optional_module(alloc, section, fields)?;
+    let launch = launch_products(alloc, fields)?;
     Ok(RawItem {
         section,
         place,
         fuel: fuel_of(category, value, emissions),
         burnt,
         module,
+        launch,
     })
 }

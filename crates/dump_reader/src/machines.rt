@@ -5,7 +5,7 @@ ghost use Rattle.std.specs.Str.{bytes_eq};
 ghost use Rattle.json_text.specs.SpanSeen.{span_seen, spans_seen};
 ghost use Rattle.prototype_fields.specs.Seen.{object_seen};
 ghost use Rattle.prototype_fields.specs.Values.{Gives, with_names};
-ghost use Rattle.dump_reader.specs.Machines.{slots_of, has_text, allowed_by, allowed_list, allowed_of, all_allowed, none_allowed, drain_of, no_source, plain_machine, heats_inside, fixed_of, crafter_of, drill_of, pump_of, boiler_of, generator_of, burner_generator_of, solar_of, reactor_of, lab_of, beacon_of};
+ghost use Rattle.dump_reader.specs.Machines.{slots_of, has_text, allowed_by, allowed_list, allowed_of, all_allowed, none_allowed, drain_of, no_source, plain_machine, heats_inside, fixed_of, parts_of, crafter_of, drill_of, pump_of, boiler_of, generator_of, burner_generator_of, solar_of, reactor_of, lab_of, beacon_of};
 
 use crate::energy::{Source, read_burner_source, read_filter, read_source};
 use crate::goods::owned;
@@ -129,6 +129,7 @@ fn plain_machine(section: Section, kind: RawKind, source: Source, usage: Ratio) 
         slots: 0,
         allowed: NONE_ALLOWED,
         base_productivity: Ratio::zero(),
+        parts: 0,
     }
 }
 
@@ -158,6 +159,17 @@ fn read_fixed(
     }
 }
 
+// The parts that a silo puts together to a rocket.
+#[tactic(auto, unfolding(crate::specs::Machines::parts_of))]
+fn read_parts(section: Section, fields: &Fields<'_, '_>) -> Result<u32, FieldFault>
+    ensures { result ≡ parts_of section (object_seen fields.now) }
+{
+    match section {
+        Section::RocketSilo => fields.whole_or(Key::RocketPartsRequired, 100),
+        _ => Ok(0),
+    }
+}
+
 /// A machine that crafts.
 #[tactic(auto, unfolding(crate::specs::Machines::crafter_of))]
 pub fn read_crafter(
@@ -178,6 +190,7 @@ pub fn read_crafter(
     let allowed = read_allowed(alloc, fields, NONE_ALLOWED)?;
     let base_productivity = fields.number_or(Key::BaseProductivity, Ratio::zero())?;
     let fixed = read_fixed(alloc, section, fields)?;
+    let parts = read_parts(section, fields)?;
     let drain = drain_of(&source.energy, source.drain, thirtieth(&usage));
     Ok(RawMachine {
         section,
@@ -193,6 +206,7 @@ pub fn read_crafter(
         slots,
         allowed,
         base_productivity,
+        parts,
     })
 }
 
@@ -231,6 +245,7 @@ pub fn read_drill(
         slots,
         allowed,
         base_productivity,
+        parts: 0,
     })
 }
 
@@ -385,6 +400,7 @@ pub fn read_lab(
         slots,
         allowed,
         base_productivity,
+        parts: 0,
     })
 }
 
@@ -415,5 +431,6 @@ pub fn read_beacon(
         slots,
         allowed,
         base_productivity: Ratio::zero(),
+        parts: 0,
     })
 }

@@ -23,6 +23,8 @@ pub struct RawItem {
     /// The item that is left when it was burnt.
     pub burnt: Option<Text>,
     pub module: Option<RawModule>,
+    /// What a rocket brings back that was launched with one; these are items.
+    pub launch: Items<RawProduct>,
 }
 
 /// Where a machine takes its energy from. A filter is a fluid.
@@ -101,6 +103,8 @@ pub struct RawMachine {
     pub slots: u32,
     pub allowed: Allowed,
     pub base_productivity: Ratio,
+    /// The parts that it puts together to a rocket.
+    pub parts: u32,
 }
 
 /// What is mined.

@@ -52,7 +52,7 @@ pub const SECTIONS: [&str; 40] = [
 ];
 
 /// The keys that are read within prototypes, whatever the section.
-pub const FIELDS: [&str; 79] = [
+pub const FIELDS: [&str; 82] = [
     "place_result",
     "fuel_category",
     "fuel_value",
@@ -66,6 +66,8 @@ pub const FIELDS: [&str; 79] = [
     "bonus",
     "limitation",
     "limitation_blacklist",
+    "rocket_launch_products",
+    "rocket_launch_product",
     "heat_capacity",
     "default_temperature",
     "category",
@@ -93,6 +95,7 @@ pub const FIELDS: [&str; 79] = [
     "allowed_effects",
     "base_productivity",
     "fixed_recipe",
+    "rocket_parts_required",
     "mining_speed",
     "resource_categories",
     "input_fluid_box",

@@ -3,3 +3,4 @@ pub mod Walks
 pub mod ModuleLemmas
 pub mod FuelLemmas
 pub mod BeaconLemmas
+pub mod ChoiceLemmas

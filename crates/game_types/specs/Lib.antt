@@ -8,3 +8,4 @@ pub mod Modules
 pub mod Beacons
 pub mod Fuels
 pub mod Rates
+pub mod Temperatures

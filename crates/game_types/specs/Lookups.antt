@@ -16,7 +16,7 @@ use Rattle.game_types.specs.declared.machinery.Energy.TheVariants.{Void}
 use Rattle.game_types.specs.declared.games.Game.{Game}
 
 unfoldable pub no_item : Item
-no_item = record { place = None; fuel = None; burnt = None; «module» = None }
+no_item = record { place = None; fuel = None; burnt = None; «module» = None; launch = [] }
 
 unfoldable pub no_bonus : Bonus
 no_bonus = record { speed = pos 0; productivity = pos 0; consumption = pos 0; pollution = pos 0 }
@@ -25,7 +25,7 @@ unfoldable pub no_module : Module
 no_module = record { bonus = no_bonus; limitation = []; blacklist = [] }
 
 unfoldable pub no_recipe : Recipe
-no_recipe = record { category = 0; time = zero_fraction; enabled = false; emissions = zero_fraction; ingredients = []; products = [] }
+no_recipe = record { category = 0; time = zero_fraction; enabled = false; emissions = zero_fraction; ingredients = []; products = []; launch = None }
 
 unfoldable pub no_source : Source
 no_source = record { drilled = false; category = 0; time = zero_fraction; placed = false; products = []; fluid = None }
@@ -40,6 +40,7 @@ no_machine = record {
   slots = 0;
   allowed = record { speed = false; productivity = false; consumption = false; pollution = false };
   base_productivity = zero_fraction;
+  parts = 0;
 }
 
 unfoldable pub item_at : Game → GoodId → Item

@@ -4,6 +4,7 @@ use Rattle.std.specs.Prelude.{ℕ, ◌==◌, ◌&&◌, ◌||◌, Bool, false, no
 use Rattle.std.specs.List.{list_all, list_any}
 use Rattle.std.specs.Prelude.{ℤ, negsuc}
 use Rattle.fractions.specs.Fraction.{Fraction, ◌+ʳ◌, ◌*ʳ◌, ◌/ʳ◌, whole_fraction}
+use Rattle.plan_base.specs.declared.EntityId.{EntityId}
 use Rattle.plan_base.specs.declared.RecipeId.{RecipeId}
 use Rattle.game_types.specs.declared.recipes.Product.{Product}
 use Rattle.game_types.specs.declared.recipes.Recipe.{Recipe}
@@ -38,7 +39,7 @@ expected_amount product = product.probability *ʳ mean_amount product
 abbrev pub gives : List Product → ℕ → Bool
 gives products good = list_any (λ product. (product.good.0 == good) && is_positive (expected_amount product)) products
 
--- a machine crafts a recipe of its categories, unless it is fixed to another
+-- a machine crafts a recipe of its categories, unless it is fixed to another; a launch is crafted by its silo alone
 abbrev pub is_fixed_to_another : Option RecipeId → ℕ → Bool
 is_fixed_to_another None recipe = false
 is_fixed_to_another (Some fixed) recipe = not (fixed.0 == recipe)
@@ -47,10 +48,18 @@ abbrev pub kind_crafts : MachineKind → ℕ → Recipe → Bool
 kind_crafts (Crafter speed categories fixed) number recipe = holds categories recipe.category && not (is_fixed_to_another fixed number)
 kind_crafts kind number recipe = false
 
--- the character crafts recipes of its categories that have no fluid, where the first goods are the items
+abbrev pub crafts_by : Option EntityId → ℕ → MachineKind → ℕ → Recipe → Bool
+crafts_by None machine kind number recipe = kind_crafts kind number recipe
+crafts_by (Some silo) machine kind number recipe = silo.0 == machine
+
+-- whether a machine of a kind crafts a recipe, both by their numbers
+abbrev pub machine_crafts : ℕ → MachineKind → ℕ → Recipe → Bool
+machine_crafts machine kind number recipe = crafts_by recipe.launch machine kind number recipe
+
+-- the character crafts recipes of its categories that have no fluid, where the first goods are the items, and launches nothing
 abbrev pub character_crafts : Character → ℕ → Recipe → Bool
-character_crafts character items recipe = holds character.crafting recipe.category
-    && (list_all (λ part. nat_lt part.good.0 items) recipe.ingredients && list_all (λ product. nat_lt product.good.0 items) recipe.products)
+character_crafts character items recipe = is_none recipe.launch && (holds character.crafting recipe.category
+    && (list_all (λ part. nat_lt part.good.0 items) recipe.ingredients && list_all (λ product. nat_lt product.good.0 items) recipe.products))
 
 -- a drill mines the drilled sources of its categories; where a source needs a fluid the drill has a box for it
 abbrev pub kind_mines : MachineKind → Source → Bool

@@ -5,6 +5,7 @@
 -- minute. One craft of a drill is one operation on the source, one craft of a pump one unit of fluid.
 use Rattle.std.specs.Prelude.{◌==◌, ◌&&◌, Bool, true, false, not, ℤ, pos, Option, Some, None, Result, Ok, Err, if◌then◌else◌}
 use Rattle.fractions.specs.Fraction.{Fraction, zero_fraction, one_fraction, whole_fraction, frac}
+use Rattle.plan_base.specs.declared.ids.EntityId.{EntityId}
 use Rattle.plan_base.specs.declared.ids.GoodId.{GoodId}
 use Rattle.plan_base.specs.declared.ids.RecipeId.{RecipeId}
 use Rattle.game_types.specs.declared.effects.BeaconSum.{BeaconSum}
@@ -33,13 +34,17 @@ use Rattle.game_types.specs.Making.{holds, is_fixed_to_another}
 use Rattle.game_types.specs.Steps.{◌▸◌, multiplied, divided, added, subtracted, at_least}
 
 -- ---- whether a machine does what it is set to do
--- a crafter of the recipe's category that isn't fixed to another recipe
+-- a crafter of the recipe's category that isn't fixed to another recipe; of a launch its silo
 abbrev pub crafts : MachineKind → RecipeId → Recipe → Result (Unit {0}) MachineFault
 crafts (Crafter speed categories fixed) number recipe =
     if not (holds categories recipe.category) then Err Category
     else if is_fixed_to_another fixed number.0 then Err Fixed
     else Ok tt
 crafts kind number recipe = Err Category
+
+abbrev pub crafts_or_launches : EntityId → MachineKind → RecipeId → Recipe → Option EntityId → Result (Unit {0}) MachineFault
+crafts_or_launches machine kind number recipe None = crafts kind number recipe
+crafts_or_launches machine kind number recipe (Some silo) = if silo.0 == machine.0 then Ok tt else Err Category
 
 abbrev pub has_box : Bool → Option (GoodId × Fraction) → Result (Unit {0}) MachineFault
 has_box fluid_box None = Ok tt
@@ -57,14 +62,14 @@ abbrev pub pumps : MachineKind → GoodId → Result (Unit {0}) MachineFault
 pumps (Pump fluid speed) good = if fluid.0 == good.0 then Ok tt else Err Category
 pumps kind good = Err Category
 
-abbrev pub does : Game → MachineKind → Activity → Result (Unit {0}) MachineFault
-does g kind (Craft recipe) = crafts kind recipe (recipe_at g recipe)
-does g kind (Mine source) = mines kind (source_at g source)
-does g kind (Pumping good) = pumps kind good
-does g kind activity = Err Category
+abbrev pub does : Game → EntityId → MachineKind → Activity → Result (Unit {0}) MachineFault
+does g machine kind (Craft recipe) = crafts_or_launches machine kind recipe (recipe_at g recipe) (recipe_at g recipe).launch
+does g machine kind (Mine source) = mines kind (source_at g source)
+does g machine kind (Pumping good) = pumps kind good
+does g machine kind activity = Err Category
 
 unfoldable pub checked_machine : Game → Setup → Result (Unit {0}) MachineFault
-checked_machine g setup = does g (machine_at g setup.machine).kind setup.activity
+checked_machine g setup = does g setup.machine (machine_at g setup.machine).kind setup.activity
 
 -- ---- step 3: effects
 -- what beacons add, plus the modules' hundredths divided by 100

@@ -1,6 +1,6 @@
 -- When a game is sound: its numbers name what is there, and what is divided by is above 0. And when a set-up is sound on a
 -- game. Whatever is read from a dump is sound, and edits keep it so.
-use Rattle.std.specs.Prelude.{◌≡◌, ℕ, ◌+◌, ◌<◌, ◌≤◌, ℤ, unsigned_abs, All, IfSome, length, slice_get, IsSomeAnd, IsSome}
+use Rattle.std.specs.Prelude.{◌≡◌, ℕ, ◌+◌, ◌-◌, ◌<◌, ◌≤◌, ℤ, unsigned_abs, All, IfSome, List, Some, None, length, slice_get, IsSomeAnd, IsSome}
 use Rattle.fractions.specs.Fraction.{◌<ʳ◌, zero_fraction}
 use Rattle.plan_base.specs.Shape.{node_count}
 use Rattle.plan_base.specs.declared.GoodId.{GoodId}
@@ -9,13 +9,14 @@ use Rattle.game_types.specs.declared.games.TheConstants.{NODE_LIMIT}
 use Rattle.game_types.specs.declared.effects.Bonus.{Bonus}
 use Rattle.game_types.specs.declared.goods.Module.{Module}
 use Rattle.game_types.specs.declared.goods.Item.{Item}
+use Rattle.game_types.specs.declared.goods.Fluid.{Fluid}
 use Rattle.game_types.specs.declared.recipes.Recipe.{Recipe}
 use Rattle.game_types.specs.declared.recipes.Source.{Source}
 use Rattle.game_types.specs.declared.machinery.Machine.{Machine}
 use Rattle.game_types.specs.declared.machinery.MachineKind.{MachineKind}
 use Rattle.game_types.specs.declared.machinery.MachineKind.TheVariants.{Crafter, Drill, Pump, Boiler, Generator, BurnerGenerator, Solar, Reactor, Lab, Beacon}
 use Rattle.game_types.specs.declared.machinery.Energy.{Energy}
-use Rattle.game_types.specs.declared.machinery.Energy.TheVariants.{Electric, Burner, Heat, Fluid, Void}
+use Rattle.game_types.specs.declared.machinery.Energy.TheVariants.{Electric, Burner, Heat, Fluid as OfFluid, Void}
 use Rattle.game_types.specs.declared.research.Tech.{Tech}
 use Rattle.game_types.specs.declared.setups.Activity.{Activity}
 use Rattle.game_types.specs.declared.setups.Activity.TheVariants.{Craft, Mine, Pump as Pumping, Generate, Boil, Research}
@@ -54,10 +55,32 @@ pub record IsSoundItem (g : Game) (item : Item) : Type 0 where
   pub place : IfSome item.place (λ m. m.0 < length g.machines)
   pub burnt : IfSome item.burnt (λ good. IsItem g good.0)
   pub module_ : IfSome item.module (IsSoundModule g)
+  pub launch : All (λ product. IsItem g product.good.0) item.launch
 
+abbrev pub IsCrafterKind : MachineKind → Type 0
+IsCrafterKind (Crafter speed categories fixed) = Unit {0}
+IsCrafterKind kind = ⊥
+
+abbrev pub IsCrafter : Game → EntityId → Type 0
+IsCrafter g machine = IsSomeAnd (slice_get g.machines machine.0) (λ m. IsCrafterKind m.kind)
+
+-- a base is a fluid that is no variant itself
+abbrev pub IsBase : Game → GoodId → Type 0
+IsBase g base = (length g.items ≤ base.0) × IsSomeAnd (slice_get g.fluids (base.0 - length g.items)) (λ fluid. fluid.of ≡ None)
+
+abbrev pub IsSoundFluid : Game → Fluid → Type 0
+IsSoundFluid g fluid = IfSome fluid.of (IsBase g)
+
+-- two variants of one base have different temperatures
+abbrev pub AreApart : List Fluid → Type 0
+AreApart fluids = (i j : ℕ) (one other : Fluid) (base : GoodId) → slice_get fluids i ≡ Some one → slice_get fluids j ≡ Some other
+    → one.of ≡ Some base → other.of ≡ Some base → one.at ≡ other.at → i ≡ j
+
+-- the silo of a launch crafts
 pub record IsSoundRecipe (g : Game) (recipe : Recipe) : Type 0 where
   pub ingredients : All (λ part. IsGood g part.good.0) recipe.ingredients
   pub products : All (λ product. IsGood g product.good.0) recipe.products
+  pub launch : IfSome recipe.launch (IsCrafter g)
 
 pub record IsSoundSource (g : Game) (source : Source) : Type 0 where
   pub products : All (λ product. IsGood g product.good.0) source.products
@@ -80,7 +103,7 @@ abbrev pub IsSoundEnergy : Game → Energy → Type 0
 IsSoundEnergy g Electric = Unit {0}
 IsSoundEnergy g (Burner categories effectivity) = zero_fraction <ʳ effectivity
 IsSoundEnergy g Heat = Unit {0}
-IsSoundEnergy g (Fluid filter effectivity) = IfSome filter (λ f. IsFluid g f.0) × (zero_fraction <ʳ effectivity)
+IsSoundEnergy g (OfFluid filter effectivity) = IfSome filter (λ f. IsFluid g f.0) × (zero_fraction <ʳ effectivity)
 IsSoundEnergy g Void = Unit {0}
 
 abbrev pub IsBurner : Energy → Type 0
@@ -113,6 +136,8 @@ pub record IsSound (g : Game) : Type 0 where
   pub tech_names : length g.tech_names ≡ length g.techs
   pub nodes : node_count (shape_of g) ≤ NODE_LIMIT
   pub items : All (IsSoundItem g) g.items
+  pub fluids : All (IsSoundFluid g) g.fluids
+  pub apart : AreApart g.fluids
   pub recipes : All (IsSoundRecipe g) g.recipes
   pub sources : All (IsSoundSource g) g.sources
   pub machines : All (IsSoundMachine g) g.machines
@@ -148,3 +173,4 @@ pub record IsSoundSetup (g : Game) (setup : Setup) : Type 0 where
   pub fuel : IfSome setup.fuel (λ good. IsItem g good.0)
   pub modules : All (λ m. IsModule g m.0) setup.modules
   pub beacons : All (IsSoundGroup g) setup.beacons
+  pub at : All (λ good. IsFluid g good.0) setup.at

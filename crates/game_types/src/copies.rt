@@ -34,6 +34,7 @@ impl Recipe {
             emissions: self.emissions,
             ingredients,
             products,
+            launch: self.launch,
         })
     }
 }
@@ -102,12 +103,14 @@ impl Setup {
     {
         let modules = copied(alloc, &self.modules)?;
         let beacons = copied_groups(alloc, self.beacons.as_slice())?;
+        let at = copied(alloc, &self.at)?;
         Ok(Setup {
             activity: self.activity,
             machine: self.machine,
             fuel: self.fuel,
             modules,
             beacons,
+            at,
         })
     }
 }

@@ -1,5 +1,5 @@
 //! Items and fluids.
-use crate::Bonus;
+use crate::{Bonus, Product};
 use fractions::Ratio;
 use plan_base::{EntityId, GoodId, Items, RecipeId};
 
@@ -33,9 +33,12 @@ pub struct Item {
     /// The item that is left when it was burnt.
     pub burnt: Option<GoodId>,
     pub module: Option<Module>,
+    /// What a rocket brings back that was launched with one.
+    pub launch: Items<Product>,
 }
 
-/// A fluid.
+/// A fluid, or what of it has one temperature. A fluid that is made at several temperatures has a base record, which stands for
+/// the fluid at any of them, and a variant for each temperature.
 #[derive(Clone, Copy)]
 pub struct Fluid {
     /// The energy of one unit when it is burnt, in joules.
@@ -44,4 +47,8 @@ pub struct Fluid {
     pub heat_capacity: Ratio,
     /// In degrees.
     pub default_temperature: Ratio,
+    /// Of a variant, its base.
+    pub of: Option<GoodId>,
+    /// The temperature that it has, in degrees; of a base the default.
+    pub at: Ratio,
 }

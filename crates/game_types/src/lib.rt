@@ -4,6 +4,7 @@
 //! Ids are places in the lists of the game that holds them; a category is its number among the names of the categories.
 #![tactic(auto)]
 
+mod choices;
 mod copies;
 mod effects;
 mod fitting;
@@ -21,6 +22,7 @@ pub mod steps;
 #[cfg(test)]
 mod tests;
 
+pub use choices::{choice_of, is_within};
 pub use effects::{Allowed, BeaconSum, Bonus, EffectKind, Effects, Rates, Wide};
 pub use fitting::{FitFault, first_refused, fits};
 pub use games::{Game, NODE_LIMIT};

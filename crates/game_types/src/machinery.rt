@@ -98,4 +98,6 @@ pub struct Machine {
     pub allowed: Allowed,
     /// The productivity that it has without modules.
     pub base_productivity: Ratio,
+    /// The parts that it puts together to a rocket; 0 of all that launch none.
+    pub parts: u32,
 }

@@ -1,6 +1,6 @@
 //! Ways to get goods: recipes, and sources that are mined.
 use fractions::Ratio;
-use plan_base::{GoodId, Items};
+use plan_base::{EntityId, GoodId, Items};
 
 /// What one craft takes of a good.
 #[derive(Clone, Copy)]
@@ -38,6 +38,8 @@ pub struct Recipe {
     pub emissions: Ratio,
     pub ingredients: Items<Part>,
     pub products: Items<Product>,
+    /// Of the launch of a rocket, the silo that launches it, which is the only machine that crafts it.
+    pub launch: Option<EntityId>,
 }
 
 /// What is mined: an ore patch, a tree, a rock, a fish.

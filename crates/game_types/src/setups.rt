@@ -36,4 +36,6 @@ pub struct Setup {
     /// The modules in the machine, with their counts.
     pub modules: Items<(GoodId, u32)>,
     pub beacons: Items<BeaconGroup>,
+    /// The fluids that it takes where an ingredient allows several, those before others that come first.
+    pub at: Items<GoodId>,
 }

@@ -59,11 +59,13 @@ fn a_recipe_is_copied(rt: HostRuntime) -> Result<(), Fail> {
         emissions: Ratio::one(),
         ingredients: list(alloc, [part, part].as_slice())?,
         products: list(alloc, [product].as_slice())?,
+        launch: Some(EntityId(2)),
     };
     let copy = recipe.copy(alloc)?;
     assert_eq!(rt; copy.ingredients.len(), 2);
     assert_eq!(rt; copy.products.len(), 1);
     assert_eq!(rt; copy.time.denominator(), 2);
+    assert_eq!(rt; copy.launch, Some(EntityId(2)));
     Ok(())
 }
 
@@ -101,11 +103,13 @@ fn a_setup_is_copied(rt: HostRuntime) -> Result<(), Fail> {
         fuel: Some(GoodId(9)),
         modules: list(alloc, [(GoodId(1), 3u32)].as_slice())?,
         beacons: Items::from_vec(groups),
+        at: list(alloc, [GoodId(5)].as_slice())?,
     };
     let copy = setup.copy(alloc)?;
     assert_eq!(rt; copy.beacons.len(), 1);
     assert_eq!(rt; copy.modules.len(), 1);
     assert_eq!(rt; copy.fuel, Some(GoodId(9)));
+    assert_eq!(rt; copy.at.len(), 1);
     Ok(())
 }
 

@@ -1,12 +1,12 @@
 //! Whether a machine does what it is set to do.
 ghost use Rattle.std.specs.Prelude.{◌≡◌};
 ghost use Rattle.game_types.specs.Making.{is_fixed_to_another};
-ghost use Rattle.game_types.specs.Rates.{crafts, has_box, mines, pumps, checked_machine};
+ghost use Rattle.game_types.specs.Rates.{crafts, crafts_or_launches, has_box, mines, pumps, checked_machine};
 ghost use Rattle.game_types.specs.Sound.{IsSound, IsSoundSetup};
 
 use fractions::Ratio;
 use game_types::{Activity, Game, MachineFault, MachineKind, Recipe, Setup, Source, holds};
-use plan_base::{GoodId, RecipeId};
+use plan_base::{EntityId, GoodId, RecipeId};
 
 // Whether a machine that is fixed to a recipe, or to none, doesn't craft this one.
 fn is_fixed_to_another(fixed: Option<RecipeId>, recipe: RecipeId) -> bool
@@ -37,6 +37,27 @@ fn crafts(kind: &MachineKind, number: RecipeId, recipe: &Recipe) -> Result<(), M
             }
         }
         _ => Err(MachineFault::Category),
+    }
+}
+
+// Whether a machine crafts a recipe, which for a launch its silo does.
+fn crafts_or_launches(
+    machine: EntityId,
+    kind: &MachineKind,
+    number: RecipeId,
+    recipe: &Recipe,
+) -> Result<(), MachineFault>
+    ensures { result ≡ crafts_or_launches machine kind.now number recipe.now recipe.now.launch }
+{
+    match recipe.launch {
+        Some(silo) => {
+            if silo.0 == machine.0 {
+                Ok(())
+            } else {
+                Err(MachineFault::Category)
+            }
+        }
+        None => crafts(kind, number, recipe),
     }
 }
 
@@ -99,8 +120,9 @@ fn pumps(kind: &MachineKind, good: GoodId) -> Result<(), MachineFault>
 /// # Errors
 ///
 /// The first of these, exactly: `Category` (K1) where machines of its kind don't do it, the source isn't drilled, the
-/// machine lacks the category, or it pumps another fluid; `Fixed` (K2) where it is fixed to another recipe; `NoBox` (K3)
-/// where the source needs a fluid and the drill has no box for it, with the fluid.
+/// machine lacks the category, it pumps another fluid, or the recipe is a launch from another machine; `Fixed` (K2) where it
+/// is fixed to another recipe and the recipe is no launch; `NoBox` (K3) where the source needs a fluid and the drill has no
+/// box for it, with the fluid.
 pub fn check_machine(game: &Game, setup: &Setup) -> Result<(), MachineFault>
     requires sound { IsSound game.now }
     requires setup { IsSoundSetup game.now setup.now }
@@ -108,7 +130,9 @@ pub fn check_machine(game: &Game, setup: &Setup) -> Result<(), MachineFault>
 {
     let kind = &game.machine(setup.machine).kind;
     match setup.activity {
-        Activity::Craft(recipe) => crafts(kind, recipe, game.recipe(recipe)),
+        Activity::Craft(recipe) => {
+            crafts_or_launches(setup.machine, kind, recipe, game.recipe(recipe))
+        }
         Activity::Mine(source) => mines(kind, game.source(source)),
         Activity::Pump(good) => pumps(kind, good),
         Activity::Generate => Err(MachineFault::Category),
