@@ -9,3 +9,4 @@ pub mod Beacons
 pub mod Fuels
 pub mod Rates
 pub mod Temperatures
+pub mod Goods

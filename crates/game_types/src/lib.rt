@@ -19,6 +19,7 @@ mod refusals;
 mod research;
 mod setups;
 pub mod steps;
+mod table_goods;
 #[cfg(test)]
 mod tests;
 
