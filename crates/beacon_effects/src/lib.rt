@@ -9,4 +9,4 @@ mod sums;
 pub use checks::check_beacons;
 pub use game_types::{BeaconFault, BeaconSum};
 pub use power::beacon_power;
-pub use sums::beacon_sum;
+pub use sums::{beacon_bonus, beacon_sum};

@@ -1,7 +1,7 @@
 //! What beacons add to the effects on a machine.
-ghost use Rattle.std.specs.Prelude.{◌≡◌, ◌≤◌, All};
+ghost use Rattle.std.specs.Prelude.{◌≡◌, ◌≤◌, All, Ok};
 ghost use Rattle.fractions.specs.Fraction.{Fraction, zero_fraction};
-ghost use Rattle.game_types.specs.Beacons.{beacon_effectivity, passed_on, group_bonus, group_bonuses_fit, bonuses_fit, bonus_sum, bonus_sums, beacon_sum_of};
+ghost use Rattle.game_types.specs.Beacons.{beacon_effectivity, passed_on, group_bonus, group_bonuses_fit, bonuses_fit, bonus_sum, bonus_sums, beacon_sum_of, checked_beacons};
 ghost use Rattle.game_types.specs.Modules.{module_count};
 ghost use Rattle.game_types.specs.Sound.{IsSound, IsSoundSetup, IsSoundGroup};
 
@@ -110,6 +110,20 @@ fn bonus_sums(game: &Game, groups: &[BeaconGroup]) -> Result<BeaconSum, Wide>
     })
 }
 
+/// What the beacons of a set-up add to each kind of effect, as `beacon_sum` tells it. The set-up must pass `check_beacons`.
+///
+/// # Errors
+///
+/// `Wide` with the step exactly where there is a number past the limits: 1 in what a group adds, 2 in the sums.
+pub fn beacon_bonus(game: &Game, setup: &Setup) -> Result<BeaconSum, Wide>
+    requires sound { IsSound game.now }
+    requires setup { IsSoundSetup game.now setup.now }
+    requires checked { checked_beacons game.now setup.now ≡ Ok tt }
+    ensures { result ≡ bonus_sums game.now setup.now.beacons }
+{
+    bonus_sums(game, setup.beacons.as_slice())
+}
+
 #[tactic(auto, unfolding(game_types::specs::Beacons::beacon_sum_of))]
 /// What the beacons of a set-up add to each kind of effect: of each group the hundredths of one beacon's modules times the
 /// group's count, divided by 100, times the beacon's effectivity.
@@ -124,7 +138,7 @@ pub fn beacon_sum(game: &Game, setup: &Setup) -> Result<BeaconSum, BeaconFault>
     ensures { result ≡ beacon_sum_of game.now setup.now }
 {
     check_beacons(game, setup)?;
-    match bonus_sums(game, setup.beacons.as_slice()) {
+    match beacon_bonus(game, setup) {
         Ok(sums) => Ok(sums),
         Err(wide) => Err(BeaconFault::Wide(wide)),
     }

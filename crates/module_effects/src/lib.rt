@@ -1,8 +1,8 @@
 //! What the modules of a machine add up to.
 #![tactic(auto)]
 
-ghost use Rattle.std.specs.Prelude.{◌≡◌, All};
-ghost use Rattle.game_types.specs.Modules.{modules_fit, module_fits, module_sum};
+ghost use Rattle.std.specs.Prelude.{◌≡◌, ◌≤◌, All, Ok};
+ghost use Rattle.game_types.specs.Modules.{bonus_of, checked_modules, module_count, modules_fit, module_fits, module_sum};
 ghost use Rattle.game_types.specs.Sound.{IsSound, IsSoundSetup, IsModule};
 
 pub use game_types::ModuleFault;
@@ -43,6 +43,32 @@ fn modules_fit(
     Ok(())
 }
 
+// What modules add up to.
+fn total_bonus(game: &Game, modules: &[(GoodId, u32)]) -> Bonus
+    requires sound { IsSound game.now }
+    requires modules { All (λ m. IsModule game.now m.0) modules.now }
+    requires few { module_count modules.now ≤ 65_535 }
+    ensures { result ≡ bonus_of game.now modules.now }
+{
+    Bonus {
+        speed: total_hundredths(game, modules, EffectKind::Speed),
+        productivity: total_hundredths(game, modules, EffectKind::Productivity),
+        consumption: total_hundredths(game, modules, EffectKind::Consumption),
+        pollution: total_hundredths(game, modules, EffectKind::Pollution),
+    }
+}
+
+/// The hundredths of each kind of effect that the modules of a set-up add, as `sum_modules` tells them. The set-up's modules
+/// must fit.
+pub fn module_bonus(game: &Game, setup: &Setup) -> Bonus
+    requires sound { IsSound game.now }
+    requires setup { IsSoundSetup game.now setup.now }
+    requires checked { checked_modules game.now setup.now ≡ Ok tt }
+    ensures { result ≡ bonus_of game.now setup.now.modules }
+{
+    total_bonus(game, setup.modules.as_slice())
+}
+
 #[tactic(auto, unfolding(game_types::specs::Modules::module_sum, game_types::specs::Modules::checked_modules))]
 /// The hundredths of each kind of effect that the modules of a set-up add, each module as often as it is there.
 ///
@@ -60,10 +86,5 @@ pub fn sum_modules(game: &Game, setup: &Setup) -> Result<Bonus, ModuleFault>
     let modules = setup.modules.as_slice();
     check_slots(modules, machine.slots)?;
     modules_fit(game, &machine.allowed, &setup.activity, modules)?;
-    Ok(Bonus {
-        speed: total_hundredths(game, modules, EffectKind::Speed),
-        productivity: total_hundredths(game, modules, EffectKind::Productivity),
-        consumption: total_hundredths(game, modules, EffectKind::Consumption),
-        pollution: total_hundredths(game, modules, EffectKind::Pollution),
-    })
+    Ok(total_bonus(game, modules))
 }
