@@ -11,4 +11,4 @@ mod rates;
 pub use checks::check_machine;
 pub use effects::{effects_of, plain_effects};
 pub use game_types::{MachineFault, Rates};
-pub use rates::{rates_of, yield_of};
+pub use rates::{fuel_emissions, fuel_of, power_of, rates_of, setup_fuel, yield_of};

@@ -80,8 +80,8 @@ fn use_of(usage: &Ratio, consumption: &Ratio, machines: &Ratio) -> Result<Ratio,
     multiplied(5, &each, machines)
 }
 
-// What of it is electric power.
-fn power_of(energy: &Energy, usage: &Ratio) -> Ratio
+/// What of the power that machines use is electric.
+pub fn power_of(energy: &Energy, usage: &Ratio) -> Ratio
     ensures { result ≡ power_of energy.now usage.now }
 {
     match energy {
@@ -101,8 +101,12 @@ fn fuel_for(usage: &Ratio, effectivity: &Ratio, value: &Ratio) -> Result<Ratio, 
     divided(6, &energy, value)
 }
 
-// Step 6 by the energy of the machine; 0 without a burner.
-fn fuel_of(energy: &Energy, fuel: &Option<Fuel>, usage: &Ratio) -> Result<Ratio, Wide>
+/// The fuel for what machines use in one craft, by the energy of the machine; 0 without a burner.
+///
+/// # Errors
+///
+/// `Wide` with step 6 exactly where a number of it is past the limits.
+pub fn fuel_of(energy: &Energy, fuel: &Option<Fuel>, usage: &Ratio) -> Result<Ratio, Wide>
     requires effectivity { IfSome (burner_effectivity energy.now) (λ effectivity. zero_fraction <ʳ effectivity) }
     requires fuel { IfSome fuel.now (λ fuel. zero_fraction <ʳ fuel.value) }
     ensures { result ≡ fuel_of energy.now fuel.now usage.now }
@@ -127,8 +131,8 @@ fn recipe_emissions(game: &Game, activity: &Activity) -> Ratio
     }
 }
 
-// What the fuel multiplies pollution by.
-fn fuel_emissions(fuel: &Option<Fuel>) -> Ratio
+/// What the fuel multiplies pollution by.
+pub fn fuel_emissions(fuel: &Option<Fuel>) -> Ratio
     ensures { result ≡ fuel_emissions fuel.now }
 {
     match fuel {
@@ -156,8 +160,8 @@ fn pollution_of(
 }
 
 #[tactic(auto, unfolding(game_types::specs::Fuels::setup_fuel))]
-// What the item of a set-up is as a fuel.
-fn setup_fuel(game: &Game, setup: &Setup) -> Option<Fuel>
+/// What the item of a set-up is as a fuel.
+pub fn setup_fuel(game: &Game, setup: &Setup) -> Option<Fuel>
     requires sound { IsSound game.now }
     requires setup { IsSoundSetup game.now setup.now }
     ensures { result ≡ setup_fuel game.now setup.now }
