@@ -3,3 +3,4 @@ pub mod Places
 pub mod Soundness
 pub mod Sameness
 pub mod EffectLaw
+pub mod NamesKept

@@ -144,7 +144,7 @@ module _ (g : Game) (recipes : List Recipe) (techs : List Tech) (same : length g
   }
 
 -- ---- steps that may be refused
-bind_ok : {A B : Type 0} (first : Outcome A) (next : A → Outcome B) (y : B) → (first ▸ next) ≡ Ok y → (x : A) × (first ≡ Ok x) × (next x ≡ Ok y)
+pub bind_ok : {A B : Type 0} (first : Outcome A) (next : A → Outcome B) (y : B) → (first ▸ next) ≡ Ok y → (x : A) × (first ≡ Ok x) × (next x ≡ Ok y)
 bind_ok (Ok x) next y e = (x, refl, e)
 bind_ok (Err fault) next y e = absurd cc
 
@@ -209,7 +209,7 @@ All-with_at P f place xs keeps all = changed (slice_get xs place) refl
     changed None e = all
     changed (Some x) e = All-set P xs place (f x) (keeps x (found_sound P xs place x e all)) all
 
-length-with_at : {A : Type 0} (f : A → A) (place : ℕ) (xs : List A) → length (with_at f place xs) ≡ length xs
+pub length-with_at : {A : Type 0} (f : A → A) (place : ℕ) (xs : List A) → length (with_at f place xs) ≡ length xs
 unfolding with_at
 length-with_at f place xs = changed (slice_get xs place)
   where

@@ -3,3 +3,4 @@ pub mod Faults
 pub mod Books
 pub mod Edits
 pub mod CarriedOut
+pub mod Names

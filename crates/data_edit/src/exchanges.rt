@@ -106,8 +106,9 @@ fn exchange_mark(alloc: Global, marks: &mut Items<bool>, place: usize, on: bool)
     old
 }
 
-/// Puts a part of the book in its place, and answers what stood there. Where its id is of nothing, nothing changes.
-pub(crate) fn exchange(alloc: Global, book: &mut Book, part: Inverse) -> Inverse
+/// Puts a part of the book in its place, and answers what stood there, which put in its place again gives the book before.
+/// Where its id is of nothing, nothing changes. It takes no memory.
+pub fn exchange(alloc: Global, book: &mut Book, part: Inverse) -> Inverse
     ensures after { book.new ≡ restored part book.old }
     ensures back { restored result book.new ≡ book.old }
 {

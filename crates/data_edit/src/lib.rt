@@ -12,11 +12,10 @@ mod exchanges;
 mod laws;
 mod parts;
 mod replacements;
-#[cfg(test)]
-mod tests;
 
 pub use applying::{apply_edit, restore};
 pub use books::Book;
 pub use edits::{Edit, EditFault, LIST_LIMIT};
-pub use laws::effects_are_changes;
+pub use exchanges::exchange;
+pub use laws::{edits_keep_names, effects_are_changes};
 pub use parts::{Inverse, RecipePart};

@@ -12,3 +12,4 @@ pub mod Ranges
 pub mod Signs
 pub mod TouchLemmas
 pub mod Walks
+pub mod TouchedNodes

@@ -4,6 +4,7 @@ use Rattle.std.specs.Prelude.{ℕ, ◌-◌, List, [], None, true, map, nat_lt, s
 use Rattle.std.specs.List.{range_with_len}
 use Rattle.fractions.specs.Fraction.{zero_fraction}
 use Rattle.plan_base.specs.Shape.{node_count}
+use Rattle.plan_base.specs.declared.NodeId.{NodeId}
 use Rattle.graph_store.specs.declared.Row.{Row}
 use Rattle.game_types.specs.Lookups.{machine_at, recipe_at, source_at}
 use Rattle.game_types.specs.Nodes.{shape_of}
@@ -35,3 +36,7 @@ row_of g n =
 -- the rows of all nodes, in order
 unfoldable pub rows_of : Game → List Row
 rows_of g = map (row_of g) (range_with_len 0 (node_count (shape_of g)))
+
+-- a node and its row
+abbrev pub row_beside : Game → NodeId → NodeId × Row
+row_beside g n = (n, row_of g n.0)

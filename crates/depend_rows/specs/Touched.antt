@@ -1,6 +1,6 @@
 -- Which nodes an edit touches.
 use Rattle.std.specs.Prelude.{ℕ, ◌≡◌, ◌+◌, List, [], ◌∷◌, ◌++◌, if◌then◌else◌, nat_lt, slice_get, Ok, false}
-use Rattle.plan_base.specs.Shape.{first_of}
+use Rattle.plan_base.specs.Shape.{first_of, node_count}
 use Rattle.plan_base.specs.declared.ids.NodeId.{NodeId}
 use Rattle.plan_base.specs.declared.ids.GoodId.{GoodId}
 use Rattle.plan_base.specs.declared.ids.RecipeId.{RecipeId}
@@ -12,7 +12,7 @@ use Rattle.data_edit.specs.declared.books.Book.{Book}
 use Rattle.data_edit.specs.declared.edits.Edit.{Edit}
 use Rattle.data_edit.specs.declared.edits.Edit.TheVariants.{SetIngredient, DropIngredient, SetProduct, DropProduct, SetUnlock, SetTime, SetEnabled, Forbid, Permit, Grant, Revoke}
 use Rattle.data_edit.specs.Edits.{effect}
-use Rattle.depend_rows.specs.Members.{node}
+use Rattle.depend_rows.specs.Members.{named, node}
 use Rattle.depend_rows.specs.Rows.{row_of}
 
 -- the node of a recipe, of a good; an id that names nothing has none
@@ -46,3 +46,16 @@ pub record StaysAs (old new : Book) (n : ℕ) : Type 0 where
 -- an accepted edit leaves the nodes that it doesn't touch as they were
 abbrev pub TouchesAll : Edit → Book → Type 0
 TouchesAll edit book = (new : Book) → effect edit book ≡ Ok new → (n : ℕ) → has_node (touched_by (shape_of book.game) edit) n ≡ false → StaysAs book new n
+
+-- the numbers of these nodes, of those that are nodes at all
+abbrev pub numbers_below : ℕ → List NodeId → List ℕ
+numbers_below count [] = []
+numbers_below count (n ∷ nodes) = if nat_lt n.0 count then n.0 ∷ numbers_below count nodes else numbers_below count nodes
+
+abbrev pub touched_numbers : Shape → List Edit → List ℕ
+touched_numbers shape [] = []
+touched_numbers shape (edit ∷ edits) = numbers_below (node_count shape) (touched_by shape edit) ++ touched_numbers shape edits
+
+-- the nodes that these edits touch, in node order and each once
+unfoldable pub touched_by_all : Shape → List Edit → List NodeId
+touched_by_all shape edits = named 0 (node_count shape) (touched_numbers shape edits)

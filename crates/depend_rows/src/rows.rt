@@ -1,5 +1,5 @@
 //! The rows of all nodes, and of one.
-ghost use Rattle.std.specs.Prelude.{◌≡◌, ◌+◌, ◌-◌, ◌^◌, ◌≤◌, ◌<◌, IfOk, MatchOption, MatchResult, length, min, slice_get};
+ghost use Rattle.std.specs.Prelude.{◌≡◌, ℕ, ◌+◌, ◌-◌, ◌^◌, ◌≤◌, ◌<◌, All, IfOk, MatchOption, MatchResult, length, map, min, slice_get};
 ghost use Rattle.plan_base.specs.Shape.{node_count};
 ghost use Rattle.game_types.specs.Nodes.{shape_of};
 ghost use Rattle.game_types.specs.Sound.{IsSound, IsSoundMachine, IsSoundRecipe, IsSoundSource, IsSoundTech};
@@ -7,7 +7,8 @@ ghost use Rattle.game_types.specs.Lookups.{machine_at, recipe_at, source_at};
 ghost use Rattle.data_edit.specs.Books.{IsSoundBook};
 ghost use Rattle.graph_store.specs.Rows.{AreMembersBelow, HasMembersBelow, member_count, row_members};
 ghost use Rattle.depend_rows.specs.Indexed.{IsIndex};
-ghost use Rattle.depend_rows.specs.Rows.{row_of, rows_of, special_row, tech_at};
+ghost use Rattle.data_edit.specs.declared.books.Book.{Book};
+ghost use Rattle.depend_rows.specs.Rows.{row_beside, row_of, rows_of, special_row, tech_at};
 
 use crate::goods::good_row;
 use crate::index::Index;
@@ -215,3 +216,38 @@ pub fn row_of<L>(
     steps.tick();
     Ok(row)
 }
+
+/// The rows of these nodes, each beside its node. Each row is one step.
+///
+/// # Errors
+///
+/// `NoMemory` where memory could not be had.
+pub fn rows_for<L>(
+    alloc: Global,
+    book: &Book,
+    nodes: &[NodeId],
+    steps: &mut Steps<L>,
+) -> Result<Vec<(NodeId, Row)>, NoMemory>
+    requires sound { IsSoundBook book.now }
+    requires nodes { All (λ n. n.0 < node_count (shape_of book.now.game)) nodes.now }
+    ensures rows { IfOk result (λ rows. rows.items ≡ map (row_beside book.now.game) nodes.now) }
+    ensures steps { IfOk result (λ _. steps.new ≤ steps.old + length nodes.now) }
+    ensures later { steps.old ≤ steps.new }
+{
+    let mut rows = Vec::new(alloc);
+    if nodes.is_empty() {
+        return Ok(rows);
+    }
+    let index = Index::make(alloc, &book.game)?;
+    for node in nodes {
+        let row = row_at(alloc, &book.game, &index, node.0)?;
+        steps.tick();
+        rows.push((*node, row))?;
+    }
+    Ok(rows)
+}
+
+/// The rows of a sound book have only nodes as members.
+pub fn members_are_nodes()
+    ensures { (book : Book) → IsSoundBook book → (n : ℕ) → n < node_count (shape_of book.game) → HasMembersBelow (node_count (shape_of book.game)) (row_of book.game n) }
+{}

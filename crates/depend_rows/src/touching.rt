@@ -1,11 +1,15 @@
 //! Which nodes an edit touches.
-ghost use Rattle.std.specs.Prelude.{◌≡◌, ◌<◌, ◌^◌, ◌++◌, IfOk, OnOk};
+ghost use Rattle.std.specs.Prelude.{◌≡◌, ◌≢◌, ℕ, ◌<◌, ◌^◌, ◌++◌, All, AllPairs, List, IfOk, OnOk};
+ghost use Rattle.std.specs.List.{list_any};
 ghost use Rattle.plan_base.specs.Shape.{node_count};
 ghost use Rattle.data_edit.specs.declared.books.Book.{Book};
 ghost use Rattle.data_edit.specs.declared.edits.Edit.{Edit};
 ghost use Rattle.data_edit.specs.Books.{IsSoundBook};
-ghost use Rattle.depend_rows.specs.Touched.{TouchesAll, good_node_in, recipe_node, touched_by};
+ghost use Rattle.plan_base.specs.declared.shape.Shape.{Shape};
+ghost use Rattle.graph_store.specs.Rows.{has_node};
+ghost use Rattle.depend_rows.specs.Touched.{TouchesAll, good_node_in, numbers_below, recipe_node, touched_by, touched_by_all, touched_numbers};
 
+use crate::members::named;
 use data_edit::Edit;
 use plan_base::{GoodId, Kind, NoMemory, NodeId, RecipeId, Shape};
 use std::alloc::Global;
@@ -63,6 +67,60 @@ pub fn touched(alloc: Global, edit: &Edit, shape: &Shape) -> Result<Vec<NodeId>,
     }
     Ok(nodes)
 }
+
+// Appends the numbers of these nodes, of those that are nodes at all.
+fn push_numbers(numbers: &mut Vec<u32>, count: u32, nodes: &[NodeId]) -> Result<(), NoMemory>
+    requires { All (λ k. k < count) numbers.old.items }
+    ensures numbers { OnOk result (numbers.new.items ≡ numbers.old.items ++ numbers_below count nodes.now) }
+    ensures below { OnOk result (All (λ k. k < count) numbers.new.items) }
+{
+    for node in nodes {
+        if node.0 < count {
+            numbers.push(node.0)?;
+        }
+    }
+    Ok(())
+}
+
+// The numbers of the nodes that edits touch, one edit after another.
+fn touched_numbers(alloc: Global, edits: &[Edit], shape: &Shape) -> Result<Vec<u32>, NoMemory>
+    requires { node_count shape.now < 2 ^ 32 }
+    ensures numbers { IfOk result (λ numbers. numbers.items ≡ touched_numbers shape.now edits.now) }
+    ensures below { IfOk result (λ numbers. All (λ k. k < node_count shape.now) numbers.items) }
+{
+    let count = shape.len();
+    let mut numbers = Vec::new(alloc);
+    for edit in edits {
+        let nodes = touched(alloc, edit, shape)?;
+        push_numbers(&mut numbers, count, nodes.as_slice())?;
+    }
+    Ok(numbers)
+}
+
+/// The nodes that any of these edits touches, in node order and each once.
+///
+/// # Errors
+///
+/// `NoMemory` where memory could not be had.
+#[tactic(auto, unfolding(crate::specs::Touched::touched_by_all))]
+pub fn touched_all(
+    alloc: Global,
+    edits: &[Edit],
+    shape: &Shape,
+) -> Result<Vec<NodeId>, NoMemory>
+    requires { node_count shape.now < 2 ^ 32 }
+    ensures { IfOk result (λ nodes. nodes.items ≡ touched_by_all shape.now edits.now) }
+{
+    let numbers = touched_numbers(alloc, edits, shape)?;
+    named(alloc, 0, shape.len(), numbers)
+}
+
+/// What edits touch in all are nodes, each once: those that one of the edits touches.
+pub fn touched_nodes_are_of_the_edits()
+    ensures touched { (shape : Shape) (edits : List Edit) (n : ℕ) → n < node_count shape → has_node (touched_by_all shape edits) n ≡ list_any (λ edit. has_node (touched_by shape edit) n) edits }
+    ensures nodes { (shape : Shape) (edits : List Edit) → All (λ n. n.0 < node_count shape) (touched_by_all shape edits) }
+    ensures once { (shape : Shape) (edits : List Edit) → AllPairs (λ m n. m.0 ≢ n.0) (touched_by_all shape edits) }
+{}
 
 /// An accepted edit of a sound book leaves the row and the marks of each node that it doesn't touch as they were.
 pub fn edits_touch_no_others()

@@ -1,5 +1,5 @@
 -- What the moves of a history keep.
-use Rattle.std.specs.Prelude.{◌≡◌, ℕ, ◌+◌, ◌<◌, List, [], ◌∷◌, ◌++◌, map, reverse, Result, Ok, Err, length}
+use Rattle.std.specs.Prelude.{◌≡◌, ℕ, ◌+◌, ◌<◌, Bool, List, [], ◌∷◌, ◌++◌, map, reverse, Result, Ok, Err, length}
 use Rattle.std.proofs.Common.{refl, sym, ap, subst, ◌∙◌, arith}
 use Rattle.std.proofs.lemmas.List.{reverse-append}
 use Rattle.edit_undo.specs.Edits.{then_apply, apply_from, apply_edits, Leads}
@@ -22,19 +22,19 @@ edits-push [] entry = refl
 edits-push (e ∷ es) entry = ap (λ l. e.0 ∷ l) (edits-push es entry)
 
 -- ---- the past
-pub lead_more : {S D I F : Type 0} (effect : S → D → Result S F) (back : S → List D → List I → S → Type 0) (base : S) (done : List (List D × List I)) (state : S) (entry : List D × List I) (after : S) → AllLead effect back base done state → Leads effect back state entry.0 entry.1 after → AllLead effect back base (done ++ entry ∷ []) after
-lead_more effect back base [] state entry after e h = (after, subst (λ s. Leads effect back s entry.0 entry.1 after) (sym e) h, refl)
-lead_more effect back base (first ∷ done) state entry after a h = (a.0, a.1, lead_more effect back a.0 done state entry after a.2 h)
+pub lead_more : {S D I F : Type 0} (effect : S → D → Result S F) (takes : List D → Bool) (back : S → List D → List I → S → Type 0) (base : S) (done : List (List D × List I)) (state : S) (entry : List D × List I) (after : S) → AllLead effect takes back base done state → Leads effect takes back state entry.0 entry.1 after → AllLead effect takes back base (done ++ entry ∷ []) after
+lead_more effect takes back base [] state entry after e h = (after, subst (λ s. Leads effect takes back s entry.0 entry.1 after) (sym e) h, refl)
+lead_more effect takes back base (first ∷ done) state entry after a h = (a.0, a.1, lead_more effect takes back a.0 done state entry after a.2 h)
 
-pub record LeadsLast {S D I F : Type 0} (effect : S → D → Result S F) (back : S → List D → List I → S → Type 0) (base : S) (done : List (List D × List I)) (entry : List D × List I) (state : S) : Type 0 where
+pub record LeadsLast {S D I F : Type 0} (effect : S → D → Result S F) (takes : List D → Bool) (back : S → List D → List I → S → Type 0) (base : S) (done : List (List D × List I)) (entry : List D × List I) (state : S) : Type 0 where
   pub before : S
-  pub past : AllLead effect back base done before
-  pub last : Leads effect back before entry.0 entry.1 state
+  pub past : AllLead effect takes back base done before
+  pub last : Leads effect takes back before entry.0 entry.1 state
 
-pub lead_less : {S D I F : Type 0} (effect : S → D → Result S F) (back : S → List D → List I → S → Type 0) (base : S) (done : List (List D × List I)) (entry : List D × List I) (state : S) → AllLead effect back base (done ++ entry ∷ []) state → LeadsLast effect back base done entry state
-lead_less effect back base [] entry state a = record { before = base; past = refl; last = subst (λ s. Leads effect back base entry.0 entry.1 s) a.2 a.1 }
-lead_less effect back base (first ∷ done) entry state a =
-    let l : LeadsLast effect back a.0 done entry state = lead_less effect back a.0 done entry state a.2 in
+pub lead_less : {S D I F : Type 0} (effect : S → D → Result S F) (takes : List D → Bool) (back : S → List D → List I → S → Type 0) (base : S) (done : List (List D × List I)) (entry : List D × List I) (state : S) → AllLead effect takes back base (done ++ entry ∷ []) state → LeadsLast effect takes back base done entry state
+lead_less effect takes back base [] entry state a = record { before = base; past = refl; last = subst (λ s. Leads effect takes back base entry.0 entry.1 s) a.2 a.1 }
+lead_less effect takes back base (first ∷ done) entry state a =
+    let l : LeadsLast effect takes back a.0 done entry state = lead_less effect takes back a.0 done entry state a.2 in
     record { before = l.before; past = (a.0, a.1, l.past); last = l.last }
 
 -- ---- edits of several entries
@@ -56,45 +56,45 @@ on_append effect place other s [] es mid t e h = let same : s ≡ mid = cc in pl
 on_append effect place other s (d ∷ ds) es mid t e h = then_both (effect s d) place _ _ mid t (λ u k. on_append effect (place + 1) other u ds es mid t k h) e
 
 -- the state is the base with the active edits applied
-pub active : {S D I F : Type 0} (effect : S → D → Result S F) (back : S → List D → List I → S → Type 0) (base : S) (done : List (List D × List I)) (state : S) → AllLead effect back base done state → apply_edits effect base (edits_of (map (λ e. e.0) done)) ≡ Ok state
-active effect back base [] state e = ap Ok e
-active effect back base (entry ∷ done) state a = on_append effect 0 0 base entry.0 (edits_of (map (λ e. e.0) done)) a.0 state a.1.accepted (active effect back a.0 done state a.2)
+pub active : {S D I F : Type 0} (effect : S → D → Result S F) (takes : List D → Bool) (back : S → List D → List I → S → Type 0) (base : S) (done : List (List D × List I)) (state : S) → AllLead effect takes back base done state → apply_edits effect base (edits_of (map (λ e. e.0) done)) ≡ Ok state
+active effect takes back base [] state e = ap Ok e
+active effect takes back base (entry ∷ done) state a = on_append effect 0 0 base entry.0 (edits_of (map (λ e. e.0) done)) a.0 state a.1.accepted (active effect takes back a.0 done state a.2)
 
 -- ---- the three moves
-pub history_more : {S D I F : Type 0} (effect : S → D → Result S F) (back : S → List D → List I → S → Type 0) (kept : Kept D I) (base state after : S) (edits kept_edits : List D) (inverses kept_inverses : List I) (room done : List (List D × List I)) (undone : List (List D)) → done ≡ room ++ (kept_edits, kept_inverses) ∷ [] → room ≡ kept.done → kept_edits ≡ edits → kept_inverses ≡ inverses → undone ≡ [] → Leads effect back state edits inverses after → IsHistoryOf effect back kept base state → IsHistoryOf effect back (record { done = done; undone = undone }) base after
-history_more effect back kept base state after edits kept_edits inverses kept_inverses room done undone e r p q f l h = record {
-  past = subst (λ d. AllLead effect back base d after) (sym same) (lead_more effect back base kept.done state (edits, inverses) after h.past l);
-  future = subst (λ u. AllAccepted effect after (reverse u)) (sym f) tt;
+pub history_more : {S D I F : Type 0} (effect : S → D → Result S F) (takes : List D → Bool) (back : S → List D → List I → S → Type 0) (kept : Kept D I) (base state after : S) (edits kept_edits : List D) (inverses kept_inverses : List I) (room done : List (List D × List I)) (undone : List (List D)) → done ≡ room ++ (kept_edits, kept_inverses) ∷ [] → room ≡ kept.done → kept_edits ≡ edits → kept_inverses ≡ inverses → undone ≡ [] → Leads effect takes back state edits inverses after → IsHistoryOf effect takes back kept base state → IsHistoryOf effect takes back (record { done = done; undone = undone }) base after
+history_more effect takes back kept base state after edits kept_edits inverses kept_inverses room done undone e r p q f l h = record {
+  past = subst (λ d. AllLead effect takes back base d after) (sym same) (lead_more effect takes back base kept.done state (edits, inverses) after h.past l);
+  future = subst (λ u. AllAccepted effect takes after (reverse u)) (sym f) tt;
 }
   where
     same : done ≡ kept.done ++ (edits, inverses) ∷ []
     same = e ∙ (ap (λ d. d ++ (kept_edits, kept_inverses) ∷ []) r ∙ (ap (λ d. kept.done ++ (d, kept_inverses) ∷ []) p ∙ ap (λ d. kept.done ++ (edits, d) ∷ []) q))
 
-pub history_less : {S D I F : Type 0} (effect : S → D → Result S F) (back : S → List D → List I → S → Type 0) (kept : Kept D I) (base state after : S) (edits : List D) (inverses : List I) (rest : List (List D × List I)) (undone : List (List D)) → kept.done ≡ rest ++ (edits, inverses) ∷ [] → undone ≡ kept.undone ++ edits ∷ [] → ((before : S) → Leads effect back before edits inverses state → after ≡ before) → IsHistoryOf effect back kept base state → IsHistoryOf effect back (record { done = rest; undone = undone }) base after
-history_less effect back kept base state after edits inverses rest undone e f r h =
-    let l : LeadsLast effect back base rest (edits, inverses) state = lead_less effect back base rest (edits, inverses) state (subst (λ d. AllLead effect back base d state) e h.past) in
+pub history_less : {S D I F : Type 0} (effect : S → D → Result S F) (takes : List D → Bool) (back : S → List D → List I → S → Type 0) (kept : Kept D I) (base state after : S) (edits : List D) (inverses : List I) (rest : List (List D × List I)) (undone : List (List D)) → kept.done ≡ rest ++ (edits, inverses) ∷ [] → undone ≡ kept.undone ++ edits ∷ [] → ((before : S) → Leads effect takes back before edits inverses state → after ≡ before) → IsHistoryOf effect takes back kept base state → IsHistoryOf effect takes back (record { done = rest; undone = undone }) base after
+history_less effect takes back kept base state after edits inverses rest undone e f r h =
+    let l : LeadsLast effect takes back base rest (edits, inverses) state = lead_less effect takes back base rest (edits, inverses) state (subst (λ d. AllLead effect takes back base d state) e h.past) in
     let same : l.before ≡ after = sym (r l.before l.last) in
     record {
-      past = subst (λ s. AllLead effect back base rest s) same l.past;
-      future = subst (λ u. AllAccepted effect after u) (sym (ap reverse f ∙ reverse-append kept.undone (edits ∷ []))) (state, l.last.entry, subst (λ s. apply_edits effect s edits ≡ Ok state) same l.last.accepted, h.future);
+      past = subst (λ s. AllLead effect takes back base rest s) same l.past;
+      future = subst (λ u. AllAccepted effect takes after u) (sym (ap reverse f ∙ reverse-append kept.undone (edits ∷ []))) (state, l.last.entry, subst (λ s. apply_edits effect s edits ≡ Ok state) same l.last.accepted, h.future);
     }
 
 -- what the last entry that is done needs
-pub can_undo : {S D I F : Type 0} (effect : S → D → Result S F) (back : S → List D → List I → S → Type 0) (kept : Kept D I) (state : S) (edits : List D) (inverses : List I) (rest : List (List D × List I)) → kept.done ≡ rest ++ (edits, inverses) ∷ [] → ((base : S) × IsHistoryOf effect back kept base state) → (before : S) × Leads effect back before edits inverses state
-can_undo effect back kept state edits inverses rest e h =
-    let l : LeadsLast effect back h.0 rest (edits, inverses) state = lead_less effect back h.0 rest (edits, inverses) state (subst (λ d. AllLead effect back h.0 d state) e h.1.past) in
+pub can_undo : {S D I F : Type 0} (effect : S → D → Result S F) (takes : List D → Bool) (back : S → List D → List I → S → Type 0) (kept : Kept D I) (state : S) (edits : List D) (inverses : List I) (rest : List (List D × List I)) → kept.done ≡ rest ++ (edits, inverses) ∷ [] → ((base : S) × IsHistoryOf effect takes back kept base state) → (before : S) × Leads effect takes back before edits inverses state
+can_undo effect takes back kept state edits inverses rest e h =
+    let l : LeadsLast effect takes back h.0 rest (edits, inverses) state = lead_less effect takes back h.0 rest (edits, inverses) state (subst (λ d. AllLead effect takes back h.0 d state) e h.1.past) in
     (l.before, l.last)
 
 -- what the last entry that is undone needs
-pub can_redo : {S D I F : Type 0} (effect : S → D → Result S F) (back : S → List D → List I → S → Type 0) (kept : Kept D I) (base state : S) (edits : List D) (rest : List (List D)) → kept.undone ≡ rest ++ edits ∷ [] → IsHistoryOf effect back kept base state → AllAccepted effect state (edits ∷ reverse rest)
-can_redo effect back kept base state edits rest e h = subst (λ u. AllAccepted effect state u) (ap reverse e ∙ reverse-append rest (edits ∷ [])) h.future
+pub can_redo : {S D I F : Type 0} (effect : S → D → Result S F) (takes : List D → Bool) (back : S → List D → List I → S → Type 0) (kept : Kept D I) (base state : S) (edits : List D) (rest : List (List D)) → kept.undone ≡ rest ++ edits ∷ [] → IsHistoryOf effect takes back kept base state → AllAccepted effect takes state (edits ∷ reverse rest)
+can_redo effect takes back kept base state edits rest e h = subst (λ u. AllAccepted effect takes state u) (ap reverse e ∙ reverse-append rest (edits ∷ [])) h.future
 
-pub history_again : {S D I F : Type 0} (effect : S → D → Result S F) (back : S → List D → List I → S → Type 0) (kept : Kept D I) (base state after : S) (edits : List D) (inverses kept_inverses : List I) (done : List (List D × List I)) (rest : List (List D)) → kept.undone ≡ rest ++ edits ∷ [] → done ≡ kept.done ++ (edits, kept_inverses) ∷ [] → kept_inverses ≡ inverses → Leads effect back state edits inverses after → IsHistoryOf effect back kept base state → IsHistoryOf effect back (record { done = done; undone = rest }) base after
-history_again effect back kept base state after edits inverses kept_inverses done rest e f q l h =
-    let a : AllAccepted effect state (edits ∷ reverse rest) = can_redo effect back kept base state edits rest e h in
+pub history_again : {S D I F : Type 0} (effect : S → D → Result S F) (takes : List D → Bool) (back : S → List D → List I → S → Type 0) (kept : Kept D I) (base state after : S) (edits : List D) (inverses kept_inverses : List I) (done : List (List D × List I)) (rest : List (List D)) → kept.undone ≡ rest ++ edits ∷ [] → done ≡ kept.done ++ (edits, kept_inverses) ∷ [] → kept_inverses ≡ inverses → Leads effect takes back state edits inverses after → IsHistoryOf effect takes back kept base state → IsHistoryOf effect takes back (record { done = done; undone = rest }) base after
+history_again effect takes back kept base state after edits inverses kept_inverses done rest e f q l h =
+    let a : AllAccepted effect takes state (edits ∷ reverse rest) = can_redo effect takes back kept base state edits rest e h in
     record {
-      past = subst (λ d. AllLead effect back base d after) (sym (f ∙ ap (λ i. kept.done ++ (edits, i) ∷ []) q)) (lead_more effect back base kept.done state (edits, inverses) after h.past l);
-      future = subst (λ s. AllAccepted effect s (reverse rest)) (one_outcome (apply_edits effect state edits) a.0 after a.2 l.accepted) a.3;
+      past = subst (λ d. AllLead effect takes back base d after) (sym (f ∙ ap (λ i. kept.done ++ (edits, i) ∷ []) q)) (lead_more effect takes back base kept.done state (edits, inverses) after h.past l);
+      future = subst (λ s. AllAccepted effect takes s (reverse rest)) (one_outcome (apply_edits effect state edits) a.0 after a.2 l.accepted) a.3;
     }
   where
     one_outcome : {S F : Type 0} (r : Result S F) (s t : S) → r ≡ Ok s → r ≡ Ok t → s ≡ t
@@ -123,16 +123,16 @@ session_again kept edits inverses done rest e f =
     (sym (ap all_but_last e ∙ front-push rest edits))
 
 -- ---- laws
-pub history_first : {S D I F : Type 0} (effect : S → D → Result S F) (back : S → List D → List I → S → Type 0) (base : S) → IsHistoryOf {I = I} effect back nothing base base
-history_first effect back base = record { past = refl; future = tt }
+pub history_first : {S D I F : Type 0} (effect : S → D → Result S F) (takes : List D → Bool) (back : S → List D → List I → S → Type 0) (base : S) → IsHistoryOf {I = I} effect takes back nothing base base
+history_first effect takes back base = record { past = refl; future = tt }
 
-pub history_active : {S D I F : Type 0} (effect : S → D → Result S F) (back : S → List D → List I → S → Type 0) (kept : Kept D I) (base state : S) → IsHistoryOf effect back kept base state → apply_edits effect base (active_edits (session_of kept)) ≡ Ok state
-history_active effect back kept base state h = active effect back base kept.done state h.past
+pub history_active : {S D I F : Type 0} (effect : S → D → Result S F) (takes : List D → Bool) (back : S → List D → List I → S → Type 0) (kept : Kept D I) (base state : S) → IsHistoryOf effect takes back kept base state → apply_edits effect base (active_edits (session_of kept)) ≡ Ok state
+history_active effect takes back kept base state h = active effect takes back base kept.done state h.past
 
-pub history_same : {S D I F : Type 0} (effect : S → D → Result S F) (back : S → List D → List I → S → Type 0) (kept other : Kept D I) (base state changed : S) → IsHistoryOf effect back kept base state → IsHistoryOf effect back other base changed → (session_of kept).done ≡ (session_of other).done → state ≡ changed
-history_same effect back kept other base state changed h k e =
-    let first : apply_edits effect base (active_edits (session_of kept)) ≡ Ok state = history_active effect back kept base state h in
-    let second : apply_edits effect base (active_edits (session_of other)) ≡ Ok changed = history_active effect back other base changed k in
+pub history_same : {S D I F : Type 0} (effect : S → D → Result S F) (takes : List D → Bool) (back : S → List D → List I → S → Type 0) (kept other : Kept D I) (base state changed : S) → IsHistoryOf effect takes back kept base state → IsHistoryOf effect takes back other base changed → (session_of kept).done ≡ (session_of other).done → state ≡ changed
+history_same effect takes back kept other base state changed h k e =
+    let first : apply_edits effect base (active_edits (session_of kept)) ≡ Ok state = history_active effect takes back kept base state h in
+    let second : apply_edits effect base (active_edits (session_of other)) ≡ Ok changed = history_active effect takes back other base changed k in
     let both : apply_edits effect base (active_edits (session_of kept)) ≡ apply_edits effect base (active_edits (session_of other)) = ap (λ d. apply_edits effect base (edits_of d)) e in
     one_state (sym first ∙ (both ∙ second))
   where

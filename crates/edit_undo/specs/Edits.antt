@@ -1,5 +1,5 @@
 -- What a list of edits does to a state, told by what each edit does. The form is this project's own.
-use Rattle.std.specs.Prelude.{◌≡◌, ℕ, ◌+◌, ◌<◌, ◌^◌, List, [], ◌∷◌, length, Result, Ok, Err}
+use Rattle.std.specs.Prelude.{◌≡◌, ℕ, Bool, true, ◌+◌, ◌<◌, ◌^◌, List, [], ◌∷◌, length, Result, Ok, Err}
 use Rattle.edit_undo.specs.declared.editable.EntryFault.{EntryFault}
 use Rattle.edit_undo.specs.declared.editable.EntryFault.TheVariants.{At, NoMemory}
 
@@ -17,14 +17,15 @@ apply_from effect place s (d ∷ ds) = then_apply (effect s d) place (λ t. appl
 abbrev pub apply_edits : {S D F : Type 0} → (S → D → Result S F) → S → List D → Result S (ℕ × F)
 apply_edits effect s ds = apply_from effect 0 s ds
 
--- an entry has an edit, and its places are numbers of 32 bits
-pub record IsEntry {D : Type 0} (edits : List D) : Type 0 where
+-- an entry has an edit, its places are numbers of 32 bits, and it is a list that is taken as one
+pub record IsEntry {D : Type 0} (takes : List D → Bool) (edits : List D) : Type 0 where
   pub some : 0 < length edits
   pub few : length edits < 2 ^ 32
+  pub taken : takes edits ≡ true
 
 -- The entry leads from one state to another, and these inverses of it lead back.
-pub record Leads {S D I F : Type 0} (effect : S → D → Result S F) (leads_back : S → List D → List I → S → Type 0) (before : S) (edits : List D) (inverses : List I) (after : S) : Type 0 where
-  pub entry : IsEntry edits
+pub record Leads {S D I F : Type 0} (effect : S → D → Result S F) (takes : List D → Bool) (leads_back : S → List D → List I → S → Type 0) (before : S) (edits : List D) (inverses : List I) (after : S) : Type 0 where
+  pub entry : IsEntry takes edits
   pub accepted : apply_edits effect before edits ≡ Ok after
   pub back : leads_back after edits inverses before
 

@@ -2,4 +2,3 @@ pub mod Edits
 pub mod Session
 pub mod Kept
 pub mod Answers
-pub mod Numbers

@@ -1,5 +1,5 @@
 //! What can be edited, and edited back.
-ghost use Rattle.std.specs.Prelude.{◌≡◌, ◌≢◌, ℕ, ◌+◌, ◌≤◌, List, Result, IfErr, IfOk, OnErr, OnOk};
+ghost use Rattle.std.specs.Prelude.{◌≡◌, ◌≢◌, Bool, ℕ, ◌+◌, ◌≤◌, List, Result, IfErr, IfOk, OnErr, OnOk};
 ghost use Rattle.edit_undo.specs.Edits.{apply_edits, IsEntry, IsFaultOf, Leads};
 
 use plan_base::{NoMemory, Steps};
@@ -16,7 +16,8 @@ pub enum EntryFault<F> {
 /// What lists of edits change, and change back.
 ///
 /// A list of edits is an entry: all of its edits are applied, one after another, or none.
-/// `L` is the marker of the counter: code that is generic in it has no counter but the one that it was given.
+/// `L` is the marker of the counter. An implementation counts what it reads through values that it is generic in too; a value
+/// of a known type could be read under any counter.
 pub trait Editable<L> {
     /// One edit.
     type Edit;
@@ -34,6 +35,9 @@ pub trait Editable<L> {
     /// What one edit does: the state after it, or why it is refused.
     ghost effect: { State → Self.Edit → Result State Self.Fault };
 
+    /// Which lists of edits are taken as one entry.
+    ghost takes: { List Self.Edit → Bool };
+
     /// Whether from a state these inverses of these edits lead back to the other.
     ghost leads_back: { State → List Self.Edit → List Self.Inverse → State → Type 0 };
 
@@ -50,8 +54,8 @@ pub trait Editable<L> {
         edits: &[Self::Edit],
         steps: &mut Steps<L>,
     ) -> Result<Vec<Self::Inverse>, EntryFault<Self::Fault>>
-        requires { IsEntry edits.now }
-        ensures ok { IfOk result (λ inverses. Leads effect leads_back (state self.old) edits.now inverses.items (state self.new)) }
+        requires { IsEntry takes edits.now }
+        ensures ok { IfOk result (λ inverses. Leads effect takes leads_back (state self.old) edits.now inverses.items (state self.new)) }
         ensures fault { IfErr result (IsFaultOf (apply_edits effect (state self.old) edits.now)) }
         ensures err { OnErr result (state self.new ≡ state self.old) }
         ensures work { OnOk result (steps.new ≤ steps.old + work (state self.old) edits.now (state self.new)) }
@@ -69,8 +73,8 @@ pub trait Editable<L> {
         inverses: &[Self::Inverse],
         steps: &mut Steps<L>,
     ) -> Result<(), NoMemory>
-        requires { (before : State) × Leads effect leads_back before edits.now inverses.now (state self.old) }
-        ensures ok { OnOk result ((before : State) → Leads effect leads_back before edits.now inverses.now (state self.old) → state self.new ≡ before) }
+        requires { (before : State) × Leads effect takes leads_back before edits.now inverses.now (state self.old) }
+        ensures ok { OnOk result ((before : State) → Leads effect takes leads_back before edits.now inverses.now (state self.old) → state self.new ≡ before) }
         ensures err { OnErr result (state self.new ≡ state self.old) }
         ensures work { OnOk result (steps.new ≤ steps.old + work (state self.old) edits.now (state self.new)) }
         ensures later { steps.old ≤ steps.new };

@@ -74,12 +74,12 @@ impl<D: Drop, I: Drop> History<D, I> {
         edits: Vec<D>,
         steps: &mut Steps<L>,
     ) -> Result<(), DoFault<E::Fault>>
-        requires { IsEntry edits.items }
+        requires { IsEntry E.takes edits.items }
         ensures accepted { OnOk result (apply_edits E.effect (E.state target.old) edits.items ≡ Ok (E.state target.new)) }
         ensures session { OnOk result (session_of self.new ≡ with_entry (session_of self.old) edits.items) }
         ensures fault { IfErr result (IsFaultOfEdits (apply_edits E.effect (E.state target.old) edits.items)) }
         ensures err { OnErr result ((self.new ≡ self.old) × (E.state target.new ≡ E.state target.old)) }
-        ensures history { (base : E.State) → IsHistoryOf E.effect E.leads_back self.old base (E.state target.old) → IsHistoryOf E.effect E.leads_back self.new base (E.state target.new) }
+        ensures history { (base : E.State) → IsHistoryOf E.effect E.takes E.leads_back self.old base (E.state target.old) → IsHistoryOf E.effect E.takes E.leads_back self.new base (E.state target.new) }
         ensures work { OnOk result (steps.new ≤ steps.old + E.work (E.state target.old) edits.items (E.state target.new)) }
         ensures no_work { IfErr result (λ fault. fault ≢ DoFault.NoMemory → steps.new ≡ steps.old) }
         ensures later { steps.old ≤ steps.new }
@@ -112,12 +112,12 @@ impl<D: Drop, I: Drop> History<D, I> {
         target: &mut E,
         steps: &mut Steps<L>,
     ) -> Result<(), DoFault<E::Fault>>
-        requires { (base : E.State) × IsHistoryOf E.effect E.leads_back self.old base (E.state target.old) }
+        requires { (base : E.State) × IsHistoryOf E.effect E.takes E.leads_back self.old base (E.state target.old) }
         ensures session { OnOk result (session_of self.new ≡ undo_of (session_of self.old)) }
         ensures fault { IfErr result (IsFaultOfUndo (session_of self.old).done) }
         ensures nothing { (session_of self.old).done ≡ [] → result ≡ Err DoFault.NothingToUndo }
         ensures err { OnErr result ((self.new ≡ self.old) × (E.state target.new ≡ E.state target.old)) }
-        ensures history { (base : E.State) → IsHistoryOf E.effect E.leads_back self.old base (E.state target.old) → IsHistoryOf E.effect E.leads_back self.new base (E.state target.new) }
+        ensures history { (base : E.State) → IsHistoryOf E.effect E.takes E.leads_back self.old base (E.state target.old) → IsHistoryOf E.effect E.takes E.leads_back self.new base (E.state target.new) }
         ensures work { OnOk result (steps.new ≤ steps.old + E.work (E.state target.old) (last_of (session_of self.old).done) (E.state target.new)) }
         ensures no_work { IfErr result (λ fault. fault ≢ DoFault.NoMemory → steps.new ≡ steps.old) }
         ensures later { steps.old ≤ steps.new }
@@ -152,12 +152,12 @@ impl<D: Drop, I: Drop> History<D, I> {
         target: &mut E,
         steps: &mut Steps<L>,
     ) -> Result<(), DoFault<E::Fault>>
-        requires { (base : E.State) × IsHistoryOf E.effect E.leads_back self.old base (E.state target.old) }
+        requires { (base : E.State) × IsHistoryOf E.effect E.takes E.leads_back self.old base (E.state target.old) }
         ensures session { OnOk result (session_of self.new ≡ redo_of (session_of self.old)) }
         ensures fault { IfErr result (IsFaultOfRedo (session_of self.old).undone) }
         ensures nothing { (session_of self.old).undone ≡ [] → result ≡ Err DoFault.NothingToRedo }
         ensures err { OnErr result ((self.new ≡ self.old) × (E.state target.new ≡ E.state target.old)) }
-        ensures history { (base : E.State) → IsHistoryOf E.effect E.leads_back self.old base (E.state target.old) → IsHistoryOf E.effect E.leads_back self.new base (E.state target.new) }
+        ensures history { (base : E.State) → IsHistoryOf E.effect E.takes E.leads_back self.old base (E.state target.old) → IsHistoryOf E.effect E.takes E.leads_back self.new base (E.state target.new) }
         ensures work { OnOk result (steps.new ≤ steps.old + E.work (E.state target.old) (last_of (session_of self.old).undone) (E.state target.new)) }
         ensures no_work { IfErr result (λ fault. fault ≢ DoFault.NoMemory → steps.new ≡ steps.old) }
         ensures later { steps.old ≤ steps.new }

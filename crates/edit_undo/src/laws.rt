@@ -10,9 +10,9 @@ use crate::Editable;
 /// state after any calls is the base with the active edits applied, and moments that have the same entries done have the
 /// same state: so undo restores every part of the state before, and redo that after.
 pub fn state_is_of_the_active_edits<L, D, I, E: Editable<L, Edit = D, Inverse = I>>()
-    ensures first { (base : E.State) → IsHistoryOf E.effect E.leads_back (nothing {D = D} {I = I}) base base }
-    ensures active { (kept : Kept D I) (base state : E.State) → IsHistoryOf E.effect E.leads_back kept base state → apply_edits E.effect base (active_edits (session_of kept)) ≡ Ok state }
-    ensures same { (kept other : Kept D I) (base state changed : E.State) → IsHistoryOf E.effect E.leads_back kept base state → IsHistoryOf E.effect E.leads_back other base changed → (session_of kept).done ≡ (session_of other).done → state ≡ changed }
+    ensures first { (base : E.State) → IsHistoryOf E.effect E.takes E.leads_back (nothing {D = D} {I = I}) base base }
+    ensures active { (kept : Kept D I) (base state : E.State) → IsHistoryOf E.effect E.takes E.leads_back kept base state → apply_edits E.effect base (active_edits (session_of kept)) ≡ Ok state }
+    ensures same { (kept other : Kept D I) (base state changed : E.State) → IsHistoryOf E.effect E.takes E.leads_back kept base state → IsHistoryOf E.effect E.takes E.leads_back other base changed → (session_of kept).done ≡ (session_of other).done → state ≡ changed }
 {}
 
 /// Undo behind an entry leaves what was done before it. Redo behind undo leaves the whole session as it was.

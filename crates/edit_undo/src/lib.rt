@@ -4,8 +4,6 @@
 mod editable;
 mod history;
 mod laws;
-#[cfg(test)]
-mod tests;
 
 pub use editable::{Editable, EntryFault};
 pub use history::{DoFault, History};

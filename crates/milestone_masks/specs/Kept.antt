@@ -1,11 +1,10 @@
 -- What holds of the parts of the worlds at all times.
 use Rattle.std.specs.Prelude.{ℕ, ◌-◌, ◌^◌, ◌<◌, ◌≤◌, ◌≡◌, List, Option, None, All, length, replicate}
 use Rattle.milestone_masks.specs.declared.worlds.Milestone.{Milestone}
-use Rattle.milestone_masks.specs.declared.worlds.TheConstants.{MILESTONE_LIMIT}
 
--- the heap is empty and for the nodes of the base world, and the other worlds have as many; there are few milestones
+-- the heap is empty and for the nodes of the base world, and the other worlds have as many; there are at most 256 milestones
 pub record IsKept (heap : List (Option ℕ)) (base : List ℕ) (milestones : List Milestone) : Type 0 where
   pub few : length base < 2 ^ 32 - 1
   pub heap_empty : heap ≡ replicate (length base) None
   pub as_long : All (λ m. length m.ranks ≡ length base) milestones
-  pub limited : length milestones ≤ MILESTONE_LIMIT
+  pub limited : length milestones ≤ 256

@@ -10,7 +10,6 @@ use Rattle.reach_ranks.specs.Given.{size_of, sum_below}
 use Rattle.milestone_masks.specs.declared.worlds.Milestone.{Milestone}
 use Rattle.milestone_masks.specs.declared.worlds.MilestoneFault.{MilestoneFault}
 use Rattle.milestone_masks.specs.declared.worlds.MilestoneFault.TheVariants.{NoMemory, Full, Already, NotOne}
-use Rattle.milestone_masks.specs.declared.worlds.TheConstants.{MILESTONE_LIMIT}
 
 -- the ranks of the base world, and the milestones in order, each with the ranks of its world
 pub record Kept : Type 0 where
@@ -75,11 +74,11 @@ missing_in set None = []
 missing_in set (Some row) =
     map (λ g. record { all = g.all; members = filter (λ m. not (set m.0)) g.members }) (filter (λ g. not (is_satisfied set g)) row.groups)
 
--- why a milestone was added or not: it was one already, or else there were as many as there can be
+-- why a milestone was added or not: it was one already, or else there were 256, as many as there can be
 abbrev pub AddAnswer : Result (Unit {0}) MilestoneFault → List Milestone → ℕ → Type 0
-AddAnswer (Ok _) milestones node = (place_of milestones node ≡ None) × (length milestones < MILESTONE_LIMIT)
-AddAnswer (Err NoMemory) milestones node = (place_of milestones node ≡ None) × (length milestones < MILESTONE_LIMIT)
-AddAnswer (Err Full) milestones node = (place_of milestones node ≡ None) × (MILESTONE_LIMIT ≤ length milestones)
+AddAnswer (Ok _) milestones node = (place_of milestones node ≡ None) × (length milestones < 256)
+AddAnswer (Err NoMemory) milestones node = (place_of milestones node ≡ None) × (length milestones < 256)
+AddAnswer (Err Full) milestones node = (place_of milestones node ≡ None) × (256 ≤ length milestones)
 AddAnswer (Err Already) milestones node = IsSome (place_of milestones node)
 AddAnswer (Err NotOne) milestones node = ⊥
 

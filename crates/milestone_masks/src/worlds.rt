@@ -1,5 +1,5 @@
 //! The worlds of all milestones.
-ghost use Rattle.std.specs.Prelude.{◌≡◌, ℕ, ◌+◌, ◌*◌, ◌-◌, ◌^◌, ◌<◌, ◌≤◌, ◌↔◌, ◌∷◌, List, None, Some, [], not, All, filter, insert, length, map, min, remove, replicate, slice_get, slice_index, IfErr, IfOk, IsTrue, OnErr, OnOk};
+ghost use Rattle.std.specs.Prelude.{◌≡◌, ◌≢◌, ℕ, ◌+◌, ◌*◌, ◌-◌, ◌^◌, ◌<◌, ◌≤◌, ◌↔◌, ◌∷◌, List, None, Some, [], not, All, filter, insert, length, map, min, remove, replicate, slice_get, slice_index, IfErr, IfOk, IsTrue, OnErr, OnOk};
 ghost use Rattle.reach_ranks.specs.Rounds.{world, IsWhole};
 ghost use Rattle.reach_ranks.specs.Ranks.{AreRanks};
 ghost use Rattle.reach_ranks.specs.Given.{size_of, sum_below};
@@ -18,7 +18,7 @@ use std::alloc::{AllocError, AllocFailed, Global};
 use std::marker::Model;
 
 /// The most milestones that there can be.
-pub const MILESTONE_LIMIT: usize = 64;
+pub const MILESTONE_LIMIT: usize = 256;
 
 /// A milestone, with the ranks of the world in which it is barred.
 #[derive(Drop)]
@@ -92,7 +92,7 @@ impl Worlds {
     /// How many milestones there are.
     pub fn count(&self) -> u32
         ensures count { result ≡ length self.now.milestones }
-        ensures few { result ≤ MILESTONE_LIMIT }
+        ensures few { result ≤ 256 }
     {
         self.milestones.len() as u32
     }
@@ -130,6 +130,16 @@ impl Worlds {
         Ok(nodes)
     }
 
+    /// How many milestones there are in whose world the node isn't reached.
+    pub fn mask_len(&self, node: NodeId) -> u32
+        requires { node.0 < length self.now.base }
+        ensures count { result ≡ length (mask_of self.now node.0) }
+        ensures few { result ≤ 256 }
+    {
+        let _base = &self.base;
+        mask_len_in(&self.milestones, node)
+    }
+
     /// Makes the node a milestone at a place in their order, with the ranks of its world.
     ///
     /// The ranks of the base world are copied and repaired, so that it takes at most six times the size of barring
@@ -157,6 +167,7 @@ impl Worlds {
         ensures added { OnOk result (milestones_of self.new ≡ insert (milestones_of self.old) place node) }
         ensures worlds { AreWorlds (R.rows rows.now) barred.now granted.now self.new }
         ensures err { OnErr result (self.new ≡ self.old) }
+        ensures no_step { IfErr result (λ fault. fault ≢ MilestoneFault.NoMemory → steps.new ≡ steps.old) }
         ensures steps { (ranks : List ℕ) → AreRanks (world (R.rows rows.now) barred.now granted.now (Some node)) ranks
             → steps.new ≤ steps.old + 6 * size_of (R.rows rows.now) (node ∷ []) self.old.base ranks }
         ensures later { steps.old ≤ steps.new }
@@ -300,6 +311,22 @@ fn mask_in(alloc: Global, milestones: &[Milestone], node: NodeId) -> Result<Vec<
     Ok(nodes)
 }
 
+/// How many milestones there are in whose world the node has no rank.
+fn mask_len_in(milestones: &[Milestone], node: NodeId) -> u32
+    requires ranks { All (λ m. node.0 < length m.ranks) milestones.now }
+    requires few { length milestones.now ≤ 256 }
+    ensures count { result ≡ length (map (λ m. m.node) (filter (λ m. not (ranked m.ranks node.0)) milestones.now)) }
+    ensures few { result ≤ 256 }
+{
+    let mut count = 0;
+    for m in milestones {
+        if m.ranks.rank(node) == 0 {
+            count += 1;
+        }
+    }
+    count
+}
+
 /// Adds a milestone with the ranks of its world.
 fn add<R: Rows<L>, L>(
     heap: &mut Heap,
@@ -322,6 +349,7 @@ fn add<R: Rows<L>, L>(
     ensures added { OnOk result (AddsWorld (world (R.rows rows.now) barred.now granted.now (Some node)) node place milestones.old.items milestones.new.items) }
     ensures heap { heap.new ≡ heap.old }
     ensures err { OnErr result (milestones.new.items ≡ milestones.old.items) }
+    ensures no_step { IfErr result (λ fault. fault ≢ MilestoneFault.NoMemory → steps.new ≡ steps.old) }
     ensures steps { (ranks : List ℕ) → AreRanks (world (R.rows rows.now) barred.now granted.now (Some node)) ranks
         → steps.new ≤ steps.old + 6 * size_of (R.rows rows.now) (node ∷ []) base.now ranks }
     ensures later { steps.old ≤ steps.new }

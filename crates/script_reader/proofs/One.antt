@@ -10,20 +10,21 @@ use Rattle.fractions.proofs.ReadsAs.{same_numeral, same_quotient, not_both}
 use Rattle.plan_base.specs.declared.shape.Kind.{Kind}
 use Rattle.plan_base.specs.declared.shape.Kind.TheVariants.{Special, Item, Fluid, Recipe, Source, Machine, Tech}
 use Rattle.script_reader.specs.declared.change.Object.{Object}
-use Rattle.script_reader.specs.declared.change.Parts.{Parts}
+use Rattle.script_reader.specs.declared.change.RowPart.{RowPart}
+use Rattle.script_reader.specs.declared.change.RowPart.TheVariants as row
 use Rattle.script_reader.specs.declared.command.ScriptFault.{ScriptFault}
 use Rattle.script_reader.specs.declared.command.ScriptFault.TheVariants.{UnknownCommand, WrongWords, BadNumber, BadQuoting, BadObject}
 use Rattle.script_reader.specs.declared.command_words.CommandWord.{CommandWord}
-use Rattle.script_reader.specs.declared.command_words.CommandWord.TheVariants.{Reach, Why, Missing, Mask, List as ListWord, Milestones, Summary, Rate, Solve, Quiet, Undo, Redo, Batch, End, Cancel, Grant, Revoke, Forbid, Permit, Milestone, Unmilestone, Ingredient, Product, Unlock, Time, Enabled, Table, Untable, Row, Unrow, Price, Want, Import, Surplus}
+use Rattle.script_reader.specs.declared.command_words.CommandWord.TheVariants.{Reach, Why, Missing, Mask, List as ListWord, Milestones, Summary, Rate, Solve, Quiet, Undo, Redo, Batch, End, Cancel, Grant, Revoke, Forbid, Permit, Milestone, Unmilestone, Ingredient, Product, Unlock, Time, Enabled, Table, Untable, Row, Unrow, Price, Want, Import, Surplus, Power}
 use Rattle.script_reader.specs.declared.fields.Place.{Place}
-use Rattle.script_reader.specs.declared.fields.Place.TheVariants.{Node, Good, OneRecipe, OneTech, OneItem, OneMachine, Activity}
+use Rattle.script_reader.specs.declared.fields.Place.TheVariants.{Node, Good, OneRecipe, OneTech, OneItem, OneFluid, OneMachine, Activity, TableGood}
 use Rattle.script_reader.specs.declared.parts.PartWords.{PartWords}
-use Rattle.script_reader.specs.declared.parts.PartWords.TheVariants.{Fuel, Module, Beacon, In}
+use Rattle.script_reader.specs.declared.parts.PartWords.TheVariants.{Fuel, Module, Beacon, In, At}
 use Rattle.script_reader.specs.Fields.{kind_word, IsObjectAt, WritesCount}
 use Rattle.script_reader.specs.Commands.{command_word}
 use Rattle.script_reader.specs.PartWords.{ArePartsOf}
 use Rattle.script_reader.specs.Reading.{gives, refuses, the_one, and_then, no_word, one_word, two_words, three_words, five_words}
-use Rattle.script_reader.specs.Arguments.{object, kind, count, ratio, ratio_or, switch_word, switch, no_words, node_words, kind_words, text_words, label_words, solve_words, switch_words, good_of_recipe_words, unlock_words, time_words, enabled_words, price_words, want_words, price_of_good_words, module_words, beacon_words, add_part, add_parts, no_parts, parts_behind, row_words, arguments, named, command_of_words}
+use Rattle.script_reader.specs.Arguments.{object, kind, count, ratio, ratio_or, switch_word, switch, no_words, node_words, kind_words, text_words, label_words, solve_words, switch_words, good_of_recipe_words, unlock_words, time_words, enabled_words, price_words, want_words, price_of_good_words, count_words, beacon_words, part_words, power_words, add_part, add_parts, parts_behind, row_words, arguments, named, command_of_words}
 use Rattle.script_reader.specs.Lines.{has_no_command, utf8, spelled, command_unless, command_of_line}
 use Rattle.script_reader.proofs.Spelling.{one_reading}
 use Rattle.script_reader.proofs.PartLemmas.{one_list}
@@ -249,25 +250,32 @@ one_price : (words : List (List ℕ)) → One (price_words words)
 one_price words = one_three _ (λ table label price. one_last _ _ (one_ratio price)) words
 
 one_want : (words : List (List ℕ)) → One (want_words words)
-one_want words = one_three _ (λ table good amount. one_then _ _ (one_object Good good) (λ g. one_last _ _ (one_ratio amount))) words
+one_want words = one_three _ (λ table good amount. one_then _ _ (one_object TableGood good) (λ g. one_last _ _ (one_ratio amount))) words
 
 one_price_of_good : (words : List (List ℕ)) → One (price_of_good_words words)
-one_price_of_good words = one_three _ (λ table good price. one_then _ _ (one_object Good good) (λ g. one_last _ _ (one_ratio_or (codes "off") price))) words
+one_price_of_good words = one_three _ (λ table good price. one_then _ _ (one_object TableGood good) (λ g. one_last _ _ (one_ratio_or (codes "off") price))) words
+
+one_power : (words : List (List ℕ)) → One (power_words words)
+one_power words = one_two _ (λ table on. one_last _ _ (one_switch on)) words
 
 -- ---- the parts of a row
-one_module : (item number : List ℕ) → One (module_words item number)
-one_module item number = one_then _ _ (one_object OneItem item) (λ o. one_last _ _ (one_count 0 65535 number))
+one_counted : (make : Object → ℕ → RowPart) (item number : List ℕ) → One (count_words make item number)
+one_counted make item number = one_then _ _ (one_object OneItem item) (λ o. one_last _ _ (one_count 0 65535 number))
 
 one_beacon : (machine number share : List ℕ) → One (beacon_words machine number share)
 one_beacon machine number share = one_then _ _ (one_object OneMachine machine) (λ o. one_then _ _ (one_count 0 65535 number) (λ n. one_last _ _ (one_count 0 65535 share)))
 
-one_part_more : (parts : Parts) (part : PartWords) → One (add_part parts part)
-one_part_more parts (Fuel item) = one_last _ _ (one_object OneItem item)
-one_part_more parts (Module item number) = one_last _ _ (one_module item number)
-one_part_more parts (Beacon machine number share) = one_last _ _ (one_beacon machine number share)
-one_part_more parts (In item number) = one_last _ _ (one_module item number)
+one_part_words : (part : PartWords) → One (part_words part)
+one_part_words (Fuel item) = one_last _ _ (one_object OneItem item)
+one_part_words (Module item number) = one_counted row.Module item number
+one_part_words (Beacon machine number share) = one_beacon machine number share
+one_part_words (In item number) = one_counted row.In item number
+one_part_words (At fluid) = one_last _ _ (one_object OneFluid fluid)
 
-one_parts_more : (parts : Parts) (words : List PartWords) → One (add_parts parts words)
+one_part_more : (parts : List RowPart) (part : PartWords) → One (add_part parts part)
+one_part_more parts part = one_last _ _ (one_part_words part)
+
+one_parts_more : (parts : List RowPart) (words : List PartWords) → One (add_parts parts words)
 one_parts_more parts [] = one_gives parts
 one_parts_more parts (part ∷ rest) = one_then _ _ (one_part_more parts part) (λ more. one_parts_more more rest)
 
@@ -276,7 +284,7 @@ one_behind by words = one_the (λ parts. (by ≡ codes "by") × ArePartsOf words
 
 one_row : (words : List (List ℕ)) → One (row_words words)
 one_row words = one_five _ (λ table label activity by machine rest.
-    one_then _ _ (one_behind by rest) (λ parts. one_then _ _ (one_object Activity activity) (λ a. one_then _ _ (one_object OneMachine machine) (λ m. one_last _ _ (one_parts_more no_parts parts))))) words
+    one_then _ _ (one_behind by rest) (λ parts. one_then _ _ (one_object Activity activity) (λ a. one_then _ _ (one_object OneMachine machine) (λ m. one_last _ _ (one_parts_more [] parts))))) words
 
 -- ---- the commands
 one_arguments : (word : CommandWord) (words : List (List ℕ)) → One (arguments word words)
@@ -314,6 +322,7 @@ one_arguments Price words = one_last _ _ (one_price words)
 one_arguments Want words = one_last _ _ (one_want words)
 one_arguments Import words = one_last _ _ (one_price_of_good words)
 one_arguments Surplus words = one_last _ _ (one_price_of_good words)
+one_arguments Power words = one_last _ _ (one_power words)
 
 one_named : (word : Option CommandWord) (words : List (List ℕ)) → One (named word words)
 one_named (Some word) words = one_arguments word words

@@ -1,19 +1,17 @@
 -- How parts are told apart.
-use Rattle.std.specs.Prelude.{◌≡◌, ◌≢◌, ℕ, ◌<◌, ◌≤◌, List, [], ◌∷◌, ◌++◌, codes, length, drop, count_by, nat_le, true, false, Some, Result, Ok, Err}
+use Rattle.std.specs.Prelude.{◌≡◌, ◌≢◌, ℕ, ◌<◌, ◌≤◌, List, [], ◌∷◌, ◌++◌, codes, length, drop, count_by, nat_le, true, false, Result, Ok, Err}
 use Rattle.std.specs.List.{before_first, list_any}
 use Rattle.std.proofs.Common.{refl, sym, ap, subst, ◌∙◌, arith, append_assoc, length-append}
 use Rattle.std.proofs.lemmas.Bool.Decides.{nat_tests}
 use Rattle.std.proofs.lemmas.List.{drop_all}
 use Rattle.script_reader.specs.declared.command.ScriptFault.{ScriptFault}
 use Rattle.script_reader.specs.declared.command.ScriptFault.TheVariants.{UnknownCommand, WrongWords, BadNumber, BadQuoting, BadObject, NoMemory}
-use Rattle.script_reader.specs.declared.change.Object.{Object}
-use Rattle.script_reader.specs.declared.change.BeaconWords.{BeaconWords}
-use Rattle.script_reader.specs.declared.change.Parts.{Parts}
+use Rattle.script_reader.specs.declared.change.RowPart.{RowPart}
 use Rattle.script_reader.specs.declared.parts.PartWords.{PartWords}
-use Rattle.script_reader.specs.declared.parts.PartWords.TheVariants.{Fuel, Module, Beacon, In}
-use Rattle.script_reader.specs.Reading.{Answers, the_one, gives, and_then}
+use Rattle.script_reader.specs.declared.parts.PartWords.TheVariants.{Fuel, Module, Beacon, In, At}
+use Rattle.script_reader.specs.Reading.{Answers, the_one, gives}
 use Rattle.script_reader.specs.PartWords.{written_part, written_parts, first_part, all_parts, is_fuel, is_in, is_beacon}
-use Rattle.script_reader.specs.Arguments.{add_part, add_parts, in_last, parts_behind}
+use Rattle.script_reader.specs.Arguments.{add_part, add_parts, part_words, parts_behind}
 use Rattle.script_reader.proofs.Readings.{answers_first, answers_next, answers_gives}
 
 bad : {X : Type 0} (a b : ℕ) → a < b → a ≡ b → X
@@ -32,12 +30,14 @@ key_of (Fuel item) = codes "fuel"
 key_of (Module item number) = codes "module"
 key_of (Beacon machine number share) = codes "beacon"
 key_of (In item number) = codes "in"
+key_of (At fluid) = codes "at"
 
 arguments_of : PartWords → ℕ
 arguments_of (Fuel item) = 1
 arguments_of (Module item number) = 2
 arguments_of (Beacon machine number share) = 3
 arguments_of (In item number) = 2
+arguments_of (At fluid) = 1
 
 record Fits (key : List ℕ) (rest : List (List ℕ)) (part : PartWords) : Type 0 where
   key_is : key ≡ key_of part
@@ -49,6 +49,7 @@ fits key rest tail (Fuel item) e = record { key_is = cc; enough = let r : rest �
 fits key rest tail (Module item number) e = record { key_is = cc; enough = let r : rest ≡ item ∷ number ∷ tail = cc in omega (arith, ap length r) }
 fits key rest tail (Beacon machine number share) e = record { key_is = cc; enough = let r : rest ≡ machine ∷ number ∷ share ∷ tail = cc in omega (arith, ap length r) }
 fits key rest tail (In item number) e = record { key_is = cc; enough = let r : rest ≡ item ∷ number ∷ tail = cc in omega (arith, ap length r) }
+fits key rest tail (At fluid) e = record { key_is = cc; enough = let r : rest ≡ fluid ∷ tail = cc in omega (arith, ap length r) }
 
 few : (key : List ℕ) (rest : List (List ℕ)) (n : ℕ) → length rest < n → ((part : PartWords) → key ≡ key_of part → n ≤ arguments_of part) → (part : PartWords) → ¬ ((tail : List (List ℕ)) × (key ∷ rest ≡ written_part part ++ tail))
 few key rest n h need part t = let f : Fits key rest part = fits key rest t.0 part t.1 in let m : n ≤ arguments_of part = need part f.key_is in let l : arguments_of part ≤ length rest = f.enough in absurd (omega arith)
@@ -67,6 +68,18 @@ no_fuel words key rest e k h = refused words key rest e (few key rest 1 h by)
     by (Module item number) d = omega arith
     by (Beacon machine number share) d = omega arith
     by (In item number) d = omega arith
+    by (At fluid) d = omega arith
+
+pub no_at : (words : List (List ℕ)) (key : List ℕ) (rest : List (List ℕ)) → words ≡ key ∷ rest → key ≡ codes "at" → length rest < 1 → Answers (first_part words) (Err WrongWords)
+unfolding key_of arguments_of
+no_at words key rest e k h = refused words key rest e (few key rest 1 h by)
+  where
+    by : (part : PartWords) → key ≡ key_of part → 1 ≤ arguments_of part
+    by (Fuel item) d = omega arith
+    by (Module item number) d = omega arith
+    by (Beacon machine number share) d = omega arith
+    by (In item number) d = omega arith
+    by (At fluid) d = omega arith
 
 pub no_module : (words : List (List ℕ)) (key : List ℕ) (rest : List (List ℕ)) → words ≡ key ∷ rest → key ≡ codes "module" → length rest < 2 → Answers (first_part words) (Err WrongWords)
 unfolding key_of arguments_of letter
@@ -77,6 +90,7 @@ no_module words key rest e k h = refused words key rest e (few key rest 2 h by)
     by (Module item number) d = omega arith
     by (Beacon machine number share) d = omega arith
     by (In item number) d = omega arith
+    by (At fluid) d = bad 97 109 (omega arith) (sym (ap letter (sym k ∙ d)))
 
 pub no_in : (words : List (List ℕ)) (key : List ℕ) (rest : List (List ℕ)) → words ≡ key ∷ rest → key ≡ codes "in" → length rest < 2 → Answers (first_part words) (Err WrongWords)
 unfolding key_of arguments_of letter
@@ -87,6 +101,7 @@ no_in words key rest e k h = refused words key rest e (few key rest 2 h by)
     by (Module item number) d = omega arith
     by (Beacon machine number share) d = omega arith
     by (In item number) d = omega arith
+    by (At fluid) d = bad 97 105 (omega arith) (sym (ap letter (sym k ∙ d)))
 
 pub no_beacon : (words : List (List ℕ)) (key : List ℕ) (rest : List (List ℕ)) → words ≡ key ∷ rest → key ≡ codes "beacon" → length rest < 3 → Answers (first_part words) (Err WrongWords)
 unfolding key_of arguments_of letter
@@ -97,16 +112,18 @@ no_beacon words key rest e k h = refused words key rest e (few key rest 3 h by)
     by (Module item number) d = bad 98 109 (omega arith) (ap letter (sym k ∙ d))
     by (Beacon machine number share) d = omega arith
     by (In item number) d = bad 98 105 (omega arith) (ap letter (sym k ∙ d))
+    by (At fluid) d = bad 97 98 (omega arith) (sym (ap letter (sym k ∙ d)))
 
-pub no_key : (words : List (List ℕ)) (key : List ℕ) (rest : List (List ℕ)) → words ≡ key ∷ rest → key ≢ codes "fuel" → key ≢ codes "module" → key ≢ codes "beacon" → key ≢ codes "in" → Answers (first_part words) (Err WrongWords)
+pub no_key : (words : List (List ℕ)) (key : List ℕ) (rest : List (List ℕ)) → words ≡ key ∷ rest → key ≢ codes "fuel" → key ≢ codes "at" → key ≢ codes "module" → key ≢ codes "beacon" → key ≢ codes "in" → Answers (first_part words) (Err WrongWords)
 unfolding key_of
-no_key words key rest e f m b i = refused words key rest e (λ part t. by part (fits key rest t.0 part t.1).key_is)
+no_key words key rest e f a m b i = refused words key rest e (λ part t. by part (fits key rest t.0 part t.1).key_is)
   where
     by : (part : PartWords) → ¬ (key ≡ key_of part)
     by (Fuel item) d = f d
     by (Module item number) d = m d
     by (Beacon machine number share) d = b d
     by (In item number) d = i d
+    by (At fluid) d = a d
 
 -- the part that is found
 pub a_part : (words : List (List ℕ)) (part : PartWords) (rest : List (List ℕ)) → words ≡ written_part part ++ rest → Answers (first_part words) (Ok part)
@@ -132,24 +149,34 @@ one_part (Fuel a) (Fuel b) rest tail e = record { parts = let s : a ≡ b = cc i
 one_part (Fuel a) (Module b c) rest tail e = bad 102 109 (omega arith) (ap mark e)
 one_part (Fuel a) (Beacon b c d) rest tail e = bad 98 102 (omega arith) (sym (ap mark e))
 one_part (Fuel a) (In b c) rest tail e = bad 102 105 (omega arith) (ap mark e)
+one_part (Fuel a) (At b) rest tail e = bad 97 102 (omega arith) (sym (ap mark e))
 one_part (Module a n) (Fuel b) rest tail e = bad 102 109 (omega arith) (sym (ap mark e))
 one_part (Module a n) (Module b c) rest tail e = record { parts = cc; rests = cc }
 one_part (Module a n) (Beacon b c d) rest tail e = bad 98 109 (omega arith) (sym (ap mark e))
 one_part (Module a n) (In b c) rest tail e = bad 105 109 (omega arith) (sym (ap mark e))
+one_part (Module a n) (At b) rest tail e = bad 97 109 (omega arith) (sym (ap mark e))
 one_part (Beacon a n s) (Fuel b) rest tail e = bad 98 102 (omega arith) (ap mark e)
 one_part (Beacon a n s) (Module b c) rest tail e = bad 98 109 (omega arith) (ap mark e)
 one_part (Beacon a n s) (Beacon b c d) rest tail e = record { parts = cc; rests = cc }
 one_part (Beacon a n s) (In b c) rest tail e = bad 98 105 (omega arith) (ap mark e)
+one_part (Beacon a n s) (At b) rest tail e = bad 97 98 (omega arith) (sym (ap mark e))
 one_part (In a n) (Fuel b) rest tail e = bad 102 105 (omega arith) (sym (ap mark e))
 one_part (In a n) (Module b c) rest tail e = bad 105 109 (omega arith) (ap mark e)
 one_part (In a n) (Beacon b c d) rest tail e = bad 98 105 (omega arith) (sym (ap mark e))
 one_part (In a n) (In b c) rest tail e = record { parts = cc; rests = cc }
+one_part (In a n) (At b) rest tail e = bad 97 105 (omega arith) (sym (ap mark e))
+one_part (At a) (Fuel b) rest tail e = bad 97 102 (omega arith) (ap mark e)
+one_part (At a) (Module b c) rest tail e = bad 97 109 (omega arith) (ap mark e)
+one_part (At a) (Beacon b c d) rest tail e = bad 97 98 (omega arith) (ap mark e)
+one_part (At a) (In b c) rest tail e = bad 97 105 (omega arith) (ap mark e)
+one_part (At a) (At b) rest tail e = record { parts = let s : a ≡ b = cc in ap At s; rests = cc }
 
 some_words : (part : PartWords) (tail : List (List ℕ)) → 0 < length (written_part part ++ tail)
 some_words (Fuel a) tail = omega arith
 some_words (Module a n) tail = omega arith
 some_words (Beacon a n s) tail = omega arith
 some_words (In a n) tail = omega arith
+some_words (At a) tail = omega arith
 
 -- what stands behind the parts that were found is not the words of parts if no part stands first
 stuck : (parts others : List PartWords) (rest : List (List ℕ)) → 0 < length rest → ((part : PartWords) → ¬ ((tail : List (List ℕ)) × (rest ≡ written_part part ++ tail))) → ¬ (written_parts parts ++ rest ≡ written_parts others)
@@ -184,6 +211,9 @@ no_first words h = (refl, λ part t. let m : 0 < length (written_part part ++ t.
 pub fuel_there : (words : List (List ℕ)) (key a item : List ℕ) (rest tail : List (List ℕ)) → words ≡ key ∷ rest → key ≡ codes "fuel" → rest ≡ a ∷ tail → item ≡ a → Answers (first_part words) (Ok (Fuel item))
 fuel_there words key a item rest tail e k r i = a_part words (Fuel item) tail (e ∙ (ap (λ w. w ∷ rest) k ∙ ap (λ l. codes "fuel" ∷ l) (r ∙ ap (λ w. w ∷ tail) (sym i))))
 
+pub at_there : (words : List (List ℕ)) (key a fluid : List ℕ) (rest tail : List (List ℕ)) → words ≡ key ∷ rest → key ≡ codes "at" → rest ≡ a ∷ tail → fluid ≡ a → Answers (first_part words) (Ok (At fluid))
+at_there words key a fluid rest tail e k r i = a_part words (At fluid) tail (e ∙ (ap (λ w. w ∷ rest) k ∙ ap (λ l. codes "at" ∷ l) (r ∙ ap (λ w. w ∷ tail) (sym i))))
+
 pub module_there : (words : List (List ℕ)) (key a b item number : List ℕ) (rest tail : List (List ℕ)) → words ≡ key ∷ rest → key ≡ codes "module" → rest ≡ a ∷ b ∷ tail → (let p : List ℕ × List ℕ = (item, number) in p) ≡ (a, b) → Answers (first_part words) (Ok (Module item number))
 module_there words key a b item number rest tail e k r i = a_part words (Module item number) tail (e ∙ (ap (λ w. w ∷ rest) k ∙ ap (λ l. codes "module" ∷ l) (r ∙ ap (λ (p : List ℕ × List ℕ). p.0 ∷ p.1 ∷ tail) (sym i))))
 
@@ -193,58 +223,35 @@ in_there words key a b item number rest tail e k r i = a_part words (In item num
 pub beacon_there : (words : List (List ℕ)) (key a b d machine number share : List ℕ) (rest tail : List (List ℕ)) → words ≡ key ∷ rest → key ≡ codes "beacon" → rest ≡ a ∷ b ∷ d ∷ tail → machine ≡ a → (let p : List ℕ × List ℕ = (number, share) in p) ≡ (b, d) → Answers (first_part words) (Ok (Beacon machine number share))
 beacon_there words key a b d machine number share rest tail e k r m i = a_part words (Beacon machine number share) tail (e ∙ (ap (λ w. w ∷ rest) k ∙ ap (λ l. codes "beacon" ∷ l) (r ∙ (ap (λ w. w ∷ b ∷ d ∷ tail) (sym m) ∙ ap (λ (p : List ℕ × List ℕ). machine ∷ p.0 ∷ p.1 ∷ tail) (sym i)))))
 
--- ---- the last beacon
-in_last-push : (rest : List BeaconWords) (last : BeaconWords) (added : Object × ℕ) → in_last (rest ++ last ∷ []) added ≡ rest ++ (let b : BeaconWords = record { machine = last.machine; count = last.count; share = last.share; modules = last.modules ++ added ∷ [] } in b) ∷ []
-in_last-push [] last added = refl
-in_last-push (b ∷ []) last added = refl
-in_last-push (b ∷ d ∷ rest) last added = ap (λ l. b ∷ l) (in_last-push (d ∷ rest) last added)
-
-pub last_more : (beacons rest : List BeaconWords) (last : BeaconWords) (added : Object × ℕ) (modules : List (Object × ℕ)) (new : List BeaconWords) → beacons ≡ rest ++ last ∷ [] → modules ≡ last.modules ++ added ∷ [] → new ≡ rest ++ (let b : BeaconWords = record { machine = last.machine; count = last.count; share = last.share; modules = modules } in b) ∷ [] → new ≡ in_last beacons added
-last_more beacons rest last added modules new e m n =
-    n ∙ (ap (λ l. rest ++ (let b : BeaconWords = record { machine = last.machine; count = last.count; share = last.share; modules = l } in b) ∷ []) m ∙ (sym (in_last-push rest last added) ∙ ap (λ l. in_last l added) (sym e)))
-
--- ---- values of one part more
-pub answers_fuel : (parts : Parts) (reading : Result Object ScriptFault → Type 0) (fuel : Object) → Answers reading (Ok fuel) → Answers (and_then reading (λ o. gives (let p : Parts = record { fuel = Some o; modules = parts.modules; beacons = parts.beacons } in p))) (Ok (record { fuel = Some fuel; modules = parts.modules; beacons = parts.beacons }))
-answers_fuel parts reading fuel h = answers_next reading _ fuel _ h (answers_gives _ _ refl)
-
-with_modules : Parts → List (Object × ℕ) → Parts
-with_modules parts modules = record { fuel = parts.fuel; modules = modules; beacons = parts.beacons }
-
-pub answers_modules : (parts : Parts) (reading : Result (Object × ℕ) ScriptFault → Type 0) (added : Object × ℕ) (modules : List (Object × ℕ)) → modules ≡ parts.modules ++ added ∷ [] → Answers reading (Ok added) → Answers (and_then reading (λ m. gives (let p : Parts = record { fuel = parts.fuel; modules = parts.modules ++ m ∷ []; beacons = parts.beacons } in p))) (Ok (record { fuel = parts.fuel; modules = modules; beacons = parts.beacons }))
-unfolding with_modules
-answers_modules parts reading added modules e h = answers_next reading _ added _ h (answers_gives _ _ (ap (with_modules parts) e))
-
-with_beacons : Parts → List BeaconWords → Parts
-with_beacons parts beacons = record { fuel = parts.fuel; modules = parts.modules; beacons = beacons }
-
-pub answers_beacons : {A : Type 0} (parts : Parts) (reading : Result A ScriptFault → Type 0) (make : A → List BeaconWords) (added : A) (beacons : List BeaconWords) → beacons ≡ make added → Answers reading (Ok added) → Answers (and_then reading (λ b. gives (let p : Parts = record { fuel = parts.fuel; modules = parts.modules; beacons = make b } in p))) (Ok (record { fuel = parts.fuel; modules = parts.modules; beacons = beacons }))
-unfolding with_beacons
-answers_beacons parts reading make added beacons e h = answers_next reading _ added _ h (answers_gives _ _ (ap (with_beacons parts) e))
+-- ---- one part more
+pub answers_part : (parts more : List RowPart) (words : PartWords) (part : RowPart) → Answers (part_words words) (Ok part) → more ≡ parts ++ part ∷ [] → Answers (add_part parts words) (Ok more)
+answers_part parts more words part h e = answers_next (part_words words) (λ p. gives (parts ++ p ∷ [])) part (Ok more) h (answers_gives (parts ++ part ∷ []) more e)
 
 -- ---- the loops
-pub value_more : (first parts next : Parts) (all : List PartWords) (part : PartWords) (rest : List PartWords) → ((result : Result Parts ScriptFault) → Answers (add_parts parts (part ∷ rest)) result → Answers (add_parts first all) result) → Answers (add_part parts part) (Ok next) → (result : Result Parts ScriptFault) → Answers (add_parts next rest) result → Answers (add_parts first all) result
+pub value_more : (first parts next : List RowPart) (all : List PartWords) (part : PartWords) (rest : List PartWords) → ((result : Result (List RowPart) ScriptFault) → Answers (add_parts parts (part ∷ rest)) result → Answers (add_parts first all) result) → Answers (add_part parts part) (Ok next) → (result : Result (List RowPart) ScriptFault) → Answers (add_parts next rest) result → Answers (add_parts first all) result
 value_more first parts next all part rest i h result k = i result (answers_next (add_part parts part) (λ more. add_parts more rest) next result h k)
 
-pub fault_more : (first parts : Parts) (all : List PartWords) (part : PartWords) (rest : List PartWords) (fault : ScriptFault) → ((result : Result Parts ScriptFault) → Answers (add_parts parts (part ∷ rest)) result → Answers (add_parts first all) result) → Answers (add_part parts part) (Err fault) → Answers (add_parts first all) (Err fault)
+pub fault_more : (first parts : List RowPart) (all : List PartWords) (part : PartWords) (rest : List PartWords) (fault : ScriptFault) → ((result : Result (List RowPart) ScriptFault) → Answers (add_parts parts (part ∷ rest)) result → Answers (add_parts first all) result) → Answers (add_part parts part) (Err fault) → Answers (add_parts first all) (Err fault)
 fault_more first parts all part rest fault i h = i (Err fault) (answers_first (add_part parts part) (λ more. add_parts more rest) fault h)
 
-part_words : (words : List (List ℕ)) (part : PartWords) → Answers (first_part words) (Ok part) → (tail : List (List ℕ)) × (words ≡ written_part part ++ tail)
+part_behind : (words : List (List ℕ)) (part : PartWords) → Answers (first_part words) (Ok part) → (tail : List (List ℕ)) × (words ≡ written_part part ++ tail)
 unfolding Answers the_one
-part_words words part h = h
+part_behind words part h = h
 
 -- the words of the part that was found
 pub part_length : (words : List (List ℕ)) (part : PartWords) → Answers (first_part words) (Ok part) → length (written_part part) ≤ length words
-part_length words part h = let t : (tail : List (List ℕ)) × (words ≡ written_part part ++ tail) = part_words words part h in omega (arith, ap length t.1, length-append (written_part part) t.0)
+part_length words part h = let t : (tail : List (List ℕ)) × (words ≡ written_part part ++ tail) = part_behind words part h in omega (arith, ap length t.1, length-append (written_part part) t.0)
 
 pub part_some : (part : PartWords) → 0 < length (written_part part)
 part_some (Fuel a) = omega arith
 part_some (Module a n) = omega arith
 part_some (Beacon a n s) = omega arith
 part_some (In a n) = omega arith
+part_some (At a) = omega arith
 
 pub part_more : (words rest : List (List ℕ)) (parts new : List PartWords) (part : PartWords) (count : ℕ) → words ≡ written_parts parts ++ rest → Answers (first_part rest) (Ok part) → count ≡ length (written_part part) → new ≡ parts ++ part ∷ [] → words ≡ written_parts new ++ drop count rest
 part_more words rest parts new part count e h l n =
-    let t : (tail : List (List ℕ)) × (rest ≡ written_part part ++ tail) = part_words rest part h in
+    let t : (tail : List (List ℕ)) × (rest ≡ written_part part ++ tail) = part_behind rest part h in
     e ∙ (ap (λ r. written_parts parts ++ r) t.1 ∙ (sym (append_assoc (written_parts parts) (written_part part) t.0)
     ∙ (ap (λ w. w ++ t.0) (sym (ap written_parts n ∙ written-push parts part)) ∙ ap (λ r. written_parts new ++ r) (sym (ap (λ k. drop k rest) l ∙ (ap (drop (length (written_part part))) t.1 ∙ drop_front (written_part part) t.0))))))
   where
@@ -291,7 +298,7 @@ pub in_first : (by : List ℕ) (words : List (List ℕ)) (parts : List PartWords
 unfolding Answers the_one
 in_first by words parts h b = (refl, λ others p. let same : others ≡ parts = one_list others parts (sym p.1.written ∙ written_of words parts h) in let none : list_any is_in (before_first is_beacon parts) ≡ false = subst (λ l. list_any is_in (before_first is_beacon l) ≡ false) same p.1.beacon_first in cc)
 
-pub end_more : (parts : Parts) (words : List PartWords) (k : ℕ) → length words ≤ k → Answers (add_parts parts (drop k words)) (Ok parts)
+pub end_more : (parts : List RowPart) (words : List PartWords) (k : ℕ) → length words ≤ k → Answers (add_parts parts (drop k words)) (Ok parts)
 end_more parts words k h = subst (λ (l : List PartWords). Answers (add_parts parts l) (Ok parts)) (sym (drop_all k words h)) (answers_gives parts parts refl)
 
 pub fives : {A B C D E : Type 0} (a f : A) (b g : B) (c h : C) (d i : D) (e j : E) → a ≡ f → b ≡ g → c ≡ h → d ≡ i → e ≡ j → (let p : A × B × C × D × E = (a, b, c, d, e) in p) ≡ (let q : A × B × C × D × E = (f, g, h, i, j) in q)

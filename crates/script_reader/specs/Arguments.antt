@@ -5,8 +5,8 @@ use Rattle.fractions.specs.Fraction.{Fraction}
 use Rattle.fractions.specs.Reading.{ReadsRatio}
 use Rattle.plan_base.specs.declared.shape.Kind.{Kind}
 use Rattle.script_reader.specs.declared.change.Object.{Object}
-use Rattle.script_reader.specs.declared.change.Parts.{Parts}
-use Rattle.script_reader.specs.declared.change.BeaconWords.{BeaconWords}
+use Rattle.script_reader.specs.declared.change.RowPart.{RowPart}
+use Rattle.script_reader.specs.declared.change.RowPart.TheVariants as row
 use Rattle.script_reader.specs.declared.change.Change.{Change}
 use Rattle.script_reader.specs.declared.change.Change.TheVariants as change
 use Rattle.script_reader.specs.declared.command.Command.{Command}
@@ -14,14 +14,14 @@ use Rattle.script_reader.specs.declared.command.Command.TheVariants as command
 use Rattle.script_reader.specs.declared.command.ScriptFault.{ScriptFault}
 use Rattle.script_reader.specs.declared.command.ScriptFault.TheVariants.{UnknownCommand, WrongWords, BadNumber, BadObject}
 use Rattle.script_reader.specs.declared.command_words.CommandWord.{CommandWord}
-use Rattle.script_reader.specs.declared.command_words.CommandWord.TheVariants.{Reach, Why, Missing, Mask, List as ListWord, Milestones, Summary, Rate, Solve, Quiet, Undo, Redo, Batch, End, Cancel, Grant, Revoke, Forbid, Permit, Milestone, Unmilestone, Ingredient, Product, Unlock, Time, Enabled, Table, Untable, Row, Unrow, Price, Want, Import, Surplus}
+use Rattle.script_reader.specs.declared.command_words.CommandWord.TheVariants.{Reach, Why, Missing, Mask, List as ListWord, Milestones, Summary, Rate, Solve, Quiet, Undo, Redo, Batch, End, Cancel, Grant, Revoke, Forbid, Permit, Milestone, Unmilestone, Ingredient, Product, Unlock, Time, Enabled, Table, Untable, Row, Unrow, Price, Want, Import, Surplus, Power}
 use Rattle.script_reader.specs.declared.fields.Place.{Place}
-use Rattle.script_reader.specs.declared.fields.Place.TheVariants.{Node, Good, OneRecipe, OneTech, OneItem, OneMachine, Activity}
+use Rattle.script_reader.specs.declared.fields.Place.TheVariants.{Node, Good, OneRecipe, OneTech, OneItem, OneFluid, OneMachine, Activity, TableGood}
 use Rattle.script_reader.specs.Fields.{kind_word, IsObjectAt, WritesCount}
 use Rattle.script_reader.specs.Reading.{gives, refuses, the_one, and_then, no_word, one_word, two_words, three_words, five_words}
 use Rattle.script_reader.specs.Commands.{command_word}
 use Rattle.script_reader.specs.declared.parts.PartWords.{PartWords}
-use Rattle.script_reader.specs.declared.parts.PartWords.TheVariants.{Fuel, Module, Beacon, In}
+use Rattle.script_reader.specs.declared.parts.PartWords.TheVariants.{Fuel, Module, Beacon, In, At}
 use Rattle.script_reader.specs.PartWords.{ArePartsOf}
 
 -- ---- one word
@@ -90,47 +90,45 @@ abbrev pub price_words : List (List ℕ) → Result (List ℕ × List ℕ × Fra
 price_words = three_words (λ table label price. and_then (ratio price) (λ p. gives (table, label, p)))
 
 abbrev pub want_words : List (List ℕ) → Result (List ℕ × Object × Fraction) ScriptFault → Type 0
-want_words = three_words (λ table good amount. and_then (object Good good) (λ g. and_then (ratio amount) (λ a. gives (table, g, a))))
+want_words = three_words (λ table good amount. and_then (object TableGood good) (λ g. and_then (ratio amount) (λ a. gives (table, g, a))))
 
 abbrev pub price_of_good_words : List (List ℕ) → Result (List ℕ × Object × Option Fraction) ScriptFault → Type 0
-price_of_good_words = three_words (λ table good price. and_then (object Good good) (λ g. and_then (ratio_or (codes "off") price) (λ p. gives (table, g, p))))
+price_of_good_words = three_words (λ table good price. and_then (object TableGood good) (λ g. and_then (ratio_or (codes "off") price) (λ p. gives (table, g, p))))
+
+abbrev pub power_words : List (List ℕ) → Result (List ℕ × Bool) ScriptFault → Type 0
+power_words = two_words (λ table on. and_then (switch on) (λ s. gives (table, s)))
 
 -- ---- the parts of a row
--- a module of the last beacon
-abbrev pub in_last : List BeaconWords → Object × ℕ → List BeaconWords
-in_last [] modules = []
-in_last (beacon ∷ []) modules = record { machine = beacon.machine; count = beacon.count; share = beacon.share; modules = beacon.modules ++ modules ∷ [] } ∷ []
-in_last (beacon ∷ next ∷ beacons) modules = beacon ∷ in_last (next ∷ beacons) modules
+abbrev pub count_words : (Object → ℕ → RowPart) → List ℕ → List ℕ → Result RowPart ScriptFault → Type 0
+count_words make item number = and_then (object OneItem item) (λ o. and_then (count 0 65535 number) (λ n. gives (make o n)))
 
-abbrev pub module_words : List ℕ → List ℕ → Result (Object × ℕ) ScriptFault → Type 0
-module_words item number = and_then (object OneItem item) (λ o. and_then (count 0 65535 number) (λ n. gives (o, n)))
-
-abbrev pub beacon_words : List ℕ → List ℕ → List ℕ → Result BeaconWords ScriptFault → Type 0
+abbrev pub beacon_words : List ℕ → List ℕ → List ℕ → Result RowPart ScriptFault → Type 0
 beacon_words machine number share =
-    and_then (object OneMachine machine) (λ o. and_then (count 0 65535 number) (λ n. and_then (count 0 65535 share) (λ s. gives (record { machine = o; count = n; share = s; modules = [] }))))
+    and_then (object OneMachine machine) (λ o. and_then (count 0 65535 number) (λ n. and_then (count 0 65535 share) (λ s. gives (row.Beacon o n s))))
+
+abbrev pub part_words : PartWords → Result RowPart ScriptFault → Type 0
+part_words (Fuel item) = and_then (object OneItem item) (λ o. gives (row.Fuel o))
+part_words (Module item number) = count_words row.Module item number
+part_words (Beacon machine number share) = beacon_words machine number share
+part_words (In item number) = count_words row.In item number
+part_words (At fluid) = and_then (object OneFluid fluid) (λ o. gives (row.At o))
 
 -- one part more
-abbrev pub add_part : Parts → PartWords → Result Parts ScriptFault → Type 0
-add_part parts (Fuel item) = and_then (object OneItem item) (λ o. gives (record { fuel = Some o; modules = parts.modules; beacons = parts.beacons }))
-add_part parts (Module item number) = and_then (module_words item number) (λ m. gives (record { fuel = parts.fuel; modules = parts.modules ++ m ∷ []; beacons = parts.beacons }))
-add_part parts (Beacon machine number share) = and_then (beacon_words machine number share) (λ b. gives (record { fuel = parts.fuel; modules = parts.modules; beacons = parts.beacons ++ b ∷ [] }))
-add_part parts (In item number) = and_then (module_words item number) (λ m. gives (record { fuel = parts.fuel; modules = parts.modules; beacons = in_last parts.beacons m }))
+abbrev pub add_part : List RowPart → PartWords → Result (List RowPart) ScriptFault → Type 0
+add_part parts words = and_then (part_words words) (λ part. gives (parts ++ part ∷ []))
 
 -- one part after another
-abbrev pub add_parts : Parts → List PartWords → Result Parts ScriptFault → Type 0
+abbrev pub add_parts : List RowPart → List PartWords → Result (List RowPart) ScriptFault → Type 0
 add_parts parts [] = gives parts
 add_parts parts (part ∷ rest) = and_then (add_part parts part) (λ more. add_parts more rest)
-
-abbrev pub no_parts : Parts
-no_parts = record { fuel = None; modules = []; beacons = [] }
 
 -- the parts behind `by` and a machine
 abbrev pub parts_behind : List ℕ → List (List ℕ) → Result (List PartWords) ScriptFault → Type 0
 parts_behind by words = the_one (λ parts. (by ≡ codes "by") × ArePartsOf words parts) WrongWords
 
-abbrev pub row_words : List (List ℕ) → Result (List ℕ × List ℕ × Object × Object × Parts) ScriptFault → Type 0
+abbrev pub row_words : List (List ℕ) → Result (List ℕ × List ℕ × Object × Object × List RowPart) ScriptFault → Type 0
 row_words = five_words (λ table label activity by machine rest.
-    and_then (parts_behind by rest) (λ parts. and_then (object Activity activity) (λ a. and_then (object OneMachine machine) (λ m. and_then (add_parts no_parts parts) (λ p. gives (table, label, a, m, p))))))
+    and_then (parts_behind by rest) (λ parts. and_then (object Activity activity) (λ a. and_then (object OneMachine machine) (λ m. and_then (add_parts [] parts) (λ p. gives (table, label, a, m, p))))))
 
 -- ---- the commands
 abbrev pub edit : {A : Type 0} → (Result A ScriptFault → Type 0) → (A → Change) → Result Command ScriptFault → Type 0
@@ -175,6 +173,7 @@ arguments Price words = edit (price_words words) (λ p. change.Price p.0 p.1 p.2
 arguments Want words = edit (want_words words) (λ w. change.Want w.0 w.1 w.2)
 arguments Import words = edit (price_of_good_words words) (λ p. change.Import p.0 p.1 p.2)
 arguments Surplus words = edit (price_of_good_words words) (λ p. change.Surplus p.0 p.1 p.2)
+arguments Power words = edit (power_words words) (λ p. change.Power p.0 p.1)
 
 abbrev pub named : Option CommandWord → List (List ℕ) → Result Command ScriptFault → Type 0
 named (Some word) words = arguments word words

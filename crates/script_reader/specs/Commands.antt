@@ -2,7 +2,7 @@
 use Rattle.std.specs.Prelude.{ℕ, List, codes, Option, Some, None, if◌then◌else◌}
 use Rattle.std.specs.Str.{bytes_eq}
 use Rattle.script_reader.specs.declared.command_words.CommandWord.{CommandWord}
-use Rattle.script_reader.specs.declared.command_words.CommandWord.TheVariants.{Reach, Why, Missing, Mask, List as ListWord, Milestones, Summary, Rate, Solve, Quiet, Undo, Redo, Batch, End, Cancel, Grant, Revoke, Forbid, Permit, Milestone, Unmilestone, Ingredient, Product, Unlock, Time, Enabled, Table, Untable, Row, Unrow, Price, Want, Import, Surplus}
+use Rattle.script_reader.specs.declared.command_words.CommandWord.TheVariants.{Reach, Why, Missing, Mask, List as ListWord, Milestones, Summary, Rate, Solve, Quiet, Undo, Redo, Batch, End, Cancel, Grant, Revoke, Forbid, Permit, Milestone, Unmilestone, Ingredient, Product, Unlock, Time, Enabled, Table, Untable, Row, Unrow, Price, Want, Import, Surplus, Power}
 
 -- the command that a word names
 abbrev pub command_word : List ℕ → Option CommandWord
@@ -41,4 +41,5 @@ command_word word =
     if bytes_eq word (codes "want") then Some Want else
     if bytes_eq word (codes "import") then Some Import else
     if bytes_eq word (codes "surplus") then Some Surplus else
+    if bytes_eq word (codes "power") then Some Power else
     None

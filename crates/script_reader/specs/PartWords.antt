@@ -5,7 +5,7 @@ use Rattle.script_reader.specs.declared.command.ScriptFault.{ScriptFault}
 use Rattle.script_reader.specs.declared.command.ScriptFault.TheVariants.{WrongWords}
 use Rattle.script_reader.specs.Reading.{the_one}
 use Rattle.script_reader.specs.declared.parts.PartWords.{PartWords}
-use Rattle.script_reader.specs.declared.parts.PartWords.TheVariants.{Fuel, Module, Beacon, In}
+use Rattle.script_reader.specs.declared.parts.PartWords.TheVariants.{Fuel, Module, Beacon, In, At}
 
 -- a part
 abbrev pub written_part : PartWords → List (List ℕ)
@@ -13,6 +13,7 @@ written_part (Fuel item) = codes "fuel" ∷ item ∷ []
 written_part (Module item number) = codes "module" ∷ item ∷ number ∷ []
 written_part (Beacon machine number share) = codes "beacon" ∷ machine ∷ number ∷ share ∷ []
 written_part (In item number) = codes "in" ∷ item ∷ number ∷ []
+written_part (At fluid) = codes "at" ∷ fluid ∷ []
 
 -- parts, one behind another
 abbrev pub written_parts : List PartWords → List (List ℕ)

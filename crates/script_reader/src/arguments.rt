@@ -1,7 +1,7 @@
 //! The words behind a command word.
 ghost use Rattle.std.specs.Prelude.{◌≡◌, ◌≢◌, ◌∷◌, [], length, codes, MatchOption};
 ghost use Rattle.script_reader.specs.Reading.{Answers};
-ghost use Rattle.script_reader.specs.Arguments.{count, object, enabled_words, good_of_recipe_words, kind, kind_words, label_words, no_words, node_words, price_of_good_words, price_words, ratio, ratio_or, solve_words, switch, switch_words, text_words, time_words, unlock_words, want_words};
+ghost use Rattle.script_reader.specs.Arguments.{count, object, enabled_words, power_words, good_of_recipe_words, kind, kind_words, label_words, no_words, node_words, price_of_good_words, price_words, ratio, ratio_or, solve_words, switch, switch_words, text_words, time_words, unlock_words, want_words};
 
 use crate::change::copy_text;
 use crate::fields::{Place, count_at, kind_of, object_at};
@@ -322,13 +322,30 @@ pub fn price(alloc: Global, words: &[Text]) -> Result<(Text, Text, Ratio), Scrip
 }
 
 #[tactic(auto, using(crate::proofs::Readings::readings))]
+pub fn power(alloc: Global, words: &[Text]) -> Result<(Text, bool), ScriptFault>
+    ensures { Answers (power_words words.now) result }
+{
+    let Some((table, on)) = two(words) else {
+        return Err(ScriptFault::WrongWords);
+    };
+    let on = match switch_at(on) {
+        Ok(value) => value,
+        Err(fault) => return Err(fault),
+    };
+    let Ok(table) = copy_text(alloc, table) else {
+        return Err(ScriptFault::NoMemory);
+    };
+    Ok((table, on))
+}
+
+#[tactic(auto, using(crate::proofs::Readings::readings))]
 pub fn want(alloc: Global, words: &[Text]) -> Result<(Text, Object, Ratio), ScriptFault>
     ensures { Answers (want_words words.now) result }
 {
     let Some((table, good, amount)) = three(words) else {
         return Err(ScriptFault::WrongWords);
     };
-    let good = match object_word(alloc, good, Place::Good) {
+    let good = match object_word(alloc, good, Place::TableGood) {
         Ok(value) => value,
         Err(fault) => return Err(fault),
     };
@@ -352,7 +369,7 @@ pub fn price_of_good(
     let Some((table, good, price)) = three(words) else {
         return Err(ScriptFault::WrongWords);
     };
-    let good = match object_word(alloc, good, Place::Good) {
+    let good = match object_word(alloc, good, Place::TableGood) {
         Ok(value) => value,
         Err(fault) => return Err(fault),
     };

@@ -12,21 +12,23 @@ pub struct Object {
     pub name: Text,
 }
 
-/// A beacon of a row: its machine, how many there are, how many rows share them, and the modules of each.
+/// One thing that a row names besides its activity and its machine.
 #[derive(Drop)]
-pub struct BeaconWords {
-    pub machine: Object,
-    pub count: u32,
-    pub share: u32,
-    pub modules: Items<(Object, u32)>,
-}
-
-/// What a row names besides its activity and its machine.
-#[derive(Drop)]
-pub struct Parts {
-    pub fuel: Option<Object>,
-    pub modules: Items<(Object, u32)>,
-    pub beacons: Items<BeaconWords>,
+pub enum RowPart {
+    /// What the machine burns.
+    Fuel(Object),
+    /// A module in the machine, so many times.
+    Module(Object, u32),
+    /// A beacon, how many of them reach the machine, and how many machines share each.
+    Beacon {
+        machine: Object,
+        count: u32,
+        share: u32,
+    },
+    /// A module in each of the beacons that were named last, so many times.
+    In(Object, u32),
+    /// A fluid that is taken before others where several fit.
+    At(Object),
 }
 
 /// One edit. The fields of a variant are the words of its line in order; `drop` and the price `off` are `None`.
@@ -68,7 +70,7 @@ pub enum Change {
         label: Text,
         activity: Object,
         machine: Object,
-        parts: Parts,
+        parts: Items<RowPart>,
     },
     Unrow {
         table: Text,
@@ -93,6 +95,10 @@ pub enum Change {
         table: Text,
         good: Object,
         price: Option<Ratio>,
+    },
+    Power {
+        table: Text,
+        on: bool,
     },
 }
 
@@ -120,78 +126,57 @@ impl Object {
     }
 }
 
-fn copy_counts(alloc: Global, counts: &[(Object, u32)]) -> Result<Items<(Object, u32)>, NoMemory>
-    ensures { IfOk result (λ copy. copy ≡ counts.now) }
-{
-    let mut copy = Vec::new(alloc);
-    for count in counts {
-        let object = count.0.copy(alloc)?;
-        copy.push((object, count.1))?;
-    }
-    Ok(Items::from_vec(copy))
-}
-
-fn copy_fuel(alloc: Global, fuel: &Option<Object>) -> Result<Option<Object>, NoMemory>
-    ensures { IfOk result (λ copy. copy ≡ fuel.now) }
-{
-    match fuel {
-        Some(object) => {
-            let copy = object.copy(alloc)?;
-            Ok(Some(copy))
+impl RowPart {
+    /// An equal part of its own.
+    ///
+    /// # Errors
+    ///
+    /// `NoMemory` where memory could not be had.
+    pub fn copy(&self, alloc: Global) -> Result<RowPart, NoMemory>
+        ensures { IfOk result (λ copy. copy ≡ self.now) }
+    {
+        match self {
+            RowPart::Fuel(item) => {
+                let item = item.copy(alloc)?;
+                Ok(RowPart::Fuel(item))
+            }
+            RowPart::Module(item, count) => {
+                let item = item.copy(alloc)?;
+                Ok(RowPart::Module(item, *count))
+            }
+            RowPart::Beacon {
+                machine,
+                count,
+                share,
+            } => {
+                let machine = machine.copy(alloc)?;
+                Ok(RowPart::Beacon {
+                    machine,
+                    count: *count,
+                    share: *share,
+                })
+            }
+            RowPart::In(item, count) => {
+                let item = item.copy(alloc)?;
+                Ok(RowPart::In(item, *count))
+            }
+            RowPart::At(fluid) => {
+                let fluid = fluid.copy(alloc)?;
+                Ok(RowPart::At(fluid))
+            }
         }
-        None => Ok(None),
     }
 }
 
-impl BeaconWords {
-    /// Equal words of their own.
-    ///
-    /// # Errors
-    ///
-    /// `NoMemory` where memory could not be had.
-    pub fn copy(&self, alloc: Global) -> Result<BeaconWords, NoMemory>
-        ensures { IfOk result (λ copy. copy ≡ self.now) }
-    {
-        let machine = self.machine.copy(alloc)?;
-        let modules = copy_counts(alloc, self.modules.as_slice())?;
-        Ok(BeaconWords {
-            machine,
-            count: self.count,
-            share: self.share,
-            modules,
-        })
-    }
-}
-
-fn copy_beacons(alloc: Global, beacons: &[BeaconWords]) -> Result<Items<BeaconWords>, NoMemory>
-    ensures { IfOk result (λ copy. copy ≡ beacons.now) }
+fn copy_parts(alloc: Global, parts: &[RowPart]) -> Result<Items<RowPart>, NoMemory>
+    ensures { IfOk result (λ copy. copy ≡ parts.now) }
 {
     let mut copy = Vec::new(alloc);
-    for beacon in beacons {
-        let words = beacon.copy(alloc)?;
-        copy.push(words)?;
+    for part in parts {
+        let one = part.copy(alloc)?;
+        copy.push(one)?;
     }
     Ok(Items::from_vec(copy))
-}
-
-impl Parts {
-    /// Equal parts of their own.
-    ///
-    /// # Errors
-    ///
-    /// `NoMemory` where memory could not be had.
-    pub fn copy(&self, alloc: Global) -> Result<Parts, NoMemory>
-        ensures { IfOk result (λ copy. copy ≡ self.now) }
-    {
-        let fuel = copy_fuel(alloc, &self.fuel)?;
-        let modules = copy_counts(alloc, self.modules.as_slice())?;
-        let beacons = copy_beacons(alloc, self.beacons.as_slice())?;
-        Ok(Parts {
-            fuel,
-            modules,
-            beacons,
-        })
-    }
 }
 
 fn copy_ratio(ratio: &Option<Ratio>) -> Option<Ratio>
@@ -302,7 +287,7 @@ impl Change {
                 let label = copy_text(alloc, label)?;
                 let activity = activity.copy(alloc)?;
                 let machine = machine.copy(alloc)?;
-                let parts = parts.copy(alloc)?;
+                let parts = copy_parts(alloc, parts.as_slice())?;
                 Ok(Change::Row {
                     table,
                     label,
@@ -359,6 +344,10 @@ impl Change {
                     good,
                     price: copy_ratio(price),
                 })
+            }
+            Change::Power { table, on } => {
+                let table = copy_text(alloc, table)?;
+                Ok(Change::Power { table, on: *on })
             }
         }
     }

@@ -39,6 +39,7 @@ pub enum CommandWord {
     Want,
     Import,
     Surplus,
+    Power,
 }
 
 /// The command that a word names.
@@ -80,6 +81,7 @@ pub fn command_of(word: &str) -> Option<CommandWord>
         "want" => Some(CommandWord::Want),
         "import" => Some(CommandWord::Import),
         "surplus" => Some(CommandWord::Surplus),
+        "power" => Some(CommandWord::Power),
         _ => None,
     }
 }

@@ -4,8 +4,8 @@ ghost use Rattle.script_reader.specs.Reading.{Answers, and_then, gives};
 ghost use Rattle.script_reader.specs.Arguments.{arguments, command_of_words, no_words};
 
 use crate::arguments::{
-    enabled, good_of_recipe, kind, label, node, nothing_at, price, price_of_good, solve, switch,
-    text, time, unlock, want,
+    enabled, good_of_recipe, kind, label, node, nothing_at, power, price, price_of_good, solve,
+    switch, text, time, unlock, want,
 };
 use crate::command_words::{CommandWord, command_of};
 use crate::parts::row_of;
@@ -90,6 +90,15 @@ fn enabling(alloc: Global, words: &[Text]) -> Result<Command, ScriptFault>
 {
     match enabled(alloc, words) {
         Ok((recipe, on)) => Ok(Command::Change(Change::Enabled { recipe, on })),
+        Err(fault) => Err(fault),
+    }
+}
+
+fn powering(alloc: Global, words: &[Text]) -> Result<Command, ScriptFault>
+    ensures { Answers (arguments CommandWord.Power words.now) result }
+{
+    match power(alloc, words) {
+        Ok((table, on)) => Ok(Command::Change(Change::Power { table, on })),
         Err(fault) => Err(fault),
     }
 }
@@ -205,6 +214,7 @@ fn arguments_of(alloc: Global, command: CommandWord, words: &[Text]) -> Result<C
         CommandWord::Want => wanting(alloc, words),
         CommandWord::Import => import(alloc, words),
         CommandWord::Surplus => surplus(alloc, words),
+        CommandWord::Power => powering(alloc, words),
     }
 }
 

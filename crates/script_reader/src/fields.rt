@@ -4,7 +4,7 @@ ghost use Rattle.std.specs.List.{position_or_len, before_first, after_first};
 ghost use Rattle.std.specs.Str.Parse.{AllDigits, digits_value};
 ghost use Rattle.fractions.specs.Numeral.{IsWholePart};
 ghost use Rattle.plan_base.specs.declared.shape.Kind.{Kind};
-ghost use Rattle.script_reader.specs.Fields.{kind_word, IsName, WritesObject, IsObjectAt, WritesCount, takes};
+ghost use Rattle.script_reader.specs.Fields.{kind_word, IsName, WritesObject, IsObjectAt, WritesCount, is_electricity, takes};
 ghost use Rattle.script_reader.specs.Reading.{Answers};
 ghost use Rattle.script_reader.specs.Arguments.{object};
 
@@ -21,14 +21,23 @@ pub enum Place {
     OneRecipe,
     OneTech,
     OneItem,
+    OneFluid,
     OneMachine,
     Activity,
+    TableGood,
+}
+
+// Whether the name is that of the special node of electricity.
+fn is_electricity(name: &str) -> bool
+    ensures { result ≡ is_electricity name.now }
+{
+    name == "electricity"
 }
 
 impl Place {
-    // Whether objects of a kind may stand there.
-    fn takes(self, kind: Kind) -> bool
-        ensures { result ≡ takes self kind }
+    // Whether objects of a kind with a name may stand there.
+    fn takes(self, kind: Kind, name: &str) -> bool
+        ensures { result ≡ takes self kind name.now }
     {
         match self {
             Place::Node => true,
@@ -49,6 +58,10 @@ impl Place {
                 Kind::Item => true,
                 _ => false,
             },
+            Place::OneFluid => match kind {
+                Kind::Fluid => true,
+                _ => false,
+            },
             Place::OneMachine => match kind {
                 Kind::Machine => true,
                 _ => false,
@@ -57,6 +70,15 @@ impl Place {
                 Kind::Recipe => true,
                 Kind::Source => true,
                 Kind::Fluid => true,
+                Kind::Tech => true,
+                Kind::Special => is_electricity(name),
+                _ => false,
+            },
+            Place::TableGood => match kind {
+                Kind::Item => true,
+                Kind::Fluid => true,
+                Kind::Tech => true,
+                Kind::Special => is_electricity(name),
                 _ => false,
             },
         }
@@ -128,7 +150,7 @@ pub fn object_at(alloc: Global, word: &str, place: Place) -> Result<Object, Scri
     let Some((kind, name)) = object_parts(word) else {
         return Err(ScriptFault::BadObject);
     };
-    if !place.takes(kind) {
+    if !place.takes(kind, name) {
         return Err(ScriptFault::BadObject);
     }
     match Text::copy(alloc, name) {
@@ -166,7 +188,7 @@ pub fn count_at(word: &str, least: u32, most: u32) -> Option<u32>
 #[cfg(test)]
 mod tests {
     use super::*;
-    use crate::{BeaconWords, Change, Parts};
+    use crate::{Change, RowPart};
     use plan_base::{Items, NoMemory};
     use std::test::Fail;
 
@@ -237,25 +259,20 @@ x -";
 
     #[test]
     fn rows_are_copied(rt: HostRuntime) -> Result<(), Fail> {
-        let mut modules = Vec::new(rt.alloc());
-        modules.push((item(&rt, "speed")?, 2))?;
-        let mut beacons = Vec::new(rt.alloc());
-        beacons.push(BeaconWords {
+        let mut parts = Vec::new(rt.alloc());
+        parts.push(RowPart::Fuel(item(&rt, "coal")?))?;
+        parts.push(RowPart::Beacon {
             machine: item(&rt, "beacon")?,
             count: 4,
             share: 2,
-            modules: Items::from_vec(modules),
         })?;
+        parts.push(RowPart::In(item(&rt, "speed")?, 2))?;
         let change = Change::Row {
             table: Text::copy(rt.alloc(), "t")?,
             label: Text::copy(rt.alloc(), "l")?,
             activity: item(&rt, "a")?,
             machine: item(&rt, "m")?,
-            parts: Parts {
-                fuel: Some(item(&rt, "coal")?),
-                modules: Items::from_vec(Vec::new(rt.alloc())),
-                beacons: Items::from_vec(beacons),
-            },
+            parts: Items::from_vec(parts),
         };
         match change.copy(rt.alloc()) {
             Ok(
@@ -271,8 +288,7 @@ x -";
                 assert_eq!(rt; label.as_str(), "l");
                 assert_eq!(rt; activity.name.as_str(), "a");
                 assert_eq!(rt; machine.name.as_str(), "m");
-                assert!(rt; parts.fuel.is_some());
-                assert!(rt; parts.beacons.len() == 1);
+                assert!(rt; parts.len() == 3);
             }
             _ => panic!(rt; "no copy"),
         }

@@ -14,7 +14,7 @@ mod split;
 mod tests;
 pub mod words;
 
-pub use change::{BeaconWords, Change, Object, Parts};
+pub use change::{Change, Object, RowPart};
 pub use command::{Command, ScriptFault};
 pub use command_words::{CommandWord, command_of};
 pub use commands::read_words;

@@ -1,14 +1,14 @@
 //! The parts of a row.
-ghost use Rattle.std.specs.Prelude.{◌≡◌, ◌<◌, ◌∷◌, ◌++◌, [], length, count_by, drop, nat_le, MatchOption, IfOk};
+ghost use Rattle.std.specs.Prelude.{◌≡◌, ◌<◌, ◌∷◌, [], length, count_by, drop, nat_le, MatchOption, IfErr, IfOk, OnOk, Ok, Err};
 ghost use Rattle.std.specs.List.{before_first, list_any};
 ghost use Rattle.script_reader.specs.Reading.{Answers};
 ghost use Rattle.script_reader.specs.PartWords.{all_parts, first_part, is_beacon, is_fuel, is_in, written_part};
-ghost use Rattle.script_reader.specs.Arguments.{add_part, add_parts, beacon_words, in_last, module_words, no_parts, parts_behind, row_words};
+ghost use Rattle.script_reader.specs.Arguments.{add_part, add_parts, beacon_words, part_words, parts_behind, row_words};
 
 use crate::arguments::{number_at, object_word};
 use crate::change::copy_text;
 use crate::fields::Place;
-use crate::{BeaconWords, Object, Parts, ScriptFault};
+use crate::{Object, RowPart, ScriptFault};
 use plan_base::{Items, NoMemory, Text};
 use std::alloc::Global;
 
@@ -19,6 +19,7 @@ pub enum PartWords {
     Module(Text, Text),
     Beacon(Text, Text, Text),
     In(Text, Text),
+    At(Text),
 }
 
 impl PartWords {
@@ -31,6 +32,7 @@ impl PartWords {
             PartWords::Module(_, _) => 3,
             PartWords::Beacon(_, _, _) => 4,
             PartWords::In(_, _) => 3,
+            PartWords::At(_) => 2,
         }
     }
 
@@ -129,6 +131,15 @@ fn first_part_of(alloc: Global, words: &[Text]) -> Result<PartWords, ScriptFault
                 Err(_) => Err(ScriptFault::NoMemory),
             }
         }
+        "at" => {
+            let Some(fluid) = front_one(rest) else {
+                return Err(ScriptFault::WrongWords);
+            };
+            match copy_text(alloc, fluid) {
+                Ok(fluid) => Ok(PartWords::At(fluid)),
+                Err(_) => Err(ScriptFault::NoMemory),
+            }
+        }
         "module" => {
             let Some((item, number)) = front_two(rest) else {
                 return Err(ScriptFault::WrongWords);
@@ -205,10 +216,19 @@ fn parts_after(alloc: Global, by: &Text, words: &[Text]) -> Result<Items<PartWor
     }
 }
 
-fn module_of(alloc: Global, item: &Text, number: &Text) -> Result<(Object, u32), ScriptFault>
-    ensures { Answers (module_words item.now number.now) result }
+fn fuel_of(alloc: Global, item: &Text) -> Result<RowPart, ScriptFault>
+    ensures { Answers (part_words (PartWords.Fuel item.now)) result }
 {
-    let object = match object_word(alloc, item, Place::OneItem) {
+    match object_word(alloc, item, Place::OneItem) {
+        Ok(item) => Ok(RowPart::Fuel(item)),
+        Err(fault) => Err(fault),
+    }
+}
+
+fn module_of(alloc: Global, item: &Text, number: &Text) -> Result<RowPart, ScriptFault>
+    ensures { Answers (part_words (PartWords.Module item.now number.now)) result }
+{
+    let item = match object_word(alloc, item, Place::OneItem) {
         Ok(value) => value,
         Err(fault) => return Err(fault),
     };
@@ -216,7 +236,21 @@ fn module_of(alloc: Global, item: &Text, number: &Text) -> Result<(Object, u32),
         Ok(value) => value,
         Err(fault) => return Err(fault),
     };
-    Ok((object, count))
+    Ok(RowPart::Module(item, count))
+}
+
+fn in_of(alloc: Global, item: &Text, number: &Text) -> Result<RowPart, ScriptFault>
+    ensures { Answers (part_words (PartWords.In item.now number.now)) result }
+{
+    let item = match object_word(alloc, item, Place::OneItem) {
+        Ok(value) => value,
+        Err(fault) => return Err(fault),
+    };
+    let count = match number_at(number) {
+        Ok(value) => value,
+        Err(fault) => return Err(fault),
+    };
+    Ok(RowPart::In(item, count))
 }
 
 fn beacon_of(
@@ -224,7 +258,7 @@ fn beacon_of(
     machine: &Text,
     number: &Text,
     share: &Text,
-) -> Result<BeaconWords, ScriptFault>
+) -> Result<RowPart, ScriptFault>
     ensures { Answers (beacon_words machine.now number.now share.now) result }
 {
     let machine = match object_word(alloc, machine, Place::OneMachine) {
@@ -239,144 +273,61 @@ fn beacon_of(
         Ok(value) => value,
         Err(fault) => return Err(fault),
     };
-    Ok(BeaconWords {
+    Ok(RowPart::Beacon {
         machine,
         count,
         share,
-        modules: Items::from_vec(Vec::new(alloc)),
     })
 }
 
-// One item more at the end.
-fn pushed<T: Drop>(items: Items<T>, item: T) -> Result<Items<T>, NoMemory>
-    ensures { IfOk result (λ new. new ≡ items ++ item ∷ []) }
+fn at_of(alloc: Global, fluid: &Text) -> Result<RowPart, ScriptFault>
+    ensures { Answers (part_words (PartWords.At fluid.now)) result }
 {
-    let mut list = items.into_vec();
-    list.push(item)?;
-    Ok(Items::from_vec(list))
-}
-
-// One module more of the last beacon.
-fn pushed_in_last(
-    beacons: Items<BeaconWords>,
-    added: (Object, u32),
-) -> Result<Items<BeaconWords>, NoMemory>
-    ensures { IfOk result (λ new. new ≡ in_last beacons added) }
-{
-    let mut list = beacons.into_vec();
-    let Some(last) = list.pop() else {
-        return Ok(Items::from_vec(list));
-    };
-    let modules = pushed(last.modules, added)?;
-    list.push(BeaconWords {
-        machine: last.machine,
-        count: last.count,
-        share: last.share,
-        modules,
-    })?;
-    Ok(Items::from_vec(list))
-}
-
-fn add_fuel(alloc: Global, parts: Parts, item: &Text) -> Result<Parts, ScriptFault>
-    ensures { Answers (add_part parts (PartWords.Fuel item.now)) result }
-{
-    match object_word(alloc, item, Place::OneItem) {
-        Ok(fuel) => Ok(Parts {
-            fuel: Some(fuel),
-            modules: parts.modules,
-            beacons: parts.beacons,
-        }),
+    match object_word(alloc, fluid, Place::OneFluid) {
+        Ok(fluid) => Ok(RowPart::At(fluid)),
         Err(fault) => Err(fault),
     }
 }
 
-fn add_module(alloc: Global, parts: Parts, item: &Text, number: &Text) -> Result<Parts, ScriptFault>
-    ensures { Answers (add_part parts (PartWords.Module item.now number.now)) result }
+fn part_of(alloc: Global, part: &PartWords) -> Result<RowPart, ScriptFault>
+    ensures { Answers (part_words part.now) result }
 {
-    let added = match module_of(alloc, item, number) {
-        Ok(value) => value,
-        Err(fault) => return Err(fault),
-    };
-    match pushed(parts.modules, added) {
-        Ok(modules) => Ok(Parts {
-            fuel: parts.fuel,
-            modules,
-            beacons: parts.beacons,
-        }),
-        Err(_) => Err(ScriptFault::NoMemory),
-    }
-}
-
-fn add_beacon(
-    alloc: Global,
-    parts: Parts,
-    machine: &Text,
-    number: &Text,
-    share: &Text,
-) -> Result<Parts, ScriptFault>
-    ensures { Answers (add_part parts (PartWords.Beacon machine.now number.now share.now)) result }
-{
-    let added = match beacon_of(alloc, machine, number, share) {
-        Ok(value) => value,
-        Err(fault) => return Err(fault),
-    };
-    match pushed(parts.beacons, added) {
-        Ok(beacons) => Ok(Parts {
-            fuel: parts.fuel,
-            modules: parts.modules,
-            beacons,
-        }),
-        Err(_) => Err(ScriptFault::NoMemory),
-    }
-}
-
-fn add_in(alloc: Global, parts: Parts, item: &Text, number: &Text) -> Result<Parts, ScriptFault>
-    ensures { Answers (add_part parts (PartWords.In item.now number.now)) result }
-{
-    let added = match module_of(alloc, item, number) {
-        Ok(value) => value,
-        Err(fault) => return Err(fault),
-    };
-    match pushed_in_last(parts.beacons, added) {
-        Ok(beacons) => Ok(Parts {
-            fuel: parts.fuel,
-            modules: parts.modules,
-            beacons,
-        }),
-        Err(_) => Err(ScriptFault::NoMemory),
+    match part {
+        PartWords::Fuel(item) => fuel_of(alloc, item),
+        PartWords::Module(item, number) => module_of(alloc, item, number),
+        PartWords::Beacon(machine, number, share) => beacon_of(alloc, machine, number, share),
+        PartWords::In(item, number) => in_of(alloc, item, number),
+        PartWords::At(fluid) => at_of(alloc, fluid),
     }
 }
 
 // One part more.
-fn add_one(alloc: Global, parts: Parts, part: &PartWords) -> Result<Parts, ScriptFault>
-    ensures { Answers (add_part parts part.now) result }
+fn add_one(alloc: Global, parts: &mut Vec<RowPart>, words: &PartWords) -> Result<(), ScriptFault>
+    ensures ok { OnOk result (Answers (add_part parts.old.items words.now) (Ok parts.new.items)) }
+    ensures fault { IfErr result (λ fault. Answers (add_part parts.old.items words.now) (Err fault)) }
 {
-    match part {
-        PartWords::Fuel(item) => add_fuel(alloc, parts, item),
-        PartWords::Module(item, number) => add_module(alloc, parts, item, number),
-        PartWords::Beacon(machine, number, share) => {
-            add_beacon(alloc, parts, machine, number, share)
-        }
-        PartWords::In(item, number) => add_in(alloc, parts, item, number),
-    }
+    let part = match part_of(alloc, words) {
+        Ok(value) => value,
+        Err(fault) => return Err(fault),
+    };
+    let Ok(()) = parts.push(part) else {
+        return Err(ScriptFault::NoMemory);
+    };
+    Ok(())
 }
 
 // One part after another.
-fn read_parts(alloc: Global, words: &[PartWords]) -> Result<Parts, ScriptFault>
-    ensures { Answers (add_parts no_parts words.now) result }
+fn read_parts(alloc: Global, words: &[PartWords]) -> Result<Items<RowPart>, ScriptFault>
+    ensures { Answers (add_parts [] words.now) result }
 {
-    let mut parts = Parts {
-        fuel: None,
-        modules: Items::from_vec(Vec::new(alloc)),
-        beacons: Items::from_vec(Vec::new(alloc)),
-    };
+    let mut parts = Vec::new(alloc);
     for part in words {
-        parts = match add_one(alloc, parts, part) {
-            Ok(parts) => parts,
+        match add_one(alloc, &mut parts, part) {
+            Ok(()) => {}
             Err(fault) => return Err(fault),
-        };
+        }
     }
-    Ok(parts)
+    Ok(Items::from_vec(parts))
 }
 
 fn five(words: &[Text]) -> Option<(&Text, &Text, &Text, &Text, &Text, &[Text])>
@@ -392,7 +343,7 @@ fn five(words: &[Text]) -> Option<(&Text, &Text, &Text, &Text, &Text, &[Text])>
 pub fn row_of(
     alloc: Global,
     words: &[Text],
-) -> Result<(Text, Text, Object, Object, Parts), ScriptFault>
+) -> Result<(Text, Text, Object, Object, Items<RowPart>), ScriptFault>
     ensures { Answers (row_words words.now) result }
 {
     let Some((table, label, activity, by, machine, rest)) = five(words) else {

@@ -1,4 +1,4 @@
-use crate::{BeaconWords, Change, Command, Object, Parts, ScriptFault, read_line};
+use crate::{Change, Command, Object, RowPart, ScriptFault, read_line};
 use fractions::Ratio;
 use plan_base::{Kind, NoMemory};
 use std::alloc::Global;
@@ -101,7 +101,20 @@ row t r1 recipe:gear by => Q2\n\
 row t r1 item:gear by item:asm => Q5\n\
 row t r1 recipe:gear by item:asm fuel fluid:coal => Q5\n\
 row t r1 machine:gear by machine:asm beacon => Q2\n\
+row t r1 recipe:gear by machine:asm at fluid:steam@165 module item:s 1 at fluid:w => row|t|r1|recipe:gear|machine:asm|-|at fluid:steam@165|item:s 1|at fluid:w\n\
+row t r1 recipe:gear by machine:asm at item:s => Q5\n\
+row t r1 recipe:gear by machine:asm at => Q2\n\
+row t r1 special:electricity by machine:engine => row|t|r1|special:electricity|machine:engine|-\n\
+row t r1 special:heat by machine:engine => Q5\n\
+row t r1 tech:t by machine:lab => row|t|r1|tech:t|machine:lab|-\n\
 unrow t r1 => unrow|t|r1\n\
+power t on => power|t|on\n\
+power t off => power|t|off\n\
+power t 1 => Q2\n\
+power t => Q2\n\
+want t special:electricity 5 => want|t|special:electricity|5\n\
+want t special:character 5 => Q5\n\
+import t tech:t 5 => import|t|tech:t|5\n\
 price t r1 2.50 => price|t|r1|5/2\n\
 price t r1 free => Q3\n\
 want t item:gear 1/2 => want|t|item:gear|1/2\n\
@@ -179,32 +192,57 @@ fn switch(out: &mut String, on: bool) -> Result<(), NoMemory> {
     word(out, if on { "on" } else { "off" })
 }
 
-fn counts(out: &mut String, alloc: Global, counts: &[(Object, u32)]) -> Result<(), NoMemory> {
-    for (object, count) in counts {
-        out.push_str("|")?;
-        named(out, object)?;
-        out.push_str(format!(in alloc; " {count}")?.as_str())?;
-    }
+fn counted(out: &mut String, alloc: Global, item: &Object, count: u32) -> Result<(), NoMemory> {
+    out.push_str("|")?;
+    named(out, item)?;
+    out.push_str(format!(in alloc; " {count}")?.as_str())?;
     Ok(())
 }
 
-fn beacon(out: &mut String, alloc: Global, beacon: &BeaconWords) -> Result<(), NoMemory> {
+fn beacon(
+    out: &mut String,
+    alloc: Global,
+    machine: &Object,
+    count: u32,
+    share: u32,
+) -> Result<(), NoMemory> {
     out.push_str("|beacon ")?;
-    named(out, &beacon.machine)?;
-    let count = beacon.count;
-    let share = beacon.share;
+    named(out, machine)?;
     out.push_str(format!(in alloc; " {count} {share}")?.as_str())?;
-    counts(out, alloc, beacon.modules.as_slice())
+    Ok(())
 }
 
-fn parts(out: &mut String, alloc: Global, parts: &Parts) -> Result<(), NoMemory> {
-    match &parts.fuel {
-        Some(fuel) => object(out, fuel)?,
-        None => word(out, "-")?,
+fn part(out: &mut String, alloc: Global, part: &RowPart) -> Result<(), NoMemory> {
+    match part {
+        RowPart::Fuel(_) => Ok(()),
+        RowPart::Module(item, count) => counted(out, alloc, item, *count),
+        RowPart::Beacon {
+            machine,
+            count,
+            share,
+        } => beacon(out, alloc, machine, *count, *share),
+        RowPart::In(item, count) => counted(out, alloc, item, *count),
+        RowPart::At(fluid) => {
+            out.push_str("|at ")?;
+            named(out, fluid)
+        }
     }
-    counts(out, alloc, parts.modules.as_slice())?;
-    for words in parts.beacons.as_slice() {
-        beacon(out, alloc, words)?;
+}
+
+// The fuel or a dash, and then the other parts in order.
+fn parts(out: &mut String, alloc: Global, parts: &[RowPart]) -> Result<(), NoMemory> {
+    let mut burnt = false;
+    for one in parts {
+        if let RowPart::Fuel(item) = one {
+            burnt = true;
+            object(out, item)?;
+        }
+    }
+    if !burnt {
+        word(out, "-")?;
+    }
+    for one in parts {
+        part(out, alloc, one)?;
     }
     Ok(())
 }
@@ -299,7 +337,7 @@ fn change(out: &mut String, alloc: Global, change: &Change) -> Result<(), NoMemo
             labelled(out, "row", table.as_str(), label.as_str())?;
             object(out, activity)?;
             object(out, machine)?;
-            parts(out, alloc, others)
+            parts(out, alloc, others.as_slice())
         }
         Change::Unrow { table, label } => labelled(out, "unrow", table.as_str(), label.as_str()),
         Change::Price {
@@ -327,6 +365,11 @@ fn change(out: &mut String, alloc: Global, change: &Change) -> Result<(), NoMemo
         Change::Surplus { table, good, price } => {
             out.push_str("surplus")?;
             price_of_good(out, alloc, table.as_str(), good, price)
+        }
+        Change::Power { table, on } => {
+            out.push_str("power")?;
+            word(out, table.as_str())?;
+            switch(out, *on)
         }
     }
 }
