@@ -1,0 +1,6 @@
+pub mod Refusals
+pub mod Names
+pub mod Effects
+pub mod Undoing
+pub mod Figures
+pub mod Questions
