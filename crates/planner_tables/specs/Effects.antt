@@ -14,7 +14,7 @@ use Rattle.production_table.specs.Rows.{IsFitting, IsSoundTable}
 use Rattle.planner_tables.specs.declared.refusals.TableRefusal.{TableRefusal}
 use Rattle.planner_tables.specs.declared.refusals.TableRefusal.TheVariants.{NoName, NoPrice, NameUsed, Full}
 use Rattle.planner_tables.specs.Names.{good_named, setup_named}
-use Rattle.planner_tables.specs.Refusals.{Outcome, caused}
+use Rattle.planner_tables.specs.Refusals.{Outcome, cause}
 
 -- ---- tables by their names
 abbrev pub is_name : List ℕ → Table → Bool
@@ -40,10 +40,14 @@ with_table name ts =
     else if nat_lt (length ts) 64 then Ok (ts ++ empty_table name ∷ [])
     else Err Full
 
--- The table at a place after a change, which the table answers beside what it tells of the change; or the table's refusal,
--- with the name that it may not know.
-abbrev pub changed : {A : Type 0} → List Table → ℕ → TableRefusal → Result (A × Table) TableFault → Outcome (List Table)
-changed ts place unknown new = caused unknown new ▸ λ both. Ok (slice_set ts place both.1)
+-- a table after a change, beside which it answers what undoes it; or its refusal, with the name that it doesn't know
+abbrev pub table_after : {A : Type 0} → TableRefusal → Result (A × Table) TableFault → Outcome Table
+table_after unknown (Ok both) = Ok both.1
+table_after unknown (Err fault) = Err (cause unknown fault)
+
+-- another table at a place
+abbrev pub placed : List Table → ℕ → Outcome Table → Outcome (List Table)
+placed ts place new = new ▸ λ t. Ok (slice_set ts place t)
 
 -- The tables after a change, or its first refusal. Names come before all else, word by word: the table's, those of a row's
 -- set-up or the good's; then what the table itself refuses, in its order. A change of the game and its marks leaves them.
@@ -53,28 +57,28 @@ tables_effect g ts (change.Untable name) = table_named ts name ▸ λ place. Ok 
 tables_effect g ts (change.Row table label does machine parts) =
     table_named ts table ▸ λ place.
     setup_named g does machine parts ▸ λ setup.
-    changed ts place (NoName label) (with_row g label setup (table_at ts place))
+    placed ts place (table_after (NoName label) (with_row g label setup (table_at ts place)))
 tables_effect g ts (change.Unrow table label) =
     table_named ts table ▸ λ place.
-    changed ts place (NoName label) (without_row label (table_at ts place))
+    placed ts place (table_after (NoName label) (without_row label (table_at ts place)))
 tables_effect g ts (change.Price table label price) =
     table_named ts table ▸ λ place.
-    changed ts place (NoName label) (with_price label price (table_at ts place))
+    placed ts place (table_after (NoName label) (with_price label price (table_at ts place)))
 tables_effect g ts (change.Want table object amount) =
     table_named ts table ▸ λ place.
     good_named g object ▸ λ good.
-    changed ts place (NoPrice object) (with_want good amount (table_at ts place))
+    placed ts place (table_after (NoPrice object) (with_want good amount (table_at ts place)))
 tables_effect g ts (change.Import table object price) =
     table_named ts table ▸ λ place.
     good_named g object ▸ λ good.
-    changed ts place (NoPrice object) (with_import good price (table_at ts place))
+    placed ts place (table_after (NoPrice object) (with_import good price (table_at ts place)))
 tables_effect g ts (change.Surplus table object price) =
     table_named ts table ▸ λ place.
     good_named g object ▸ λ good.
-    changed ts place (NoPrice object) (with_surplus good price (table_at ts place))
+    placed ts place (table_after (NoPrice object) (with_surplus good price (table_at ts place)))
 tables_effect g ts (change.Power table on) =
     table_named ts table ▸ λ place.
-    Ok (slice_set ts place (with_balance on (table_at ts place)).1)
+    placed ts place (Ok (with_balance on (table_at ts place)).1)
 tables_effect g ts other = Ok ts
 
 -- whether a change is one of tables

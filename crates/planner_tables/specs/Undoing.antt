@@ -9,6 +9,8 @@ use Rattle.planner_tables.specs.declared.splices.Splice.{Splice}
 use Rattle.planner_tables.specs.declared.splices.Splice.TheVariants.{Remove, Insert}
 use Rattle.planner_tables.specs.declared.undos.Numbers.{Numbers}
 use Rattle.planner_tables.specs.declared.undos.Numbers.TheVariants.{Wants, Imports, Surpluses}
+use Rattle.planner_tables.specs.declared.undos.TablePart.{TablePart}
+use Rattle.planner_tables.specs.declared.undos.TablePart.TheVariants as part
 use Rattle.planner_tables.specs.declared.undos.TableUndo.{TableUndo}
 use Rattle.planner_tables.specs.declared.undos.TableUndo.TheVariants as undo
 
@@ -50,10 +52,14 @@ with_rows splice t = record t { rows = spliced splice t.rows }
 abbrev pub with_power : Bool → Table → Table
 with_power on t = record t { power = on }
 
+-- a table with a part put in its place
+abbrev pub part_restored : TablePart → Table → Table
+part_restored (part.Rows splice) t = with_rows splice t
+part_restored (part.Goods list numbers) t = with_numbers list numbers t
+part_restored (part.Price row price) t = with_price_at row price t
+part_restored (part.Power on) t = with_power on t
+
 -- the tables with a part put in its place
 abbrev pub tables_restored : TableUndo → List Table → List Table
 tables_restored (undo.Tables splice) ts = spliced splice ts
-tables_restored (undo.Rows table splice) ts = with_at (with_rows splice) table ts
-tables_restored (undo.Goods table list numbers) ts = with_at (with_numbers list numbers) table ts
-tables_restored (undo.Price table row price) ts = with_at (with_price_at row price) table ts
-tables_restored (undo.Power table on) ts = with_at (with_power on) table ts
+tables_restored (undo.Part table part) ts = with_at (part_restored part) table ts

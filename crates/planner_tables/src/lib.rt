@@ -14,4 +14,4 @@ pub use names::{good_named, setup_named};
 pub use questions::{rate_reply, solve_reply};
 pub use refusals::{ChangeFault, TableRefusal, code_of, detail_of, refused};
 pub use splices::Splice;
-pub use undos::{Numbers, TableUndo, exchange_tables};
+pub use undos::{Numbers, TablePart, TableUndo, exchange_tables};

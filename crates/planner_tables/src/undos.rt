@@ -1,6 +1,6 @@
 //! What undoes a change of tables.
 ghost use Rattle.std.specs.Prelude.{◌≡◌};
-ghost use Rattle.planner_tables.specs.Undoing.{spliced, tables_restored, with_at, with_numbers, with_power, with_price_at, with_row_price, with_rows};
+ghost use Rattle.planner_tables.specs.Undoing.{part_restored, tables_restored, with_at, with_numbers, with_power, with_price_at, with_row_price, with_rows};
 
 use crate::splices::{Splice, exchange_element};
 use fractions::Ratio;
@@ -17,33 +17,29 @@ pub enum Numbers {
     Surpluses,
 }
 
-/// A part of the tables that stood in the place of another. Tables and rows are meant by their places.
+/// A part of a table that stood in the place of another.
+#[derive(Drop)]
+pub enum TablePart {
+    /// A row that goes, or comes in.
+    Rows(Splice<TableRow>),
+    /// All numbers of one of the lists.
+    Goods {
+        list: Numbers,
+        numbers: Items<(GoodId, Ratio)>,
+    },
+    /// The price of the row at a place.
+    Price { row: usize, price: Ratio },
+    /// Whether the table balances its electric power.
+    Power(bool),
+}
+
+/// What undoes a change of tables.
 #[derive(Drop)]
 pub enum TableUndo {
     /// A table that goes, or comes in.
     Tables(Splice<Table>),
-    /// A row of a table that goes, or comes in.
-    Rows {
-        table: usize,
-        splice: Splice<TableRow>,
-    },
-    /// All numbers of one of a table's lists.
-    Goods {
-        table: usize,
-        list: Numbers,
-        numbers: Items<(GoodId, Ratio)>,
-    },
-    /// The price of a row.
-    Price {
-        table: usize,
-        row: usize,
-        price: Ratio,
-    },
-    /// Whether a table balances its electric power.
-    Power {
-        table: usize,
-        on: bool,
-    },
+    /// A part of the table at a place.
+    Part { table: usize, part: TablePart },
 }
 
 fn exchange_rows(alloc: Global, table: &mut Table, part: Splice<TableRow>) -> Splice<TableRow>
@@ -106,95 +102,51 @@ fn exchange_power(table: &mut Table, on: bool) -> bool
     mem::replace(&mut table.power, on)
 }
 
-fn exchange_rows_at(
+fn exchange_part(alloc: Global, table: &mut Table, part: TablePart) -> TablePart
+    ensures after { table.new ≡ part_restored part table.old }
+    ensures back { part_restored result table.new ≡ table.old }
+{
+    match part {
+        TablePart::Rows(splice) => TablePart::Rows(exchange_rows(alloc, table, splice)),
+        TablePart::Goods { list, numbers } => TablePart::Goods {
+            list,
+            numbers: exchange_numbers(table, list, numbers),
+        },
+        TablePart::Price { row, price } => TablePart::Price {
+            row,
+            price: exchange_price(alloc, table, row, price),
+        },
+        TablePart::Power(on) => TablePart::Power(exchange_power(table, on)),
+    }
+}
+
+fn exchange_part_at(
     alloc: Global,
     tables: &mut [Table],
     place: usize,
-    part: Splice<TableRow>,
-) -> Splice<TableRow>
-    ensures after { tables.new ≡ with_at (with_rows part) place tables.old }
-    ensures back { with_at (with_rows result) place tables.new ≡ tables.old }
+    part: TablePart,
+) -> TablePart
+    ensures after { tables.new ≡ with_at (part_restored part) place tables.old }
+    ensures back { with_at (part_restored result) place tables.new ≡ tables.old }
 {
     if place < tables.len() {
-        exchange_rows(alloc, &mut tables[place], part)
+        exchange_part(alloc, &mut tables[place], part)
     } else {
         part
     }
 }
 
-fn exchange_numbers_at(
-    tables: &mut [Table],
-    place: usize,
-    list: Numbers,
-    numbers: Items<(GoodId, Ratio)>,
-) -> Items<(GoodId, Ratio)>
-    ensures after { tables.new ≡ with_at (with_numbers list numbers) place tables.old }
-    ensures back { with_at (with_numbers list result) place tables.new ≡ tables.old }
-{
-    if place < tables.len() {
-        exchange_numbers(&mut tables[place], list, numbers)
-    } else {
-        numbers
-    }
-}
-
-fn exchange_price_at(
-    alloc: Global,
-    tables: &mut [Table],
-    place: usize,
-    row: usize,
-    price: Ratio,
-) -> Ratio
-    ensures after { tables.new ≡ with_at (with_price_at row price) place tables.old }
-    ensures back { with_at (with_price_at row result) place tables.new ≡ tables.old }
-{
-    if place < tables.len() {
-        exchange_price(alloc, &mut tables[place], row, price)
-    } else {
-        price
-    }
-}
-
-fn exchange_power_at(tables: &mut [Table], place: usize, on: bool) -> bool
-    ensures after { tables.new ≡ with_at (with_power on) place tables.old }
-    ensures back { with_at (with_power result) place tables.new ≡ tables.old }
-{
-    if place < tables.len() {
-        exchange_power(&mut tables[place], on)
-    } else {
-        on
-    }
-}
-
 /// Puts a part of the tables in its place, and answers what undoes that. It takes no memory. Where the place is of nothing,
 /// nothing changes.
-pub fn exchange_tables(alloc: Global, tables: &mut Vec<Table>, part: TableUndo) -> TableUndo
-    ensures after { tables.new.items ≡ tables_restored part tables.old.items }
+pub fn exchange_tables(alloc: Global, tables: &mut Vec<Table>, undo: TableUndo) -> TableUndo
+    ensures after { tables.new.items ≡ tables_restored undo tables.old.items }
     ensures back { tables_restored result tables.new.items ≡ tables.old.items }
 {
-    match part {
-        TableUndo::Tables(part) => TableUndo::Tables(exchange_element(tables, part)),
-        TableUndo::Rows { table, splice } => TableUndo::Rows {
+    match undo {
+        TableUndo::Tables(splice) => TableUndo::Tables(exchange_element(tables, splice)),
+        TableUndo::Part { table, part } => TableUndo::Part {
             table,
-            splice: exchange_rows_at(alloc, tables.as_mut_slice(), table, splice),
-        },
-        TableUndo::Goods {
-            table,
-            list,
-            numbers,
-        } => TableUndo::Goods {
-            table,
-            list,
-            numbers: exchange_numbers_at(tables.as_mut_slice(), table, list, numbers),
-        },
-        TableUndo::Price { table, row, price } => TableUndo::Price {
-            table,
-            row,
-            price: exchange_price_at(alloc, tables.as_mut_slice(), table, row, price),
-        },
-        TableUndo::Power { table, on } => TableUndo::Power {
-            table,
-            on: exchange_power_at(tables.as_mut_slice(), table, on),
+            part: exchange_part_at(alloc, tables.as_mut_slice(), table, part),
         },
     }
 }
