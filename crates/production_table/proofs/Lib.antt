@@ -1,4 +1,5 @@
 pub mod Parts
+pub mod Sums
 pub mod Fitting
 pub mod Positive
 pub mod Labels

@@ -3,13 +3,14 @@
 
 mod changes;
 mod columns;
+mod contributions;
 mod faults;
 mod linear;
 mod rates;
 mod setups;
 mod tables;
 
-pub use columns::column_of;
+pub use contributions::column_of;
 pub use faults::{RowFault, TableFault};
 pub use rates::{RowRates, rates_of_row, row_rates};
 pub use setups::check_setup;
