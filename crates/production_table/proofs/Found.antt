@@ -14,7 +14,7 @@ use Rattle.production_table.specs.declared.faults.TableFault.TheVariants.{Unknow
 use Rattle.production_table.specs.declared.tables.Table.{Table}
 use Rattle.production_table.specs.declared.tables.TableRow.{TableRow}
 use Rattle.production_table.specs.Changes.{dropped, guard, is_below_zero, is_negative, place_of, priced, with_price, without_row}
-use Rattle.production_table.specs.Rows.{is_label}
+use Rattle.production_table.specs.Tables.{is_label}
 
 chosen : (n k m : ℕ) (b : Bool) → nat_lt n m ≡ b → cond b (Some n) None ≡ Some k → (n ≡ k) × (k < m)
 chosen n k m true h e = let same : n ≡ k = cc in (same, grind (arith, nat_tests))

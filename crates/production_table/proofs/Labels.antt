@@ -5,7 +5,7 @@ use Rattle.std.specs.List.{insert, list_any, remove}
 use Rattle.std.specs.Str.{bytes_eq}
 use Rattle.std.proofs.lemmas.Slice.Eq.{bytes_eq-Decides}
 use Rattle.production_table.specs.declared.tables.TableRow.{TableRow}
-use Rattle.production_table.specs.Rows.{is_label, HasOwnLabels}
+use Rattle.production_table.specs.Tables.{is_label, HasOwnLabels}
 
 or_false : (a b : Bool) → (a || b) ≡ false → (a ≡ false) × (b ≡ false)
 or_false false b h = (refl, h)

@@ -7,7 +7,7 @@ use Rattle.std.proofs.lemmas.List.Elements.{All-take, All-drop, All-append, All-
 use Rattle.fractions.specs.Fraction.{Fraction, zero_fraction, ◌≤ʳ◌}
 use Rattle.production_table.specs.declared.tables.Table.{Table}
 use Rattle.production_table.specs.declared.tables.TableRow.{TableRow}
-use Rattle.production_table.specs.Rows.{is_label, HasOwnLabels, IsSoundTable}
+use Rattle.production_table.specs.Tables.{is_label, HasOwnLabels, IsSoundTable}
 use Rattle.production_table.proofs.Labels.{own_remove, own_set}
 
 abbrev IsPriced : TableRow → Type 0

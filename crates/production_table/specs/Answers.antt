@@ -1,13 +1,7 @@
 -- What a call answers that takes memory: what is meant, unless memory could not be had.
-use Rattle.std.specs.Prelude.{◌≡◌, ◌≢◌, List, Result, Ok, Err, Vec}
-use Rattle.std.specs.Global.{Global}
-use Rattle.fractions.specs.Fraction.{Fraction}
-use Rattle.plan_base.specs.declared.ids.GoodId.{GoodId}
-use Rattle.game_types.specs.declared.effects.Wide.{Wide}
+use Rattle.std.specs.Prelude.{◌≡◌, ◌≢◌, Result, Ok, Err}
 use Rattle.production_table.specs.declared.faults.TableFault.{TableFault}
 use Rattle.production_table.specs.declared.faults.TableFault.TheVariants.{NoMemory}
-use Rattle.production_table.specs.declared.faults.RowFault.{RowFault}
-use Rattle.production_table.specs.declared.faults.RowFault.TheVariants.{Wide as WideRow}
 
 abbrev pub Outcome : Type 0 → Type 0
 Outcome A = Result A TableFault
@@ -15,13 +9,3 @@ Outcome A = Result A TableFault
 abbrev pub Gives : {A : Type 0} → Outcome A → Outcome A → Type 0
 Gives meant (Ok value) = meant ≡ Ok value
 Gives meant (Err fault) = fault ≢ NoMemory → meant ≡ Err fault
-
--- a column in the making, with what is meant to be added to it
-abbrev pub Extends : Result (List (GoodId × Fraction)) Wide → Result (Unit {0}) RowFault → List (GoodId × Fraction) → Type 0
-Extends meant (Ok done) new = meant ≡ Ok new
-Extends meant (Err fault) new = (wide : Wide) → fault ≡ WideRow wide → meant ≡ Err wide
-
--- a whole column
-abbrev pub GivesColumn : Result (List (GoodId × Fraction)) Wide → Result (Vec (GoodId × Fraction) Global) RowFault → Type 0
-GivesColumn meant (Ok column) = meant ≡ Ok column.items
-GivesColumn meant (Err fault) = (wide : Wide) → fault ≡ WideRow wide → meant ≡ Err wide

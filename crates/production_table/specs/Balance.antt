@@ -14,10 +14,10 @@ use Rattle.game_types.specs.Steps.{◌▸◌}
 use Rattle.linear_table.specs.declared.Linear.{Linear}
 use Rattle.linear_table.specs.Plans.{IsPlan, number_at}
 use Rattle.power_rows.specs.Power.{draw_of}
-use Rattle.production_table.specs.declared.rates.RowRates.{RowRates}
+use Rattle.table_rows.specs.declared.rates.RowRates.{RowRates}
 use Rattle.production_table.specs.declared.tables.Table.{Table}
 use Rattle.production_table.specs.declared.tables.TableRow.{TableRow}
-use Rattle.production_table.specs.Columns.{row_rates_of}
+use Rattle.table_rows.specs.Columns.{row_rates_of}
 use Rattle.production_table.specs.Linear.{linear_of, want_of}
 
 -- rates of rows, each times what a row has of something, summed

@@ -9,12 +9,14 @@ use Rattle.game_types.specs.declared.setups.Setup.{Setup}
 use Rattle.game_types.specs.declared.games.Game.{Game}
 use Rattle.game_types.specs.Steps.{◌▸◌}
 use Rattle.production_table.specs.declared.faults.TableFault.{TableFault}
-use Rattle.production_table.specs.declared.faults.TableFault.TheVariants.{NoMemory, LabelUsed, Full, Unknown, Negative}
+use Rattle.production_table.specs.declared.faults.TableFault.TheVariants.{NoMemory, LabelUsed, Full, Unknown, Negative, Setup as OfSetup}
 use Rattle.production_table.specs.declared.tables.Table.{Table}
 use Rattle.production_table.specs.declared.tables.TableRow.{TableRow}
 use Rattle.production_table.specs.Answers.{Outcome}
 use Rattle.production_table.specs.Linear.{is_zero}
-use Rattle.production_table.specs.Rows.{checked_setup, is_label}
+use Rattle.production_table.specs.Tables.{is_label}
+use Rattle.table_rows.specs.declared.faults.SetupFault.{SetupFault}
+use Rattle.table_rows.specs.Setups.{checked_setup}
 
 -- a change of a table: what it answers and what it leaves, or its refusal, which leaves the table
 abbrev pub Changes : {A : Type 0} → Outcome (A × Table) → Result A TableFault → Table → Table → Type 0
@@ -45,12 +47,17 @@ is_full things = not (nat_lt (length things) 512)
 abbrev pub new_row : List ℕ → Setup → TableRow
 new_row label setup = record { label = label; setup = setup; price = zero_fraction }
 
+-- the refusal of a set-up, as one of a table
+abbrev pub in_table : Result (Unit {0}) SetupFault → Outcome (Unit {0})
+in_table (Ok fine) = Ok tt
+in_table (Err fault) = Err (OfSetup fault)
+
 -- a row comes in at the end, with price 0: first its label, then the room, then the set-up. Dropping it undoes that
 unfoldable pub with_row : Game → List ℕ → Setup → Table → Outcome (Unit {0} × Table)
 with_row g label setup t =
     guard (is_used t label) LabelUsed ▸ λ _.
     guard (is_full t.rows) Full ▸ λ _.
-    checked_setup g setup ▸ λ _.
+    in_table (checked_setup g setup) ▸ λ _.
     Ok (tt, record t { rows = t.rows ++ new_row label setup ∷ [] })
 
 -- the place of the first row with a label; where there is none, how many rows there are

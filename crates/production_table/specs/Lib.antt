@@ -1,7 +1,5 @@
 pub mod Answers
-pub mod Columns
-pub mod Places
-pub mod Rows
+pub mod Tables
 pub mod Linear
 pub mod Changes
 pub mod Balance

@@ -18,8 +18,8 @@ use Rattle.production_table.specs.declared.faults.TableFault.TheVariants.{Wide a
 use Rattle.production_table.specs.declared.tables.Table.{Table}
 use Rattle.production_table.specs.declared.tables.TableRow.{TableRow}
 use Rattle.production_table.specs.Answers.{Outcome}
-use Rattle.production_table.specs.Columns.{column_of}
-use Rattle.production_table.specs.Rows.{goods_of}
+use Rattle.table_rows.specs.Columns.{column_of}
+use Rattle.production_table.specs.Tables.{goods_of}
 
 -- ---- the columns of all rows, or the first row that has a wide step, with the first such step
 abbrev pub of_row : TableRow → Result (List (GoodId × Fraction)) Wide → Outcome (List (GoodId × Fraction))

@@ -3,7 +3,8 @@ ghost use Rattle.std.specs.Prelude.{◌≡◌, ◌<◌, Some, IfOk, OnOk, OnErr,
 ghost use Rattle.production_table.specs.declared.tables.TableRow.{TableRow};
 ghost use Rattle.game_types.specs.Sound.{IsSound, IsSoundSetup};
 ghost use Rattle.production_table.specs.Changes.{empty_table, is_used, with_balance, with_import, with_price, with_row, with_row_at, with_surplus, with_want, without_row, Changes, ChangesInMemory, HasRoom};
-ghost use Rattle.production_table.specs.Rows.{is_label, IsFitting, IsSoundTable};
+ghost use Rattle.production_table.specs.Tables.{is_label, IsSoundTable};
+ghost use Rattle.table_rows.specs.Setups.{IsFitting};
 
 use crate::{Table, TableFault, TableRow};
 use fractions::Ratio;

@@ -2,15 +2,9 @@
 #![tactic(auto)]
 
 mod changes;
-mod columns;
 mod faults;
 mod linear;
-mod rates;
-mod setups;
 mod tables;
 
-pub use columns::column_of;
-pub use faults::{RowFault, TableFault};
-pub use rates::{RowRates, rates_of_row, row_rates};
-pub use setups::check_setup;
+pub use faults::TableFault;
 pub use tables::{LIMIT, Table, TableRow};

@@ -4,7 +4,8 @@ ghost use Rattle.game_types.specs.Sound.{IsSound};
 ghost use Rattle.linear_table.specs.Plans.{IsWellFormed};
 ghost use Rattle.production_table.specs.Answers.{Gives};
 ghost use Rattle.production_table.specs.Linear.{linear_of, IsOfGame};
-ghost use Rattle.production_table.specs.Rows.{IsFitting, IsSoundTable};
+ghost use Rattle.production_table.specs.Tables.{IsSoundTable};
+ghost use Rattle.table_rows.specs.Setups.{IsFitting};
 
 use crate::{Table, TableFault};
 use game_types::Game;

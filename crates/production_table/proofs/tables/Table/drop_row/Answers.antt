@@ -3,7 +3,7 @@ use Rattle.std.specs.Prelude.{Ok, slice_index_or}
 use Rattle.std.specs.List.{remove}
 use Rattle.production_table.specs.declared.tables.TableRow.{TableRow}
 use Rattle.production_table.specs.Changes.{without_row}
-use Rattle.production_table.specs.Rows.{IsSoundTable}
+use Rattle.production_table.specs.Tables.{IsSoundTable}
 use Rattle.production_table.proofs.Found.{no_drop, drop_is}
 use Rattle.production_table.proofs.Sound.{sound_remove}
 use Rattle.production_table.proofs.tables.Table.drop_row.Goals as goal

@@ -4,7 +4,7 @@ use Rattle.fractions.specs.Fraction.{Fraction, zero_fraction, ◌≤ʳ◌, ◌<�
 use Rattle.fractions.proofs.Order.{≤ʳ_from_not_<ʳ}
 use Rattle.production_table.specs.declared.tables.TableRow.{TableRow}
 use Rattle.production_table.specs.Changes.{with_price}
-use Rattle.production_table.specs.Rows.{IsSoundTable}
+use Rattle.production_table.specs.Tables.{IsSoundTable}
 use Rattle.production_table.proofs.Found.{no_price, low_price, fair_price, place_is, some_row}
 use Rattle.production_table.proofs.Sound.{sound_set}
 use Rattle.production_table.proofs.tables.Table.set_price.Goals as goal

@@ -2,9 +2,9 @@
 ghost use Rattle.std.specs.Prelude.{◌≡◌};
 ghost use Rattle.std.specs.List.{list_all};
 ghost use Rattle.game_types.specs.Sound.{IsSound, IsSoundSetup, IsSoundActivity};
-ghost use Rattle.production_table.specs.Rows.{checked_fits, checked_rest, checked_setup, does, has_fit, has_fits, is_there};
+ghost use Rattle.table_rows.specs.Setups.{checked_fits, checked_rest, checked_setup, does, has_fit, has_fits, is_there};
 
-use crate::TableFault;
+use crate::SetupFault;
 use beacon_effects::check_beacons;
 use fuel_choice::fuel_use;
 use game_types::{Activity, Game, Part, Setup, choice_of};
@@ -59,8 +59,8 @@ fn has_fits(game: &Game, setup: &Setup, activity: Activity) -> bool
     }
 }
 
-#[tactic(auto, unfolding(crate::specs::Rows::checked_fits))]
-fn check_fits(game: &Game, setup: &Setup) -> Result<(), TableFault>
+#[tactic(auto, unfolding(crate::specs::Setups::checked_fits))]
+fn check_fits(game: &Game, setup: &Setup) -> Result<(), SetupFault>
     requires sound { IsSound game.now }
     requires setup { IsSoundSetup game.now setup.now }
     ensures { result ≡ checked_fits game.now setup.now }
@@ -68,34 +68,34 @@ fn check_fits(game: &Game, setup: &Setup) -> Result<(), TableFault>
     if has_fits(game, setup, setup.activity) {
         Ok(())
     } else {
-        Err(TableFault::Temperature)
+        Err(SetupFault::Temperature)
     }
 }
 
 // Whether the machine does what it is set to do.
-fn check_does(game: &Game, setup: &Setup, activity: Activity) -> Result<(), TableFault>
+fn check_does(game: &Game, setup: &Setup, activity: Activity) -> Result<(), SetupFault>
     requires sound { IsSound game.now }
     requires setup { IsSoundSetup game.now setup.now }
     ensures { result ≡ does game.now setup.now activity }
 {
     match activity {
-        Activity::Generate => check_power(game, setup).map_err(TableFault::Power),
-        Activity::Boil(_) => check_power(game, setup).map_err(TableFault::Power),
-        Activity::Research(_) => check_lab(game, setup).map_err(TableFault::Lab),
-        Activity::Craft(_) => check_machine(game, setup).map_err(TableFault::Machine),
-        Activity::Mine(_) => check_machine(game, setup).map_err(TableFault::Machine),
-        Activity::Pump(_) => check_machine(game, setup).map_err(TableFault::Machine),
+        Activity::Generate => check_power(game, setup).map_err(SetupFault::Power),
+        Activity::Boil(_) => check_power(game, setup).map_err(SetupFault::Power),
+        Activity::Research(_) => check_lab(game, setup).map_err(SetupFault::Lab),
+        Activity::Craft(_) => check_machine(game, setup).map_err(SetupFault::Machine),
+        Activity::Mine(_) => check_machine(game, setup).map_err(SetupFault::Machine),
+        Activity::Pump(_) => check_machine(game, setup).map_err(SetupFault::Machine),
     }
 }
 
-#[tactic(auto, unfolding(crate::specs::Rows::checked_setup))]
+#[tactic(auto, unfolding(crate::specs::Setups::checked_setup))]
 /// Whether a set-up can stand in a table.
 ///
 /// # Errors
 ///
 /// The first of these, exactly: `Temperature` (P4) where an ingredient has no fit, or no fluid is named that a boiler or a
 /// generator takes in; then the faults of the machine, of its fuel, of its modules and of its beacons.
-pub fn check_setup(game: &Game, setup: &Setup) -> Result<(), TableFault>
+pub fn check_setup(game: &Game, setup: &Setup) -> Result<(), SetupFault>
     requires sound { IsSound game.now }
     requires setup { IsSoundSetup game.now setup.now }
     ensures { result ≡ checked_setup game.now setup.now }
@@ -105,18 +105,18 @@ pub fn check_setup(game: &Game, setup: &Setup) -> Result<(), TableFault>
     check_rest(game, setup)
 }
 
-#[tactic(auto, unfolding(crate::specs::Rows::checked_rest, game_types::specs::Modules::module_sum))]
+#[tactic(auto, unfolding(crate::specs::Setups::checked_rest, game_types::specs::Modules::module_sum))]
 // Whether its fuel, its modules and its beacons fit.
-fn check_rest(game: &Game, setup: &Setup) -> Result<(), TableFault>
+fn check_rest(game: &Game, setup: &Setup) -> Result<(), SetupFault>
     requires sound { IsSound game.now }
     requires setup { IsSoundSetup game.now setup.now }
     ensures { result ≡ checked_rest game.now setup.now }
 {
     if let Err(fault) = fuel_use(game, setup) {
-        return Err(TableFault::Fuel(fault));
+        return Err(SetupFault::Fuel(fault));
     }
     if let Err(fault) = sum_modules(game, setup) {
-        return Err(TableFault::Modules(fault));
+        return Err(SetupFault::Modules(fault));
     }
-    check_beacons(game, setup).map_err(TableFault::Beacons)
+    check_beacons(game, setup).map_err(SetupFault::Beacons)
 }

@@ -36,7 +36,7 @@ use Rattle.power_rows.specs.Inputs.{or_good, input_of}
 use Rattle.power_rows.specs.Power.{power_rates_of, draw_of}
 use Rattle.research_rows.specs.declared.labs.LabRates.{LabRates}
 use Rattle.research_rows.specs.Research.{lab_rates_of, tech_at}
-use Rattle.production_table.specs.declared.rates.RowRates.{RowRates}
+use Rattle.table_rows.specs.declared.rates.RowRates.{RowRates}
 
 -- ---- the rates of a row
 abbrev pub plain_effects : Effects
@@ -119,6 +119,9 @@ abbrev pub input_taken : Fraction → Input → List Contribution
 input_taken amount (OfFluid good) = takes good amount ∷ []
 input_taken amount input = []
 
+abbrev pub pack_taken : GoodId × Fraction → Contribution
+pack_taken pack = takes pack.0 pack.1
+
 abbrev pub activity_parts : Game → Setup → RowRates → Activity → List Contribution
 activity_parts g setup row (Craft recipe) =
     map (given row.effects.productivity) (recipe_at g recipe).products ++ map (taken g setup) (recipe_at g recipe).ingredients
@@ -127,7 +130,7 @@ activity_parts g setup row (Mine source) =
 activity_parts g setup row (Pump good) = gives good one_fraction ∷ []
 activity_parts g setup row Generate = gives (electricity g) one_fraction ∷ input_taken row.input (input_of g setup)
 activity_parts g setup row (Boil good) = gives good one_fraction ∷ input_taken row.input (input_of g setup)
-activity_parts g setup row (Research tech) = gives (units_good g tech) row.units ∷ map (λ part. takes part.0 part.1) (tech_at g tech).ingredients
+activity_parts g setup row (Research tech) = gives (units_good g tech) row.units ∷ map pack_taken (tech_at g tech).ingredients
 
 abbrev pub burnt_parts : Option GoodId → Fraction → List Contribution
 burnt_parts None amount = []
@@ -146,7 +149,7 @@ unfoldable pub with_part : ℕ → GoodId → Fraction → List (GoodId × Fract
 with_part step good amount [] = Ok ((good, amount) ∷ [])
 with_part step good amount (p ∷ ps) =
     if nat_lt good.0 p.0.0 then Ok ((good, amount) ∷ p ∷ ps)
-    else if good.0 == p.0.0 then (added step p.1 amount ▸ λ sum. Ok ((p.0, sum) ∷ ps))
+    else if good.0 == p.0.0 then (added step p.1 amount ▸ λ sum. Ok ((good, sum) ∷ ps))
     else (with_part step good amount ps ▸ λ rest. Ok (p ∷ rest))
 
 -- step 8: a column with a contribution, and with contributions added one by one

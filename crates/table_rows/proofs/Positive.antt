@@ -22,7 +22,7 @@ use Rattle.game_types.specs.Lookups.{machine_at}
 use Rattle.game_types.specs.Modules.{bonus_of}
 use Rattle.game_types.specs.Rates.{bonus_with, multiplier, productivity_with, effects_with}
 use Rattle.game_types.specs.Steps.{◌▸◌, added, at_least, greater}
-use Rattle.production_table.specs.Columns.{effects_by, effects_of}
+use Rattle.table_rows.specs.Columns.{effects_by, effects_of}
 
 positive_above : (x y : Fraction) → zero_fraction <ʳ x → x ≤ʳ y → zero_fraction <ʳ y
 positive_above x y h k = by_order (≤ʳ_or_<ʳ y zero_fraction)

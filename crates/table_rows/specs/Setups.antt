@@ -1,4 +1,4 @@
--- When a set-up can stand in a table, and when a table is well formed.
+-- When a set-up can stand in a table.
 use Rattle.std.specs.Prelude.{◌≡◌, ℕ, ◌<◌, ◌≤◌, ◌==◌, Bool, true, false, not, nat_lt, List, [], ◌∷◌, map, length, Option, Some, None, is_some, Result, Ok, Err, All, if◌then◌else◌}
 use Rattle.std.specs.List.{list_all, list_any}
 use Rattle.std.specs.List.Sorted.{IsStrictlyIncreasing}
@@ -29,14 +29,12 @@ use Rattle.power_rows.specs.Inputs.{input_of}
 use Rattle.power_rows.specs.Power.{checked_power}
 use Rattle.research_rows.specs.declared.labs.LabFault.{LabFault}
 use Rattle.research_rows.specs.Research.{checked_lab}
-use Rattle.production_table.specs.declared.faults.TableFault.{TableFault}
-use Rattle.production_table.specs.declared.faults.TableFault.TheVariants.{Temperature, Machine, Power, Lab, Fuel, Modules, Beacons}
-use Rattle.production_table.specs.declared.tables.Table.{Table}
-use Rattle.production_table.specs.declared.tables.TableRow.{TableRow}
+use Rattle.table_rows.specs.declared.faults.SetupFault.{SetupFault}
+use Rattle.table_rows.specs.declared.faults.SetupFault.TheVariants.{Temperature, Machine, Power, Lab, Fuel, Modules, Beacons}
 
 -- ---- whether a set-up can stand in a table
--- the refusals of other parts, as those of a table
-abbrev pub refused : {A E : Type 0} → (E → TableFault) → Result A E → Result (Unit {0}) TableFault
+-- the refusals of other parts, as those of a set-up
+abbrev pub refused : {A E : Type 0} → (E → SetupFault) → Result A E → Result (Unit {0}) SetupFault
 refused fault (Ok fine) = Ok tt
 refused fault (Err why) = Err (fault why)
 
@@ -56,23 +54,23 @@ has_fits g setup Generate = is_there (input_of g setup)
 has_fits g setup (Boil good) = is_there (input_of g setup)
 has_fits g setup activity = true
 
-unfoldable pub checked_fits : Game → Setup → Result (Unit {0}) TableFault
+unfoldable pub checked_fits : Game → Setup → Result (Unit {0}) SetupFault
 checked_fits g setup = if has_fits g setup setup.activity then Ok tt else Err Temperature
 
-abbrev pub does : Game → Setup → Activity → Result (Unit {0}) TableFault
+abbrev pub does : Game → Setup → Activity → Result (Unit {0}) SetupFault
 does g setup Generate = refused Power (checked_power g setup)
 does g setup (Boil good) = refused Power (checked_power g setup)
 does g setup (Research tech) = refused Lab (checked_lab g setup)
 does g setup activity = refused Machine (checked_machine g setup)
 
-unfoldable pub checked_rest : Game → Setup → Result (Unit {0}) TableFault
+unfoldable pub checked_rest : Game → Setup → Result (Unit {0}) SetupFault
 checked_rest g setup =
     refused Fuel (fuel_use_of g setup) ▸ λ _.
     refused Modules (checked_modules g setup) ▸ λ _.
     refused Beacons (checked_beacons g setup)
 
 -- the refusals of a set-up, in order: temperatures, the machine, its fuel, its modules, its beacons
-unfoldable pub checked_setup : Game → Setup → Result (Unit {0}) TableFault
+unfoldable pub checked_setup : Game → Setup → Result (Unit {0}) SetupFault
 checked_setup g setup =
     checked_fits g setup ▸ λ _.
     does g setup setup.activity ▸ λ _.
@@ -87,32 +85,3 @@ abbrev pub IsPower : Activity → Type 0
 IsPower Generate = Unit {0}
 IsPower (Boil good) = Unit {0}
 IsPower activity = ⊥
-
--- ---- well formed tables
-abbrev pub is_label : List ℕ → TableRow → Bool
-is_label label row = bytes_eq label row.label
-
-abbrev pub labels_of : List TableRow → List (List ℕ)
-labels_of rows = map (λ row. row.label) rows
-
--- no label stands twice
-abbrev pub HasOwnLabels : List TableRow → Type 0
-HasOwnLabels [] = Unit {0}
-HasOwnLabels (row ∷ rows) = (list_any (is_label row.label) rows ≡ false) × HasOwnLabels rows
-
-abbrev pub goods_of : List (GoodId × Fraction) → List ℕ
-goods_of pairs = map (λ pair. pair.0.0) pairs
-
-pub record IsSoundTable (t : Table) : Type 0 where
-  pub labels : HasOwnLabels t.rows
-  pub prices : All (λ row. zero_fraction ≤ʳ row.price) t.rows
-  pub wants_rise : IsStrictlyIncreasing (goods_of t.wants)
-  pub imports_rise : IsStrictlyIncreasing (goods_of t.imports)
-  pub surpluses_rise : IsStrictlyIncreasing (goods_of t.surpluses)
-  pub wants : All (λ want. zero_fraction <ʳ want.1) t.wants
-  pub imports : All (λ import_. zero_fraction ≤ʳ import_.1) t.imports
-  pub surpluses : All (λ surplus. zero_fraction ≤ʳ surplus.1) t.surpluses
-  pub few_rows : length t.rows ≤ 512
-  pub few_wants : length t.wants ≤ 512
-  pub few_imports : length t.imports ≤ 512
-  pub few_surpluses : length t.surpluses ≤ 512

@@ -10,11 +10,11 @@ use Rattle.game_types.specs.Fuels.{fuel_use_of}
 use Rattle.game_types.specs.Modules.{checked_modules}
 use Rattle.game_types.specs.Steps.{◌▸◌}
 use Rattle.power_rows.specs.Power.{checked_power}
-use Rattle.production_table.specs.declared.faults.TableFault.{TableFault}
-use Rattle.production_table.specs.declared.faults.TableFault.TheVariants.{Power, Fuel, Modules, Beacons}
-use Rattle.production_table.specs.Rows.{refused, checked_fits, does, checked_rest, checked_setup, IsFitting, IsPower}
+use Rattle.table_rows.specs.declared.faults.SetupFault.{SetupFault}
+use Rattle.table_rows.specs.declared.faults.SetupFault.TheVariants.{Power, Fuel, Modules, Beacons}
+use Rattle.table_rows.specs.Setups.{refused, checked_fits, does, checked_rest, checked_setup, IsFitting, IsPower}
 
-five : (r s t u v : Result (Unit {0}) TableFault) → (r ▸ λ _. s ▸ λ _. t ▸ λ _. u ▸ λ _. v) ≡ Ok tt → (s ≡ Ok tt) × (t ≡ Ok tt) × (u ≡ Ok tt) × (v ≡ Ok tt)
+five : (r s t u v : Result (Unit {0}) SetupFault) → (r ▸ λ _. s ▸ λ _. t ▸ λ _. u ▸ λ _. v) ≡ Ok tt → (s ≡ Ok tt) × (t ≡ Ok tt) × (u ≡ Ok tt) × (v ≡ Ok tt)
 five (Ok r) (Ok s) (Ok t) (Ok u) v h = (refl, refl, refl, h)
 five (Err f) s t u v h = absurd (cc)
 five (Ok r) (Err f) t u v h = absurd (cc)
@@ -26,11 +26,11 @@ parts : (g : Game) (setup : Setup) → checked_setup g setup ≡ Ok tt
 unfolding checked_setup checked_rest
 parts g setup h = five (checked_fits g setup) (does g setup setup.activity) (refused Fuel (fuel_use_of g setup)) (refused Modules (checked_modules g setup)) (refused Beacons (checked_beacons g setup)) h
 
-fine : {A E : Type 0} (fault : E → TableFault) (r : Result A E) → refused fault r ≡ Ok tt → IsOk r
+fine : {A E : Type 0} (fault : E → SetupFault) (r : Result A E) → refused fault r ≡ Ok tt → IsOk r
 fine fault (Ok x) h = refl
 fine fault (Err e) h = absurd (cc)
 
-fine_unit : {E : Type 0} (fault : E → TableFault) (r : Result (Unit {0}) E) → refused fault r ≡ Ok tt → r ≡ Ok tt
+fine_unit : {E : Type 0} (fault : E → SetupFault) (r : Result (Unit {0}) E) → refused fault r ≡ Ok tt → r ≡ Ok tt
 fine_unit fault (Ok x) h = refl
 fine_unit fault (Err e) h = absurd (cc)
 

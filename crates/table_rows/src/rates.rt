@@ -5,8 +5,8 @@ ghost use Rattle.game_types.specs.Lookups.{machine_at};
 ghost use Rattle.game_types.specs.Modules.{bonus_of, checked_modules};
 ghost use Rattle.game_types.specs.Rates.{effects_with};
 ghost use Rattle.game_types.specs.Sound.{IsSound, IsSoundSetup};
-ghost use Rattle.production_table.specs.Columns.{effects_by, effects_of, figures_of, powered_rates, research_rates, row_rates_of, worked_rates};
-ghost use Rattle.production_table.specs.Rows.{IsFitting, IsPower};
+ghost use Rattle.table_rows.specs.Columns.{effects_by, effects_of, figures_of, powered_rates, research_rates, row_rates_of, worked_rates};
+ghost use Rattle.table_rows.specs.Setups.{IsFitting, IsPower};
 
 use beacon_effects::{beacon_bonus, beacon_power};
 use fractions::Ratio;

@@ -1,1 +1,0 @@
--- Columns in the making.

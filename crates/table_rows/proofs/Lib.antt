@@ -1,0 +1,4 @@
+pub mod Parts
+pub mod Sums
+pub mod Fitting
+pub mod Positive

@@ -1,0 +1,14 @@
+//! Rows of production tables: whether a set-up can stand in one, what one craft of it takes, and its column, which is what one
+//! craft adds to each good.
+#![tactic(auto)]
+
+mod columns;
+mod contributions;
+mod faults;
+mod rates;
+mod setups;
+
+pub use contributions::column_of;
+pub use faults::{RowFault, SetupFault};
+pub use rates::{RowRates, rates_of_row, row_rates};
+pub use setups::check_setup;
