@@ -1,3 +1,4 @@
 pub mod Places
 pub mod SpliceLemmas
 pub mod NameLemmas
+pub mod StepLemmas

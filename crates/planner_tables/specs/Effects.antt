@@ -10,7 +10,8 @@ use Rattle.production_table.specs.declared.faults.TableFault.{TableFault}
 use Rattle.production_table.specs.declared.tables.Table.{Table}
 use Rattle.production_table.specs.Changes.{empty_table, with_balance, with_import, with_price, with_row, with_surplus, with_want, without_row}
 use Rattle.production_table.specs.Linear.{IsOfGame}
-use Rattle.production_table.specs.Rows.{IsFitting, IsSoundTable}
+use Rattle.production_table.specs.Tables.{IsSoundTable}
+use Rattle.table_rows.specs.Setups.{IsFitting}
 use Rattle.planner_tables.specs.declared.refusals.TableRefusal.{TableRefusal}
 use Rattle.planner_tables.specs.declared.refusals.TableRefusal.TheVariants.{NoName, NoPrice, NameUsed, Full}
 use Rattle.planner_tables.specs.Names.{good_named, setup_named}

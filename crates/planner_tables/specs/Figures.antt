@@ -11,7 +11,7 @@ use Rattle.game_types.specs.Steps.{do_fit, is_narrow}
 use Rattle.linear_table.specs.declared.SolveAnswer.{SolveAnswer}
 use Rattle.linear_table.specs.declared.SolveAnswer.TheVariants.{Planned, Infeasible, TooWide, OutOfBudget}
 use Rattle.production_table.specs.declared.tables.TableRow.{TableRow}
-use Rattle.production_table.specs.Columns.{figures_of}
+use Rattle.table_rows.specs.Columns.{figures_of}
 use Rattle.plan_report.specs.declared.reply.Figures.{Figures}
 
 -- ---- figures of figures

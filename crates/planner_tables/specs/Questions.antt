@@ -14,9 +14,9 @@ use Rattle.linear_table.specs.Moderate.{HasEnoughBudget, IsModerateTable}
 use Rattle.linear_table.specs.Trail.{Move}
 use Rattle.production_table.specs.declared.tables.Table.{Table}
 use Rattle.production_table.specs.declared.tables.TableRow.{TableRow}
-use Rattle.production_table.specs.Columns.{figures_of}
+use Rattle.table_rows.specs.Columns.{figures_of}
 use Rattle.production_table.specs.Linear.{linear_of}
-use Rattle.production_table.specs.Rows.{is_label, labels_of}
+use Rattle.production_table.specs.Tables.{is_label, labels_of}
 use Rattle.plan_report.specs.declared.reply.Reply.{Reply}
 use Rattle.plan_report.specs.declared.reply.Reply.TheVariants as reply
 use Rattle.planner_tables.specs.declared.refusals.TableRefusal.{TableRefusal}

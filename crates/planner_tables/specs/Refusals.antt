@@ -19,6 +19,8 @@ use Rattle.power_rows.specs.declared.checks.PowerFault.{PowerFault}
 use Rattle.power_rows.specs.declared.checks.PowerFault.TheVariants as power
 use Rattle.production_table.specs.declared.faults.TableFault.{TableFault}
 use Rattle.production_table.specs.declared.faults.TableFault.TheVariants as of_table
+use Rattle.table_rows.specs.declared.faults.SetupFault.{SetupFault}
+use Rattle.table_rows.specs.declared.faults.SetupFault.TheVariants as setup
 use Rattle.plan_report.specs.declared.reply.Detail.{Detail}
 use Rattle.plan_report.specs.declared.reply.Detail.TheVariants as detail
 use Rattle.plan_report.specs.declared.reply.RefusalCode.{RefusalCode}
@@ -26,7 +28,7 @@ use Rattle.plan_report.specs.declared.reply.RefusalCode.TheVariants as code
 use Rattle.plan_report.specs.declared.reply.Reply.{Reply}
 use Rattle.plan_report.specs.declared.reply.Reply.TheVariants as reply
 use Rattle.planner_tables.specs.declared.refusals.TableRefusal.{TableRefusal}
-use Rattle.planner_tables.specs.declared.refusals.TableRefusal.TheVariants.{Unknown, NoName, NoPrice, Negative, Full, Temperature, NameUsed, Machine, Power, Lab, Fuel, Modules, Beacons, Wide}
+use Rattle.planner_tables.specs.declared.refusals.TableRefusal.TheVariants.{Unknown, NoName, NoPrice, Negative, Full, NameUsed, Setup, Wide}
 use Rattle.planner_tables.specs.declared.refusals.ChangeFault.{ChangeFault}
 use Rattle.planner_tables.specs.declared.refusals.ChangeFault.TheVariants.{Refused}
 
@@ -47,14 +49,8 @@ cause unknown of_table.NoMemory = unknown
 cause unknown of_table.Unknown = unknown
 cause unknown of_table.Negative = Negative
 cause unknown of_table.Full = Full
-cause unknown of_table.Temperature = Temperature
 cause unknown of_table.LabelUsed = NameUsed
-cause unknown (of_table.Machine fault) = Machine fault
-cause unknown (of_table.Power fault) = Power fault
-cause unknown (of_table.Lab fault) = Lab fault
-cause unknown (of_table.Fuel fault) = Fuel fault
-cause unknown (of_table.Modules fault) = Modules fault
-cause unknown (of_table.Beacons fault) = Beacons fault
+cause unknown (of_table.Setup fault) = Setup fault
 cause unknown (of_table.Wide label step) = Wide label step
 
 -- what a table is, or the cause that there is none
@@ -91,20 +87,23 @@ beacon_code (beacon.Kind good effect) = code.U2
 beacon_code (beacon.Limited good) = code.U3
 beacon_code (beacon.Wide wide) = code.K4
 
+abbrev pub setup_code : SetupFault → RefusalCode
+setup_code setup.Temperature = code.P4
+setup_code (setup.Machine fault) = machine_code fault
+setup_code (setup.Power fault) = power_code fault
+setup_code (setup.Lab fault) = code.K1
+setup_code (setup.Fuel fault) = fuel_code fault
+setup_code (setup.Modules fault) = module_code fault
+setup_code (setup.Beacons fault) = beacon_code fault
+
 abbrev pub code_of : TableRefusal → RefusalCode
 code_of (Unknown object) = code.X1
 code_of (NoName name) = code.P1
 code_of (NoPrice object) = code.P1
 code_of Negative = code.P2
 code_of Full = code.P3
-code_of Temperature = code.P4
 code_of NameUsed = code.P5
-code_of (Machine fault) = machine_code fault
-code_of (Power fault) = power_code fault
-code_of (Lab fault) = code.K1
-code_of (Fuel fault) = fuel_code fault
-code_of (Modules fault) = module_code fault
-code_of (Beacons fault) = beacon_code fault
+code_of (Setup fault) = setup_code fault
 code_of (Wide label step) = code.K4
 
 -- ---- details
@@ -133,6 +132,15 @@ beacon_detail g (beacon.Kind good effect) = detail.Effect (good_node g good) eff
 beacon_detail g (beacon.Limited good) = detail.Node (good_node g good)
 beacon_detail g (beacon.Wide wide) = detail.Bare
 
+abbrev pub setup_detail : Game → SetupFault → Detail
+setup_detail g setup.Temperature = detail.Bare
+setup_detail g (setup.Machine fault) = machine_detail g fault
+setup_detail g (setup.Power fault) = detail.Bare
+setup_detail g (setup.Lab fault) = detail.Bare
+setup_detail g (setup.Fuel fault) = detail.Bare
+setup_detail g (setup.Modules fault) = module_detail g fault
+setup_detail g (setup.Beacons fault) = beacon_detail g fault
+
 -- the word that names nothing, the module, the beacon or the fluid that doesn't fit, the row that is too wide
 abbrev pub detail_of : Game → TableRefusal → Detail
 detail_of g (Unknown object) = detail.Word (Some object.kind) object.name
@@ -140,14 +148,8 @@ detail_of g (NoName name) = detail.Word None name
 detail_of g (NoPrice object) = detail.Word (Some object.kind) object.name
 detail_of g Negative = detail.Bare
 detail_of g Full = detail.Bare
-detail_of g Temperature = detail.Bare
 detail_of g NameUsed = detail.Bare
-detail_of g (Machine fault) = machine_detail g fault
-detail_of g (Power fault) = detail.Bare
-detail_of g (Lab fault) = detail.Bare
-detail_of g (Fuel fault) = detail.Bare
-detail_of g (Modules fault) = module_detail g fault
-detail_of g (Beacons fault) = beacon_detail g fault
+detail_of g (Setup fault) = setup_detail g fault
 detail_of g (Wide label step) = detail.Row label step
 
 -- the reply of a refused line, at a line of its batch where one is named

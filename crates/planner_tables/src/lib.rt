@@ -7,6 +7,7 @@ mod names;
 mod questions;
 mod refusals;
 mod splices;
+mod steps;
 mod undos;
 
 pub use changes::change_tables;

@@ -1,14 +1,14 @@
 //! Why a change of tables, or a question about them, is refused.
 ghost use Rattle.std.specs.Prelude.{◌≡◌};
 ghost use Rattle.game_types.specs.Sound.{IsSound};
-ghost use Rattle.planner_tables.specs.Refusals.{beacon_code, beacon_detail, code_of, detail_of, fuel_code, good_node, machine_code, machine_detail, machine_node, module_code, module_detail, power_code, refused};
+ghost use Rattle.planner_tables.specs.Refusals.{beacon_code, beacon_detail, code_of, detail_of, fuel_code, good_node, machine_code, machine_detail, machine_node, module_code, module_detail, power_code, refused, setup_code, setup_detail};
 
 use game_types::{BeaconFault, FuelFault, Game, MachineFault, ModuleFault};
 use plan_base::{EntityId, GoodId, Kind, NoMemory, NodeId, Text};
 use plan_report::{Detail, RefusalCode, Reply};
 use power_rows::PowerFault;
-use research_rows::LabFault;
 use script_reader::Object;
+use table_rows::SetupFault;
 
 /// Why a change of tables, or a question about them, is refused.
 #[derive(Drop)]
@@ -23,22 +23,10 @@ pub enum TableRefusal {
     Negative,
     /// P3: there are as many as there may be.
     Full,
-    /// P4: an ingredient has no fit, or no fluid is named that a machine takes in.
-    Temperature,
     /// P5: a table, or a row of the table, has this name.
     NameUsed,
-    /// K1 to K3: the machine doesn't do it.
-    Machine(MachineFault),
-    /// K1 and K5: the machine heats nothing, or makes no electricity.
-    Power(PowerFault),
-    /// K1: the machine doesn't research it.
-    Lab(LabFault),
-    /// L1 to L4: the fuel doesn't fit.
-    Fuel(FuelFault),
-    /// U1 to U3: the modules don't fit.
-    Modules(ModuleFault),
-    /// B1, and U1 to U3 of a beacon's modules.
-    Beacons(BeaconFault),
+    /// P4, K1 to K3, K5, L1 to L4, U1 to U3, B1: the set-up can't stand in a table.
+    Setup(SetupFault),
     /// K4: a step of this row is past the limits of fractions.
     Wide { label: Text, step: u8 },
 }
@@ -179,6 +167,35 @@ fn beacon_detail(game: &Game, fault: BeaconFault) -> Detail
     }
 }
 
+fn setup_code(fault: SetupFault) -> RefusalCode
+    ensures { result ≡ setup_code fault }
+{
+    match fault {
+        SetupFault::Temperature => RefusalCode::P4,
+        SetupFault::Machine(fault) => machine_code(fault),
+        SetupFault::Power(fault) => power_code(fault),
+        SetupFault::Lab(_) => RefusalCode::K1,
+        SetupFault::Fuel(fault) => fuel_code(fault),
+        SetupFault::Modules(fault) => module_code(fault),
+        SetupFault::Beacons(fault) => beacon_code(fault),
+    }
+}
+
+fn setup_detail(game: &Game, fault: SetupFault) -> Detail
+    requires { IsSound game.now }
+    ensures { result ≡ setup_detail game.now fault }
+{
+    match fault {
+        SetupFault::Temperature => Detail::Bare,
+        SetupFault::Machine(fault) => machine_detail(game, fault),
+        SetupFault::Power(_) => Detail::Bare,
+        SetupFault::Lab(_) => Detail::Bare,
+        SetupFault::Fuel(_) => Detail::Bare,
+        SetupFault::Modules(fault) => module_detail(game, fault),
+        SetupFault::Beacons(fault) => beacon_detail(game, fault),
+    }
+}
+
 /// The code of a refusal.
 pub fn code_of(refusal: &TableRefusal) -> RefusalCode
     ensures { result ≡ code_of refusal.now }
@@ -189,14 +206,8 @@ pub fn code_of(refusal: &TableRefusal) -> RefusalCode
         TableRefusal::NoPrice(_) => RefusalCode::P1,
         TableRefusal::Negative => RefusalCode::P2,
         TableRefusal::Full => RefusalCode::P3,
-        TableRefusal::Temperature => RefusalCode::P4,
         TableRefusal::NameUsed => RefusalCode::P5,
-        TableRefusal::Machine(fault) => machine_code(*fault),
-        TableRefusal::Power(fault) => power_code(*fault),
-        TableRefusal::Lab(_) => RefusalCode::K1,
-        TableRefusal::Fuel(fault) => fuel_code(*fault),
-        TableRefusal::Modules(fault) => module_code(*fault),
-        TableRefusal::Beacons(fault) => beacon_code(*fault),
+        TableRefusal::Setup(fault) => setup_code(*fault),
         TableRefusal::Wide { .. } => RefusalCode::K4,
     }
 }
@@ -218,14 +229,8 @@ pub fn detail_of(game: &Game, refusal: TableRefusal) -> Detail
         },
         TableRefusal::Negative => Detail::Bare,
         TableRefusal::Full => Detail::Bare,
-        TableRefusal::Temperature => Detail::Bare,
         TableRefusal::NameUsed => Detail::Bare,
-        TableRefusal::Machine(fault) => machine_detail(game, fault),
-        TableRefusal::Power(_) => Detail::Bare,
-        TableRefusal::Lab(_) => Detail::Bare,
-        TableRefusal::Fuel(_) => Detail::Bare,
-        TableRefusal::Modules(fault) => module_detail(game, fault),
-        TableRefusal::Beacons(fault) => beacon_detail(game, fault),
+        TableRefusal::Setup(fault) => setup_detail(game, fault),
         TableRefusal::Wide { label, step } => Detail::Row { label, step },
     }
 }

@@ -28,7 +28,10 @@ pub enum TablePart {
         numbers: Items<(GoodId, Ratio)>,
     },
     /// The price of the row at a place.
-    Price { row: usize, price: Ratio },
+    Price {
+        row: usize,
+        price: Ratio,
+    },
     /// Whether the table balances its electric power.
     Power(bool),
 }
@@ -120,12 +123,7 @@ fn exchange_part(alloc: Global, table: &mut Table, part: TablePart) -> TablePart
     }
 }
 
-fn exchange_part_at(
-    alloc: Global,
-    tables: &mut [Table],
-    place: usize,
-    part: TablePart,
-) -> TablePart
+fn exchange_part_at(alloc: Global, tables: &mut [Table], place: usize, part: TablePart) -> TablePart
     ensures after { tables.new ≡ with_at (part_restored part) place tables.old }
     ensures back { with_at (part_restored result) place tables.new ≡ tables.old }
 {
