@@ -2,3 +2,4 @@ pub mod Places
 pub mod SpliceLemmas
 pub mod NameLemmas
 pub mod StepLemmas
+pub mod ChangeLemmas

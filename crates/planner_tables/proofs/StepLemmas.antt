@@ -93,8 +93,7 @@ drop_case t u p k None row e h = absurd (cc)
 drop_case t u p k (Some r) row e h =
     let made : (ℕ × TableRow) × Table = ((p, r), record t { rows = remove t.rows p }) in
     let both : made ≡ ((k, row), u) = ok_same made ((k, row), u) h in
-    let place : p ≡ k = ap (λ (x : (ℕ × TableRow) × Table). x.0.0) both in
-    (
+    let place : p ≡ k = ap (λ (x : (ℕ × TableRow) × Table). x.0.0) both in (
       ap (slice_get t.rows) (sym place) ∙ (e ∙ ap (λ (x : (ℕ × TableRow) × Table). Some x.0.1) both),
       sym (ap (λ (x : (ℕ × TableRow) × Table). x.1) both) ∙ ap (λ n. (let x : Table = record t { rows = remove t.rows n } in x)) place,
     )
@@ -152,10 +151,10 @@ module _ (P : GoodId × Fraction → Type 0) where
   number_put good number [] h hs = All-cons P (good, number) [] h hs
   number_put good number (p ∷ ps) h hs =
       elim (nat_lt good.0 p.0.0) as (λ b. All P (if b then (good, number) ∷ p ∷ ps else if p.0.0 == good.0 then (good, number) ∷ ps else p ∷ with_number good number ps)) [
-        true ↦ All-cons P (good, number) (p ∷ ps) h hs
-      | false ↦ elim (p.0.0 == good.0) as (λ b. All P (if b then (good, number) ∷ ps else p ∷ with_number good number ps)) [
-          true ↦ All-cons P (good, number) ps h (All-tail P p ps hs)
-        | false ↦ All-cons P p (with_number good number ps) (All-head P p ps hs) (number_put good number ps h (All-tail P p ps hs))
+        | true ↦ All-cons P (good, number) (p ∷ ps) h hs
+        | false ↦ elim (p.0.0 == good.0) as (λ b. All P (if b then (good, number) ∷ ps else p ∷ with_number good number ps)) [
+          | true ↦ All-cons P (good, number) ps h (All-tail P p ps hs)
+          | false ↦ All-cons P p (with_number good number ps) (All-head P p ps hs) (number_put good number ps h (All-tail P p ps hs))
         ]
       ]
 
@@ -164,8 +163,8 @@ module _ (P : GoodId × Fraction → Type 0) where
   number_taken good [] hs = hs
   number_taken good (p ∷ ps) hs =
       elim (p.0.0 == good.0) as (λ b. All P (if b then ps else p ∷ without_number good ps)) [
-        true ↦ All-tail P p ps hs
-      | false ↦ All-cons P p (without_number good ps) (All-head P p ps hs) (number_taken good ps (All-tail P p ps hs))
+        | true ↦ All-tail P p ps hs
+        | false ↦ All-cons P p (without_number good ps) (All-head P p ps hs) (number_taken good ps (All-tail P p ps hs))
       ]
 
 goods_after : (g : Game) (good : GoodId) (number : Option Fraction) (pairs : List (GoodId × Fraction)) → good.0 < good_count g → AreGoods g pairs → AreGoods g (put_or_take good number pairs)

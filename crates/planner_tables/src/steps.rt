@@ -6,7 +6,7 @@ ghost use Rattle.production_table.specs.Changes.{with_balance, with_import, with
 ghost use Rattle.planner_tables.specs.declared.refusals.TableRefusal.{TableRefusal as RefusalOf};
 ghost use Rattle.planner_tables.specs.Effects.{IsSoundOn, table_after};
 ghost use Rattle.planner_tables.specs.Refusals.{cause};
-ghost use Rattle.planner_tables.specs.Steps.{IsRefused, MakesTable};
+ghost use Rattle.planner_tables.specs.Steps.{IsRefused, MakesTable, StepFits, step_effect};
 
 use crate::{ChangeFault, Numbers, Splice, TablePart, TableRefusal};
 use fractions::Ratio;
@@ -16,8 +16,40 @@ use production_table::{Table, TableFault};
 use script_reader::Object;
 use std::alloc::Global;
 
-// A name that the table doesn't know.
-fn no_name(alloc: Global, name: &Text) -> ChangeFault
+/// A change of one table, with things in place of their names.
+#[derive(Drop)]
+pub(crate) enum Step {
+    Row {
+        label: Text,
+        setup: Setup,
+    },
+    Unrow {
+        label: Text,
+    },
+    Price {
+        label: Text,
+        price: Ratio,
+    },
+    Want {
+        object: Object,
+        good: GoodId,
+        amount: Ratio,
+    },
+    Import {
+        object: Object,
+        good: GoodId,
+        price: Option<Ratio>,
+    },
+    Surplus {
+        object: Object,
+        good: GoodId,
+        price: Option<Ratio>,
+    },
+    Power(bool),
+}
+
+/// A name of which there is no table, or no row.
+pub(crate) fn no_name(alloc: Global, name: &Text) -> ChangeFault
     ensures { (refusal : RefusalOf) → result ≡ ChangeFault.Refused refusal → TableRefusal.NoName name.now ≡ refusal }
 {
     match Text::copy(alloc, name.as_str()) {
@@ -84,8 +116,8 @@ fn copied(
     Ok(Items::from_vec(copy))
 }
 
-/// A row comes in at the end.
-pub(crate) fn add_row(
+// A row comes in at the end.
+fn add_row(
     alloc: Global,
     game: &Game,
     table: &mut Table,
@@ -109,8 +141,8 @@ pub(crate) fn add_row(
     }
 }
 
-/// The row with a label goes.
-pub(crate) fn drop_row(
+// The row with a label goes.
+fn drop_row(
     alloc: Global,
     game: &Game,
     table: &mut Table,
@@ -135,8 +167,8 @@ pub(crate) fn drop_row(
     }
 }
 
-/// The row with a label has another price.
-pub(crate) fn set_price(
+// The row with a label has another price.
+fn set_price(
     alloc: Global,
     game: &Game,
     table: &mut Table,
@@ -158,8 +190,8 @@ pub(crate) fn set_price(
     }
 }
 
-/// Another rate of a good is wanted.
-pub(crate) fn set_want(
+// Another rate of a good is wanted.
+fn set_want(
     alloc: Global,
     game: &Game,
     table: &mut Table,
@@ -186,8 +218,8 @@ pub(crate) fn set_want(
     }
 }
 
-/// A good may come in at another price, or not.
-pub(crate) fn set_import(
+// A good may come in at another price, or not.
+fn set_import(
     alloc: Global,
     game: &Game,
     table: &mut Table,
@@ -214,8 +246,8 @@ pub(crate) fn set_import(
     }
 }
 
-/// A good may go out at another price, or not.
-pub(crate) fn set_surplus(
+// A good may go out at another price, or not.
+fn set_surplus(
     alloc: Global,
     game: &Game,
     table: &mut Table,
@@ -242,11 +274,48 @@ pub(crate) fn set_surplus(
     }
 }
 
-/// The table balances its electric power, or doesn't.
-pub(crate) fn set_power(game: &Game, table: &mut Table, on: bool) -> TablePart
+// The table balances its electric power, or doesn't.
+fn set_power(game: &Game, table: &mut Table, on: bool) -> TablePart
     requires table { IsSoundOn game.now table.old }
     ensures { MakesTable game.now (Ok (with_balance on table.old).1) result table.old table.new }
 {
     let _game = game;
     TablePart::Power(table.set_power(on))
+}
+
+/// Makes a step, and answers the part that leads back.
+pub(crate) fn take_step(
+    alloc: Global,
+    game: &Game,
+    table: &mut Table,
+    step: Step,
+) -> Result<TablePart, ChangeFault>
+    requires game { IsSound game.now }
+    requires table { IsSoundOn game.now table.old }
+    requires step { StepFits game.now step }
+    ensures ok { IfOk result (λ part. MakesTable game.now (step_effect game.now step table.old) part table.old table.new) }
+    ensures fault { IfErr result (IsRefused (step_effect game.now step table.old)) }
+    ensures err { OnErr result (table.new ≡ table.old) }
+{
+    match step {
+        Step::Row { label, setup } => add_row(alloc, game, table, &label, setup),
+        Step::Unrow { label } => drop_row(alloc, game, table, &label),
+        Step::Price { label, price } => set_price(alloc, game, table, &label, &price),
+        Step::Want {
+            object,
+            good,
+            amount,
+        } => set_want(alloc, game, table, &object, good, &amount),
+        Step::Import {
+            object,
+            good,
+            price,
+        } => set_import(alloc, game, table, &object, good, price),
+        Step::Surplus {
+            object,
+            good,
+            price,
+        } => set_surplus(alloc, game, table, &object, good, price),
+        Step::Power(on) => Ok(set_power(game, table, on)),
+    }
 }
