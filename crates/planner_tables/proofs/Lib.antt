@@ -3,3 +3,5 @@ pub mod SpliceLemmas
 pub mod NameLemmas
 pub mod StepLemmas
 pub mod ChangeLemmas
+pub mod FigureLemmas
+pub mod QuestionLemmas

@@ -8,6 +8,7 @@ use Rattle.game_types.specs.declared.games.Game.{Game}
 use Rattle.game_types.specs.Steps.{◌▸◌}
 use Rattle.linear_table.specs.declared.Column.{Column}
 use Rattle.linear_table.specs.declared.Linear.{Linear}
+use Rattle.linear_table.specs.declared.LinearColumn.{LinearColumn}
 use Rattle.linear_table.specs.declared.SolveAnswer.{SolveAnswer}
 use Rattle.linear_table.specs.Answer.{HasNoBasisTwice, HasNoPlan, IsAnswer, IsInfeasibleAnswer, IsOutOfBudgetAnswer, IsTooWideAnswer, IsTrailOf, NeverFormsWide, SettlesTable, SomeGetsWide, SomeRunsOut}
 use Rattle.linear_table.specs.Moderate.{HasEnoughBudget, IsModerateTable}
@@ -61,13 +62,13 @@ pub record IsSolveAnswer (l : Linear) (budget : ℕ) (a : SolveAnswer) : Type 0 
   pub settled : NeverFormsWide l → HasEnoughBudget l budget → SettlesTable a
   pub moderate : IsModerateTable l → HasEnoughBudget l budget → SettlesTable a
 
-abbrev pub column_names : Linear → List Column
-column_names l = map (λ c. c.column) l.columns
+abbrev pub column_names : List LinearColumn → List Column
+column_names columns = map (λ c. c.column) columns
 
 -- an answer with the labels, goods and columns of the table, and the figures of its rows
 abbrev pub solved : Game → Table → Linear → SolveAnswer → Reply
 solved g t l a =
-    reply.Solved t.name (labels_of t.rows) l.goods (column_names l) (answer_figures g t.rows a) (summed nothing (answer_figures g t.rows a)) a
+    reply.Solved t.name (labels_of t.rows) l.goods (column_names l.columns) (answer_figures g t.rows a) (summed nothing (answer_figures g t.rows a)) a
 
 -- the linear form of a table, or the first refusal: no table of this name, a row that is too wide, too many goods
 abbrev pub linear_outcome : Game → Table → Outcome Linear

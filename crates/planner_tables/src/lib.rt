@@ -3,6 +3,7 @@
 #![tactic(auto)]
 
 mod changes;
+mod figures;
 mod names;
 mod questions;
 mod refusals;

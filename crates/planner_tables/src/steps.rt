@@ -86,7 +86,7 @@ fn plain_fault(fault: TableFault) -> ChangeFault
 }
 
 // A refusal of a table, which may not know a row.
-fn row_fault(alloc: Global, label: &Text, fault: TableFault) -> ChangeFault
+pub(crate) fn row_fault(alloc: Global, label: &Text, fault: TableFault) -> ChangeFault
     ensures { (refusal : RefusalOf) → result ≡ ChangeFault.Refused refusal → (fault ≢ TableFault.NoMemory) × (cause (TableRefusal.NoName label.now) fault ≡ refusal) }
 {
     match fault {
