@@ -1,0 +1,7 @@
+pub mod Places
+pub mod SpliceLemmas
+pub mod NameLemmas
+pub mod StepLemmas
+pub mod ChangeLemmas
+pub mod FigureLemmas
+pub mod QuestionLemmas

@@ -1,0 +1,55 @@
+-- What is answered about tables.
+use Rattle.std.proofs.Common.{◌≡◌, ◌∙◌, ℕ, ◌+◌, ◌<◌, ◌≤◌, List, [], ◌∷◌, ◌++◌, length, get_or, drop, map, append_assoc, append-nil, Option, Some, None, Ok, Err, refl, sym, ap, subst}
+use Rattle.std.specs.Prelude.{All, Bool, true, false, cond, find}
+use Rattle.std.proofs.lemmas.List.Elements.{All-head, All-tail}
+use Rattle.linear_table.specs.declared.LinearColumn.{LinearColumn}
+use Rattle.game_types.specs.declared.games.Game.{Game}
+use Rattle.game_types.specs.Steps.{◌▸◌}
+use Rattle.game_types.proofs.Walks.{next as next_of, drop_all}
+use Rattle.production_table.specs.declared.tables.Table.{Table}
+use Rattle.production_table.specs.declared.tables.TableRow.{TableRow}
+use Rattle.production_table.specs.Tables.{labels_of}
+use Rattle.plan_report.specs.declared.reply.Reply.{Reply}
+use Rattle.planner_tables.specs.declared.refusals.TableRefusal.{TableRefusal}
+use Rattle.planner_tables.specs.Effects.{table_at, table_named}
+use Rattle.planner_tables.specs.Questions.{column_names, rate_outcome, row_rates_outcome, IsSolvedWhere, IsSolveReply, IsSolveReplyAt, linear_outcome}
+use Rattle.planner_tables.specs.Refusals.{Outcome, refused}
+
+-- ---- labels
+pub labels_next : (rows : List TableRow) (k : ℕ) (row : TableRow) → k < length rows → row ≡ get_or rows k row → labels_of (drop k rows) ≡ row.label ∷ labels_of (drop (k + 1) rows)
+labels_next rows k row h e = ap labels_of (next_of rows k row h e)
+
+pub labels_end : (rows : List TableRow) (k : ℕ) → length rows ≤ k → labels_of (drop k rows) ≡ []
+labels_end rows k h = ap labels_of (drop_all rows k h)
+
+-- ---- names of columns
+pub names_next : (columns : List LinearColumn) (k : ℕ) (column : LinearColumn) → k < length columns → column ≡ get_or columns k column → column_names (drop k columns) ≡ column.column ∷ column_names (drop (k + 1) columns)
+names_next columns k column h e = ap column_names (next_of columns k column h e)
+
+pub names_end : (columns : List LinearColumn) (k : ℕ) → length columns ≤ k → column_names (drop k columns) ≡ []
+names_end columns k h = ap column_names (drop_all columns k h)
+
+-- ---- the rates of a row
+pub found_all : {A : Type 0} (P : A → Type 0) (p : A → Bool) (xs : List A) (x : A) → find p xs ≡ Some x → All P xs → P x
+found_all P p [] x h hs = absurd (cc)
+found_all P p (y ∷ ys) x h hs = by_test (p y) (λ e. found_all P p ys x e (All-tail P y ys hs)) h
+  where
+    by_test : (b : Bool) → (find p ys ≡ Some x → P x) → cond b (Some y) (find p ys) ≡ Some x → P x
+    by_test true rest e = let same : y ≡ x = cc in subst P same (All-head P y ys hs)
+    by_test false rest e = rest e
+
+pub rate_at : (g : Game) (ts : List Table) (name label : List ℕ) (place : ℕ) (t : Table) → table_named ts name ≡ Ok place → table_at ts place ≡ t → rate_outcome g ts name label ≡ row_rates_outcome g t label
+unfolding rate_outcome
+rate_at g ts name label place t h e =
+    ap (λ (o : Outcome ℕ). o ▸ λ p. row_rates_outcome g (table_at ts p) label) h ∙ ap (λ (x : Table). row_rates_outcome g x label) e
+
+-- ---- solving
+pub solve_refused : (g : Game) (ts : List Table) (name : List ℕ) (budget : ℕ) (refusal : TableRefusal) (r : Reply) → table_named ts name ≡ Err refusal → r ≡ refused g refusal None → IsSolveReply g ts name budget r
+unfolding IsSolveReply
+solve_refused g ts name budget refusal r h e = subst (λ (o : Outcome ℕ). IsSolveReplyAt g ts budget o r) (sym h) e
+
+pub solve_asked : (g : Game) (ts : List Table) (name : List ℕ) (budget place : ℕ) (t : Table) (r : Reply) → table_named ts name ≡ Ok place → table_at ts place ≡ t → IsSolvedWhere g t budget (linear_outcome g t) r → IsSolveReply g ts name budget r
+unfolding IsSolveReply
+solve_asked g ts name budget place t r h e s =
+    subst (λ (o : Outcome ℕ). IsSolveReplyAt g ts budget o r) (sym h)
+    (subst (λ (x : Table). IsSolvedWhere g x budget (linear_outcome g x) r) (sym e) s)

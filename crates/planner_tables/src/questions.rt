@@ -1,0 +1,260 @@
+//! What is answered about tables.
+ghost use Rattle.std.specs.Prelude.{◌≡◌, All, IfOk, find, map, option_map};
+ghost use Rattle.game_types.specs.Sound.{IsSound};
+ghost use Rattle.linear_table.specs.Plans.{IsWellFormed};
+ghost use Rattle.production_table.specs.Tables.{is_label, labels_of};
+ghost use Rattle.table_rows.specs.Columns.{figures_of};
+ghost use Rattle.table_rows.specs.Setups.{IsFitting};
+ghost use Rattle.planner_tables.specs.Effects.{AreSoundTables, IsSoundOn};
+ghost use Rattle.planner_tables.specs.Questions.{column_names, IsSolved, IsSolvedWhere, IsSolveReply, linear_outcome, rate_outcome, rate_reply, rates_outcome, rates_reply, row_rates_outcome, solved};
+ghost use Rattle.planner_tables.specs.Refusals.{Gives};
+
+use crate::changes::table_named;
+use crate::figures::{answer_figures, summed};
+use crate::steps::{no_name, row_fault};
+use crate::{ChangeFault, TableRefusal, refused};
+use fractions::Ratio;
+use game_types::{Effects, Game, Rates};
+use linear_table::{Column, Linear, LinearColumn, SolveAnswer};
+use pivot_solver::solve;
+use plan_base::{Items, NoMemory, Text};
+use plan_report::Reply;
+use production_table::{Table, TableRow};
+use std::alloc::Global;
+use table_rows::row_rates;
+
+// The row with a label.
+fn find_row<'a>(rows: &'a [TableRow], label: &str) -> Option<&'a TableRow>
+    ensures { option_map (λ row. row.now) result ≡ find (is_label label.now) rows.now }
+{
+    rows.iter().find(|row| row.label.as_str() == label)
+}
+
+// The reply that tells the rates of a row.
+fn rates_reply(
+    alloc: Global,
+    table: &Table,
+    row: &TableRow,
+    rates: &(Effects, Rates, Ratio),
+) -> Result<Reply, NoMemory>
+    ensures { IfOk result (λ reply. reply ≡ rates_reply table.now row.now rates.now) }
+{
+    let name = Text::copy(alloc, table.name.as_str())?;
+    let label = Text::copy(alloc, row.label.as_str())?;
+    Ok(Reply::Rate {
+        table: name,
+        label,
+        speed: rates.0.speed,
+        productivity: rates.0.productivity,
+        consumption: rates.0.consumption,
+        pollution: rates.0.pollution,
+        machines: rates.1.machines,
+        power: rates.1.power,
+        drain: rates.1.drain,
+        fuel: rates.1.fuel,
+        emits: rates.1.pollution,
+        beacons: rates.2,
+    })
+}
+
+// The rates of a row, or that a step of them is too wide.
+fn rates_of(alloc: Global, game: &Game, table: &Table, row: &TableRow) -> Result<Reply, ChangeFault>
+    requires sound { IsSound game.now }
+    requires fits { IsFitting game.now row.now.setup }
+    ensures { Gives (rates_outcome table.now row.now (figures_of game.now row.now.setup)) result }
+{
+    match row_rates(game, &row.setup) {
+        Ok(rates) => {
+            let reply = rates_reply(alloc, table, row, &rates)?;
+            Ok(reply)
+        }
+        Err(wide) => {
+            let label = Text::copy(alloc, row.label.as_str())?;
+            Err(ChangeFault::Refused(TableRefusal::Wide {
+                label,
+                step: wide.step,
+            }))
+        }
+    }
+}
+
+// The rates of the row with a label.
+fn row_rates_of(
+    alloc: Global,
+    game: &Game,
+    table: &Table,
+    label: &Text,
+) -> Result<Reply, ChangeFault>
+    requires sound { IsSound game.now }
+    requires table { IsSoundOn game.now table.now }
+    ensures { Gives (row_rates_outcome game.now table.now label.now) result }
+{
+    match find_row(table.rows.as_slice(), label.as_str()) {
+        Some(row) => rates_of(alloc, game, table, row),
+        None => Err(no_name(alloc, label)),
+    }
+}
+
+// The rates of a row of a table.
+#[tactic(auto, unfolding(crate::specs::Questions::rate_outcome))]
+fn rates_named(
+    alloc: Global,
+    game: &Game,
+    tables: &[Table],
+    table: &Text,
+    label: &Text,
+) -> Result<Reply, ChangeFault>
+    requires sound { IsSound game.now }
+    requires tables { AreSoundTables game.now tables.now }
+    ensures { Gives (rate_outcome game.now tables.now table.now label.now) result }
+{
+    let place = table_named(alloc, tables, table)?;
+    row_rates_of(alloc, game, &tables[place], label)
+}
+
+/// The rates of a row, for one craft a second, or why there are none.
+///
+/// # Errors
+///
+/// `NoMemory` where memory could not be had.
+pub fn rate_reply(
+    alloc: Global,
+    game: &Game,
+    tables: &[Table],
+    table: &Text,
+    label: &Text,
+) -> Result<Reply, NoMemory>
+    requires sound { IsSound game.now }
+    requires tables { AreSoundTables game.now tables.now }
+    ensures { IfOk result (λ reply. reply ≡ rate_reply game.now tables.now table.now label.now) }
+{
+    match rates_named(alloc, game, tables, table, label) {
+        Ok(reply) => Ok(reply),
+        Err(ChangeFault::Refused(refusal)) => Ok(refused(game, refusal, None)),
+        Err(ChangeFault::NoMemory) => Err(NoMemory),
+    }
+}
+
+// The labels of some rows.
+#[tactic(auto, using(crate::proofs::QuestionLemmas::labels_next, crate::proofs::QuestionLemmas::labels_end))]
+fn labels_of(alloc: Global, rows: &[TableRow]) -> Result<Items<Text>, NoMemory>
+    ensures { IfOk result (λ labels. labels ≡ labels_of rows.now) }
+{
+    let mut labels = Vec::new(alloc);
+    for row in rows {
+        let label = Text::copy(alloc, row.label.as_str())?;
+        labels.push(label)?;
+    }
+    Ok(Items::from_vec(labels))
+}
+
+// The names of some columns.
+#[tactic(auto, using(crate::proofs::QuestionLemmas::names_next, crate::proofs::QuestionLemmas::names_end))]
+fn column_names(alloc: Global, columns: &[LinearColumn]) -> Result<Items<Column>, NoMemory>
+    ensures { IfOk result (λ names. names ≡ column_names columns.now) }
+{
+    let mut names = Vec::new(alloc);
+    for column in columns {
+        names.push(column.column)?;
+    }
+    Ok(Items::from_vec(names))
+}
+
+// The reply that tells what the solver says of a table.
+fn solved(
+    alloc: Global,
+    game: &Game,
+    table: &Table,
+    linear: Linear,
+    answer: SolveAnswer,
+) -> Result<Reply, NoMemory>
+    requires sound { IsSound game.now }
+    requires table { IsSoundOn game.now table.now }
+    ensures { IfOk result (λ reply. reply ≡ solved game.now table.now linear answer) }
+{
+    let name = Text::copy(alloc, table.name.as_str())?;
+    let labels = labels_of(alloc, table.rows.as_slice())?;
+    let columns = column_names(alloc, linear.columns.as_slice())?;
+    let rows = answer_figures(alloc, game, table.rows.as_slice(), &answer)?;
+    let total = summed(rows.as_slice());
+    Ok(Reply::Solved {
+        table: name,
+        labels,
+        goods: linear.goods,
+        columns,
+        rows,
+        total,
+        answer,
+    })
+}
+
+// What the solver says of a table's linear form.
+fn solved_within(
+    alloc: Global,
+    game: &Game,
+    table: &Table,
+    linear: Linear,
+    budget: u32,
+) -> Result<Reply, NoMemory>
+    requires sound { IsSound game.now }
+    requires table { IsSoundOn game.now table.now }
+    requires formed { IsWellFormed linear }
+    ensures { IfOk result (IsSolved game.now table.now linear budget) }
+{
+    let answer = solve(alloc, &linear, budget)?;
+    let reply = solved(alloc, game, table, linear, answer)?;
+    Ok(reply)
+}
+
+// The linear form of a table, or why it has none.
+fn linear_of(alloc: Global, game: &Game, table: &Table) -> Result<Linear, ChangeFault>
+    requires sound { IsSound game.now }
+    requires table { IsSoundOn game.now table.now }
+    ensures linear { Gives (linear_outcome game.now table.now) result }
+    ensures formed { IfOk result IsWellFormed }
+{
+    match table.to_linear(alloc, game) {
+        Ok(linear) => Ok(linear),
+        Err(fault) => Err(row_fault(alloc, &table.name, fault)),
+    }
+}
+
+// What the solver says of a table, or why it is not asked.
+fn solve_table(alloc: Global, game: &Game, table: &Table, budget: u32) -> Result<Reply, NoMemory>
+    requires sound { IsSound game.now }
+    requires table { IsSoundOn game.now table.now }
+    ensures { IfOk result (IsSolvedWhere game.now table.now budget (linear_outcome game.now table.now)) }
+{
+    match linear_of(alloc, game, table) {
+        Ok(linear) => solved_within(alloc, game, table, linear, budget),
+        Err(ChangeFault::Refused(refusal)) => Ok(refused(game, refusal, None)),
+        Err(ChangeFault::NoMemory) => Err(NoMemory),
+    }
+}
+
+/// What the solver says of a table, with at most `budget` exchanges, or why it is not asked.
+///
+/// # Errors
+///
+/// `NoMemory` where memory could not be had.
+#[tactic(auto, using(crate::proofs::QuestionLemmas::solve_refused, crate::proofs::QuestionLemmas::solve_asked))]
+pub fn solve_reply(
+    alloc: Global,
+    game: &Game,
+    tables: &[Table],
+    table: &Text,
+    budget: u32,
+) -> Result<Reply, NoMemory>
+    requires sound { IsSound game.now }
+    requires tables { AreSoundTables game.now tables.now }
+    ensures { IfOk result (IsSolveReply game.now tables.now table.now budget) }
+{
+    match table_named(alloc, tables, table) {
+        Ok(place) => {
+            let reply = solve_table(alloc, game, &tables[place], budget)?;
+            Ok(reply)
+        }
+        Err(ChangeFault::Refused(refusal)) => Ok(refused(game, refusal, None)),
+        Err(ChangeFault::NoMemory) => Err(NoMemory),
+    }
+}
