@@ -103,11 +103,7 @@ fn touched_numbers(alloc: Global, edits: &[Edit], shape: &Shape) -> Result<Vec<u
 ///
 /// `NoMemory` where memory could not be had.
 #[tactic(auto, unfolding(crate::specs::Touched::touched_by_all))]
-pub fn touched_all(
-    alloc: Global,
-    edits: &[Edit],
-    shape: &Shape,
-) -> Result<Vec<NodeId>, NoMemory>
+pub fn touched_all(alloc: Global, edits: &[Edit], shape: &Shape) -> Result<Vec<NodeId>, NoMemory>
     requires { node_count shape.now < 2 ^ 32 }
     ensures { IfOk result (λ nodes. nodes.items ≡ touched_by_all shape.now edits.now) }
 {
