@@ -1,5 +1,5 @@
 //! The linear form of a table.
-ghost use Rattle.std.specs.Prelude.{◌≡◌, ◌≤◌, ◌++◌, ◌∷◌, [], All, IfErr, IfOk, OnErr, OnOk, length, map, position};
+ghost use Rattle.std.specs.Prelude.{◌≡◌, ◌≤◌, ◌++◌, ◌∷◌, [], All, IfOk, OnErr, OnOk, length, map, position};
 ghost use Rattle.game_types.specs.Sound.{IsSound};
 ghost use Rattle.linear_table.specs.Plans.{IsWellFormed};
 ghost use Rattle.production_table.specs.Answers.{Gives};
@@ -361,19 +361,6 @@ fn linear_with(
     })
 }
 
-// A linear form that is well formed.
-fn well_formed(linear: Linear) -> Result<Linear, TableFault>
-    ensures same { IfOk result (λ same. same ≡ linear) }
-    ensures formed { IfOk result IsWellFormed }
-    ensures memory { IfErr result (λ fault. fault ≡ TableFault.NoMemory) }
-{
-    if linear.is_well_formed() {
-        Ok(linear)
-    } else {
-        Err(TableFault::NoMemory)
-    }
-}
-
 impl Table {
     /// The linear form of the table: the goods that it mentions, a column for each row, import and surplus, and what is
     /// wanted.
@@ -395,6 +382,6 @@ impl Table {
             return Err(TableFault::Full);
         }
         let linear = linear_with(alloc, self, goods, columns.as_slice())?;
-        well_formed(linear)
+        Ok(linear)
     }
 }
