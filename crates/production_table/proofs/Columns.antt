@@ -84,7 +84,7 @@ abbrev pub EachRises : List (List (GoodId × Fraction)) → Type 0
 EachRises [] = Unit {0}
 EachRises (column ∷ columns) = Rises 0 column × EachRises columns
 
-of_row_is : (row : TableRow) (r : Result (List (GoodId × Fraction)) Wide) (column : List (GoodId × Fraction)) → of_row row r ≡ Ok column → r ≡ Ok column
+pub of_row_is : (row : TableRow) (r : Result (List (GoodId × Fraction)) Wide) (column : List (GoodId × Fraction)) → of_row row r ≡ Ok column → r ≡ Ok column
 of_row_is row (Ok c) column h = let same : c ≡ column = cc in ap (λ (qs : List (GoodId × Fraction)). Ok qs) same
 of_row_is row (Err wide) column h = absurd (cc)
 

@@ -15,3 +15,4 @@ pub mod Whole
 pub mod Places
 pub mod Columns
 pub mod WellFormed
+pub mod InGame

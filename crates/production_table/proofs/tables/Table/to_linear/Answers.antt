@@ -4,11 +4,13 @@ use Rattle.fractions.specs.Fraction.{Fraction}
 use Rattle.plan_base.specs.declared.ids.GoodId.{GoodId}
 use Rattle.game_types.proofs.Walks.{returned}
 use Rattle.linear_table.specs.Plans.{IsWellFormed}
+use Rattle.linear_table.specs.declared.Linear.{Linear}
 use Rattle.production_table.specs.declared.faults.TableFault.TheVariants.{NoMemory}
 use Rattle.production_table.specs.declared.tables.TableRow.{TableRow}
 use Rattle.production_table.specs.Linear.{columns_of, linear_with, table_goods}
 use Rattle.production_table.proofs.Forms.{columns_count}
 use Rattle.production_table.proofs.Whole.{rows_fault, too_many, whole}
+use Rattle.production_table.proofs.InGame.{in_game}
 use Rattle.production_table.proofs.WellFormed.{formed}
 use Rattle.production_table.proofs.tables.Table.to_linear.Goals as goal
 
@@ -52,3 +54,11 @@ returns-clause-formed c =
     subst IsWellFormed same
     (formed c.args.game.now c.args.self.now c.in_ok-columns.columns c.in_ok-goods.goods.items c.requires.table made
     (c.in_ok-goods.ensures ∙ ap (λ (columns : List (List (GoodId × Fraction))). table_goods c.args.self.now columns) c.as_slice-2.ensures))
+
+pub returns-clause-goods : goal.returns-clause-goods
+returns-clause-goods c =
+    let made : columns_of c.args.game.now c.args.self.now.power c.args.self.now.rows ≡ Ok c.in_ok-columns.columns
+    = ap (λ (rows : List TableRow). columns_of c.args.game.now c.args.self.now.power rows) (sym c.as_slice.ensures) ∙ c.in_ok-columns.ensures in
+    λ of_game.
+    in_game c.args.game.now c.args.self.now c.in_ok-columns.columns c.in_ok-linear.linear.goods c.requires.sound c.requires.rows of_game made
+    (ap (λ (linear : Linear). linear.goods) c.in_ok-linear.ensures ∙ c.in_ok-goods.ensures ∙ ap (λ (columns : List (List (GoodId × Fraction))). table_goods c.args.self.now columns) c.as_slice-2.ensures)
