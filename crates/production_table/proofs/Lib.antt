@@ -16,3 +16,4 @@ pub mod Places
 pub mod Columns
 pub mod WellFormed
 pub mod InGame
+pub mod StaysInGame
