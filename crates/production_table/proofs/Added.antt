@@ -1,9 +1,9 @@
 -- A row that comes in.
-use Rattle.std.proofs.Common.{◌≡◌, ◌∙◌, ◌<◌, ◌++◌, ℕ, suc, List, [], ◌∷◌, length, refl, sym, ap, subst, arith}
+use Rattle.std.proofs.Common.{◌≡◌, ◌∙◌, ◌<◌, ◌++◌, ℕ, List, [], ◌∷◌, length, refl, sym, ap, subst, arith}
 use Rattle.std.specs.Prelude.{Bool, true, false, not, nat_lt, ◌≢◌, Result, Ok, Err}
-use Rattle.std.specs.List.{insert, list_any}
+use Rattle.std.specs.List.{insert}
 use Rattle.std.proofs.lemmas.Bool.Decides.{nat_tests}
-use Rattle.fractions.specs.Fraction.{zero_fraction, ◌≤ʳ◌}
+use Rattle.fractions.specs.Fraction.{zero_fraction}
 use Rattle.fractions.proofs.Order.{≤ʳ_refl}
 use Rattle.game_types.specs.declared.setups.Setup.{Setup}
 use Rattle.game_types.specs.declared.games.Game.{Game}
@@ -17,7 +17,7 @@ use Rattle.production_table.specs.declared.tables.TableRow.{TableRow}
 use Rattle.production_table.specs.Answers.{Outcome}
 use Rattle.production_table.specs.Changes.{in_table, is_used, new_row, row_fits, with_row, ChangesInMemory}
 use Rattle.production_table.specs.Numbers.{guard, is_full}
-use Rattle.production_table.specs.Tables.{is_label, IsSoundTable}
+use Rattle.production_table.specs.Tables.{IsSoundTable}
 use Rattle.production_table.proofs.Sound.{sound_push}
 
 -- what is known of a row that can come in

@@ -1,6 +1,6 @@
 -- The loops of linear forms.
-use Rattle.std.proofs.Common.{◌≡◌, ◌∙◌, ◌<◌, ◌≤◌, ◌+◌, ◌++◌, ℕ, List, [], ◌∷◌, length, drop, arith, append_assoc, refl, sym, ap, subst}
-use Rattle.std.specs.Prelude.{◌≢◌, map, Bool, true, false, Result, Ok, Err, if◌then◌else◌}
+use Rattle.std.proofs.Common.{◌≡◌, ◌∙◌, ◌≤◌, ◌+◌, ◌++◌, ℕ, List, [], ◌∷◌, length, drop, arith, append_assoc, refl, sym, ap, subst}
+use Rattle.std.specs.Prelude.{◌≢◌, map, Bool, true, false, Ok, Err, if◌then◌else◌}
 use Rattle.fractions.specs.Fraction.{Fraction}
 use Rattle.plan_base.specs.declared.ids.GoodId.{GoodId}
 use Rattle.game_types.specs.declared.games.Game.{Game}

@@ -12,3 +12,8 @@ pub mod RowsBack
 pub mod Goods
 pub mod Forms
 pub mod Whole
+pub mod Places
+pub mod Columns
+pub mod WellFormed
+pub mod InGame
+pub mod StaysInGame

@@ -1,13 +1,13 @@
 -- Numbers of goods in order.
-use Rattle.std.proofs.Common.{◌≡◌, ◌∙◌, ◌<◌, ◌≤◌, ◌+◌, ℕ, zero, suc, List, [], ◌∷◌, length, drop, take, refl, sym, ap, subst, arith}
-use Rattle.std.specs.Prelude.{Bool, true, false, cond, nat_lt, ◌==◌, Option, Some, None, not, position, slice_get, slice_set, if◌then◌else◌}
+use Rattle.std.proofs.Common.{◌≡◌, ◌∙◌, ◌<◌, ◌≤◌, ◌+◌, ℕ, zero, suc, List, [], ◌∷◌, length, drop, take, refl, sym, ap, arith}
+use Rattle.std.specs.Prelude.{Bool, true, false, cond, nat_lt, ◌==◌, Some, None, not, position, slice_get, slice_set, if◌then◌else◌}
 use Rattle.std.specs.List.{insert, position_or_len, remove}
 use Rattle.std.proofs.lemmas.Bool.Decides.{nat_tests}
 use Rattle.fractions.specs.Fraction.{Fraction}
 use Rattle.plan_base.specs.declared.ids.GoodId.{GoodId}
 use Rattle.game_types.proofs.Walks.{drop_all}
 use Rattle.production_table.specs.Numbers.{is_pair_of, number_of, with_number, without_number}
-use Rattle.table_rows.specs.Places.{has_at, is_of, AllBelow, IsPlace, StartsFrom}
+use Rattle.table_rows.specs.Places.{has_at, AllBelow, IsPlace, StartsFrom}
 use Rattle.table_rows.proofs.Parts.{first_branch, second_branch, third_branch, has_place}
 
 -- ---- the number of a good, looked for from the front

@@ -1,15 +1,15 @@
 -- Changes of numbers leave them in order, few, and of the right sign.
-use Rattle.std.proofs.Common.{◌≡◌, ◌∙◌, ◌<◌, ◌≤◌, ◌+◌, ℕ, List, [], ◌∷◌, length, refl, sym, ap, subst, arith}
-use Rattle.std.specs.Prelude.{All, Bool, true, false, ◌&&◌, not, is_none, nat_lt, ◌==◌, Option, Some, None, Result, Ok, Err, if◌then◌else◌}
+use Rattle.std.proofs.Common.{◌≡◌, ◌<◌, ◌≤◌, ◌+◌, ℕ, List, [], ◌∷◌, length, refl, subst, arith}
+use Rattle.std.specs.Prelude.{All, Bool, true, false, ◌&&◌, not, is_none, nat_lt, ◌==◌, Option, Some, None, Ok, Err, if◌then◌else◌}
 use Rattle.std.proofs.lemmas.Bool.Decides.{nat_tests}
 use Rattle.std.proofs.lemmas.List.Elements.{All-head, All-tail, All-cons}
 use Rattle.fractions.specs.Fraction.{Fraction, zero_fraction, ◌≤ʳ◌, ◌<ʳ◌}
 use Rattle.plan_base.specs.declared.ids.GoodId.{GoodId}
 use Rattle.game_types.specs.Steps.{◌▸◌}
 use Rattle.production_table.specs.declared.faults.TableFault.{TableFault}
-use Rattle.production_table.specs.declared.faults.TableFault.TheVariants.{Full, Negative, Unknown}
+use Rattle.production_table.specs.declared.faults.TableFault.TheVariants.{Full, Negative}
 use Rattle.production_table.specs.Answers.{Outcome}
-use Rattle.production_table.specs.Numbers.{guard, is_full, is_negative, is_zero, lacks, no_room, number_of, or_nothing, price_fits, put_or_take, repriced, rewanted, want_fits, with_number, without_number}
+use Rattle.production_table.specs.Numbers.{guard, is_full, is_negative, is_zero, no_room, number_of, price_fits, put_or_take, repriced, rewanted, want_fits, with_number, without_number}
 use Rattle.production_table.specs.Tables.{Rises}
 use Rattle.production_table.proofs.Signs.{nonneg_is, positive_is}
 

@@ -1,5 +1,5 @@
 -- A table whose numbers of goods change.
-use Rattle.std.proofs.Common.{◌≡◌, ◌∙◌, List, refl, sym, ap, subst}
+use Rattle.std.proofs.Common.{◌≡◌, List, refl, sym, ap, subst}
 use Rattle.std.specs.Prelude.{◌≢◌, Option, Result, Ok, Err}
 use Rattle.fractions.specs.Fraction.{Fraction, zero_fraction, ◌≤ʳ◌, ◌<ʳ◌}
 use Rattle.plan_base.specs.declared.ids.GoodId.{GoodId}

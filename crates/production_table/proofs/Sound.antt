@@ -1,10 +1,10 @@
 -- Changes leave tables well formed.
-use Rattle.std.proofs.Common.{◌≡◌, ◌<◌, ◌≤◌, ◌++◌, ◌+◌, ℕ, suc, List, [], ◌∷◌, length, take, drop, sym, ap, subst, arith, length-append}
-use Rattle.std.specs.Prelude.{All, Option, Some, None, slice_get, slice_set, false}
+use Rattle.std.proofs.Common.{◌≡◌, ◌<◌, ◌≤◌, ◌++◌, ◌+◌, ℕ, suc, List, [], ◌∷◌, length, take, drop, arith}
+use Rattle.std.specs.Prelude.{All, Some, slice_get, slice_set, false}
 use Rattle.std.specs.List.{insert, list_any, remove}
 use Rattle.std.proofs.lemmas.Grind.{common_steps}
 use Rattle.std.proofs.lemmas.List.Elements.{All-take, All-drop, All-append, All-cons, All-set}
-use Rattle.fractions.specs.Fraction.{Fraction, zero_fraction, ◌≤ʳ◌}
+use Rattle.fractions.specs.Fraction.{zero_fraction, ◌≤ʳ◌}
 use Rattle.production_table.specs.declared.tables.Table.{Table}
 use Rattle.production_table.specs.declared.tables.TableRow.{TableRow}
 use Rattle.production_table.specs.Changes.{HasRoom}

@@ -1,6 +1,6 @@
 -- What a change of numbers answers undoes it.
-use Rattle.std.proofs.Common.{◌≡◌, ◌∙◌, ◌<◌, ◌≤◌, ◌+◌, ℕ, List, [], ◌∷◌, length, refl, sym, ap, subst, arith, inl, inr}
-use Rattle.std.specs.Prelude.{◌⊎◌, ◌≢◌, All, Bool, true, false, ◌&&◌, not, is_none, nat_lt, ◌==◌, Option, Some, None, Result, Ok, Err, if◌then◌else◌}
+use Rattle.std.proofs.Common.{◌≡◌, ◌∙◌, ◌<◌, ◌+◌, ℕ, List, [], ◌∷◌, length, refl, sym, ap, subst, arith, inl, inr}
+use Rattle.std.specs.Prelude.{◌⊎◌, ◌≢◌, All, Bool, true, false, ◌&&◌, not, is_none, nat_lt, ◌==◌, Option, Some, None, Ok, Err, if◌then◌else◌}
 use Rattle.std.proofs.lemmas.Bool.Decides.{nat_tests}
 use Rattle.std.proofs.lemmas.List.Elements.{All-head, All-tail}
 use Rattle.fractions.specs.Fraction.{Fraction, zero_fraction, ◌≤ʳ◌, ◌<ʳ◌}
@@ -14,7 +14,7 @@ use Rattle.production_table.specs.Numbers.{guard, is_full, is_negative, is_zero,
 use Rattle.production_table.specs.Tables.{Rises}
 use Rattle.production_table.proofs.Pairs.{same_parts}
 use Rattle.production_table.proofs.NumberLemmas.{put_behind}
-use Rattle.production_table.proofs.NumberSound.{lower, number_below, IsSoundList}
+use Rattle.production_table.proofs.NumberSound.{number_below, IsSoundList}
 use Rattle.production_table.proofs.Signs.{not_negative, positive_not_zero, zero_not_negative, zero_of}
 use Rattle.table_rows.proofs.Parts.{first_branch, second_branch}
 

@@ -1,6 +1,6 @@
 -- The linear form of a table, as far as it is made.
 use Rattle.std.proofs.Common.{◌≡◌, ◌∙◌, ◌<◌, ◌≤◌, ℕ, List, length, refl, sym, ap, subst, arith}
-use Rattle.std.specs.Prelude.{◌≢◌, Bool, true, false, nat_lt, Result, Ok, Err, IfErr, IfOk, if◌then◌else◌}
+use Rattle.std.specs.Prelude.{◌≢◌, Bool, true, false, nat_lt, Ok, Err, if◌then◌else◌}
 use Rattle.std.proofs.lemmas.Bool.Decides.{nat_tests}
 use Rattle.fractions.specs.Fraction.{Fraction}
 use Rattle.plan_base.specs.declared.ids.GoodId.{GoodId}
@@ -38,7 +38,3 @@ too_many g t columns goods h e k =
 pub whole : (g : Game) (t : Table) (columns : List (List (GoodId × Fraction))) (goods : List GoodId) → columns_of g t.power t.rows ≡ Ok columns → goods ≡ table_goods t columns → length goods ≤ 512 → linear_of g t ≡ Ok (linear_with t goods columns)
 whole g t columns goods h e k =
     start g t columns h ∙ ap (λ (gs : List GoodId). few_enough t columns gs) (sym e) ∙ few (length goods) (nat_lt 512 (length goods)) (linear_with t goods columns) refl k
-
-pub ends : (meant : Outcome Linear) (linear : Linear) (r : Outcome Linear) → meant ≡ Ok linear → IfOk r (λ same. same ≡ linear) → IfErr r (λ fault. fault ≡ NoMemory) → Gives meant r
-ends meant linear (Ok same) h e k = h ∙ ap (λ (l : Linear). Ok l) (sym e)
-ends meant linear (Err fault) h e k = λ (not_memory : fault ≢ NoMemory). absurd (not_memory k)

@@ -1,5 +1,5 @@
 -- What a table's plans say of electricity and of technologies.
-use Rattle.std.specs.Prelude.{◌≡◌, ℕ, ◌+◌, ◌==◌, take, drop, if◌then◌else◌, List, [], ◌∷◌, Option, Some, None, Result, Ok, Err, length, slice_get}
+use Rattle.std.specs.Prelude.{◌≡◌, ◌+◌, ◌==◌, take, drop, if◌then◌else◌, List, [], ◌∷◌, Result, Ok, Err, length}
 use Rattle.fractions.specs.Fraction.{Fraction, zero_fraction, one_fraction, ◌+ʳ◌, ◌*ʳ◌}
 use Rattle.plan_base.specs.declared.ids.GoodId.{GoodId}
 use Rattle.plan_base.specs.declared.ids.TechId.{TechId}
@@ -12,13 +12,12 @@ use Rattle.game_types.specs.Beacons.{beacon_power_of}
 use Rattle.game_types.specs.Goods.{electricity, units_good}
 use Rattle.game_types.specs.Steps.{◌▸◌}
 use Rattle.linear_table.specs.declared.Linear.{Linear}
-use Rattle.linear_table.specs.Plans.{IsPlan, number_at}
 use Rattle.power_rows.specs.Power.{draw_of}
 use Rattle.table_rows.specs.declared.rates.RowRates.{RowRates}
 use Rattle.production_table.specs.declared.tables.Table.{Table}
 use Rattle.production_table.specs.declared.tables.TableRow.{TableRow}
 use Rattle.table_rows.specs.Columns.{row_rates_of}
-use Rattle.production_table.specs.Linear.{linear_of, want_of}
+use Rattle.production_table.specs.Linear.{want_of}
 
 -- rates of rows, each times what a row has of something, summed
 abbrev pub weighted : (TableRow → Fraction) → List TableRow → List Fraction → Fraction

@@ -1,8 +1,7 @@
 -- What each change makes of a table and what it answers, which is what undoes it; and when it is refused, in that order. After
 -- a refusal the table is as it was.
-use Rattle.std.specs.Prelude.{◌≡◌, ◌≢◌, ℕ, ◌+◌, ◌<◌, ◌≤◌, ◌==◌, Bool, true, false, nat_lt, List, [], ◌∷◌, ◌++◌, length, Option, Some, None, Result, Ok, Err, if◌then◌else◌, ◌&&◌, not, is_none, slice_get, slice_set}
+use Rattle.std.specs.Prelude.{◌≡◌, ◌≢◌, ℕ, ◌<◌, ◌≤◌, Bool, false, List, [], ◌∷◌, ◌++◌, length, Option, Some, None, Result, Ok, Err, slice_get, slice_set}
 use Rattle.std.specs.List.{insert, list_any, position_or_len, remove}
-use Rattle.std.specs.Prelude.{ℤ, pos, negsuc}
 use Rattle.fractions.specs.Fraction.{Fraction, zero_fraction, ◌≤ʳ◌}
 use Rattle.plan_base.specs.declared.ids.GoodId.{GoodId}
 use Rattle.game_types.specs.declared.setups.Setup.{Setup}

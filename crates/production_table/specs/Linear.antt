@@ -6,11 +6,9 @@ use Rattle.plan_base.specs.declared.ids.GoodId.{GoodId}
 use Rattle.game_types.specs.declared.effects.Wide.{Wide}
 use Rattle.game_types.specs.declared.games.Game.{Game}
 use Rattle.game_types.specs.Steps.{◌▸◌}
-use Rattle.linear_table.specs.declared.Column.{Column}
 use Rattle.linear_table.specs.declared.Column.TheVariants.{Line, Import, Surplus}
 use Rattle.linear_table.specs.declared.Linear.{Linear}
 use Rattle.linear_table.specs.declared.LinearColumn.{LinearColumn}
-use Rattle.production_table.specs.declared.faults.TableFault.{TableFault}
 use Rattle.production_table.specs.declared.faults.TableFault.TheVariants.{Wide as WideRow, Full}
 use Rattle.production_table.specs.declared.tables.Table.{Table}
 use Rattle.production_table.specs.declared.tables.TableRow.{TableRow}

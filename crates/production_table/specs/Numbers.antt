@@ -1,6 +1,6 @@
 -- Numbers of goods, in the order of goods: what is wanted of each, and the prices of what may come in and go out. What each
 -- change makes of them, when it is refused, and what it answers, which undoes it.
-use Rattle.std.specs.Prelude.{◌≡◌, ◌≢◌, ℕ, ◌==◌, ◌&&◌, Bool, true, false, not, nat_lt, is_none, ℤ, pos, negsuc, List, [], ◌∷◌, length, Option, Some, None, Result, Ok, Err, if◌then◌else◌}
+use Rattle.std.specs.Prelude.{◌≡◌, ◌≢◌, ◌==◌, ◌&&◌, Bool, true, false, not, nat_lt, is_none, ℤ, pos, negsuc, List, [], ◌∷◌, length, Option, Some, None, Result, Ok, Err, if◌then◌else◌}
 use Rattle.fractions.specs.Fraction.{Fraction, zero_fraction}
 use Rattle.plan_base.specs.declared.ids.GoodId.{GoodId}
 use Rattle.game_types.specs.Steps.{◌▸◌}

@@ -1,9 +1,11 @@
 -- When a table is well formed.
-use Rattle.std.specs.Prelude.{◌≡◌, ℕ, ◌+◌, ◌≤◌, Bool, false, List, [], ◌∷◌, map, length, All}
+use Rattle.std.specs.Prelude.{◌≡◌, ℕ, ◌+◌, ◌<◌, ◌≤◌, Bool, false, List, [], ◌∷◌, map, length, All}
 use Rattle.std.specs.List.{list_any}
 use Rattle.std.specs.Str.{bytes_eq}
 use Rattle.fractions.specs.Fraction.{Fraction, zero_fraction, ◌≤ʳ◌, ◌<ʳ◌}
 use Rattle.plan_base.specs.declared.ids.GoodId.{GoodId}
+use Rattle.game_types.specs.declared.games.Game.{Game}
+use Rattle.game_types.specs.Goods.{good_count}
 use Rattle.production_table.specs.declared.tables.Table.{Table}
 use Rattle.production_table.specs.declared.tables.TableRow.{TableRow}
 
@@ -39,3 +41,9 @@ pub record IsSoundTable (t : Table) : Type 0 where
   pub few_wants : length t.wants ≤ 512
   pub few_imports : length t.imports ≤ 512
   pub few_surpluses : length t.surpluses ≤ 512
+
+-- the goods that a table names are of a game: items, fluids, electricity and units of technologies
+pub record IsOfGame (g : Game) (t : Table) : Type 0 where
+  pub wants : All (λ want. want.0.0 < good_count g) t.wants
+  pub imports : All (λ import_. import_.0.0 < good_count g) t.imports
+  pub surpluses : All (λ surplus. surplus.0.0 < good_count g) t.surpluses

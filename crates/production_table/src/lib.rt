@@ -9,5 +9,5 @@ mod numbers;
 mod tables;
 
 pub use faults::TableFault;
-pub use laws::changes_are_undone;
+pub use laws::{changes_are_undone, changes_stay_in_game};
 pub use tables::{LIMIT, Table, TableRow};

@@ -1,10 +1,11 @@
 //! The linear form of a table.
-ghost use Rattle.std.specs.Prelude.{◌≡◌, ◌≤◌, ◌++◌, ◌∷◌, [], All, IfErr, IfOk, OnErr, OnOk, length, map, position};
+ghost use Rattle.std.specs.Prelude.{◌≡◌, ◌<◌, ◌≤◌, ◌++◌, ◌∷◌, [], All, IfOk, OnErr, OnOk, length, map, position};
+ghost use Rattle.game_types.specs.Goods.{good_count};
 ghost use Rattle.game_types.specs.Sound.{IsSound};
 ghost use Rattle.linear_table.specs.Plans.{IsWellFormed};
 ghost use Rattle.production_table.specs.Answers.{Gives};
 ghost use Rattle.production_table.specs.Linear.{columns_of, import_column, is_not_below, is_numbered, linear_of, linear_with, of_row, parts_at, place_in, row_column, row_columns, surplus_column, table_goods, want_of, with_columns, with_good, with_goods};
-ghost use Rattle.production_table.specs.Tables.{IsSoundTable};
+ghost use Rattle.production_table.specs.Tables.{IsOfGame, IsSoundTable};
 ghost use Rattle.table_rows.specs.Columns.{column_of};
 ghost use Rattle.table_rows.specs.Setups.{IsFitting};
 
@@ -361,19 +362,6 @@ fn linear_with(
     })
 }
 
-// A linear form that is well formed.
-fn well_formed(linear: Linear) -> Result<Linear, TableFault>
-    ensures same { IfOk result (λ same. same ≡ linear) }
-    ensures formed { IfOk result IsWellFormed }
-    ensures memory { IfErr result (λ fault. fault ≡ TableFault.NoMemory) }
-{
-    if linear.is_well_formed() {
-        Ok(linear)
-    } else {
-        Err(TableFault::NoMemory)
-    }
-}
-
 impl Table {
     /// The linear form of the table: the goods that it mentions, a column for each row, import and surplus, and what is
     /// wanted.
@@ -388,6 +376,7 @@ impl Table {
         requires rows { All (λ row. IsFitting game.now row.setup) self.now.rows }
         ensures linear { Gives (linear_of game.now self.now) result }
         ensures formed { IfOk result IsWellFormed }
+        ensures goods { IsOfGame game.now self.now → IfOk result (λ linear. All (λ good. good.0 < good_count game.now) linear.goods) }
     {
         let columns = columns_of(alloc, game, self.power, self.rows.as_slice())?;
         let goods = goods_of(alloc, self, columns.as_slice())?;
@@ -395,6 +384,6 @@ impl Table {
             return Err(TableFault::Full);
         }
         let linear = linear_with(alloc, self, goods, columns.as_slice())?;
-        well_formed(linear)
+        Ok(linear)
     }
 }

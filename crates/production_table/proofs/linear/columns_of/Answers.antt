@@ -1,4 +1,4 @@
-use Rattle.std.proofs.Common.{◌≡◌, ◌∙◌, ◌++◌, ◌+◌, List, drop, sym, ap}
+use Rattle.std.proofs.Common.{◌∙◌, ◌++◌, ◌+◌, List, drop, sym, ap}
 use Rattle.std.specs.Prelude.{Ok}
 use Rattle.fractions.specs.Fraction.{Fraction}
 use Rattle.plan_base.specs.declared.ids.GoodId.{GoodId}

@@ -1,4 +1,4 @@
-use Rattle.std.proofs.Common.{◌≡◌, ◌∙◌, ◌++◌, ◌+◌, List, drop, sym, ap}
+use Rattle.std.proofs.Common.{◌∙◌, ◌++◌, ◌+◌, List, drop, sym, ap}
 use Rattle.std.specs.Prelude.{ℕ}
 use Rattle.fractions.specs.Fraction.{Fraction}
 use Rattle.game_types.proofs.Walks.{next}

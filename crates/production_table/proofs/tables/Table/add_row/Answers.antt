@@ -1,4 +1,4 @@
-use Rattle.std.proofs.Common.{◌≡◌, sym}
+use Rattle.std.proofs.Common.{sym}
 use Rattle.game_types.proofs.Walks.{returned}
 use Rattle.production_table.specs.Changes.{new_row}
 use Rattle.production_table.proofs.Added.{added_fault, added_is, added_rows, added_sound}

@@ -1,5 +1,5 @@
 use Rattle.std.proofs.Common.{◌≡◌, ◌∙◌, List, refl, sym, ap, subst}
-use Rattle.std.specs.Prelude.{Bool, true, false, IsTrue, ◌↔◌, Ok, Some, slice_get, slice_set}
+use Rattle.std.specs.Prelude.{Bool, true, false, IsTrue, ◌↔◌, Ok, slice_get, slice_set}
 use Rattle.fractions.specs.Fraction.{Fraction, zero_fraction, ◌≤ʳ◌, ◌<ʳ◌}
 use Rattle.fractions.proofs.Order.{≤ʳ_from_not_<ʳ}
 use Rattle.production_table.specs.declared.tables.TableRow.{TableRow}

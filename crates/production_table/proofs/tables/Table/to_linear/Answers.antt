@@ -1,13 +1,17 @@
 use Rattle.std.proofs.Common.{◌≡◌, ◌∙◌, ◌<◌, ◌≤◌, List, length, sym, ap, subst, arith, rules}
-use Rattle.std.specs.Prelude.{◌≢◌, Err, Ok}
+use Rattle.std.specs.Prelude.{◌≢◌, Ok}
 use Rattle.fractions.specs.Fraction.{Fraction}
 use Rattle.plan_base.specs.declared.ids.GoodId.{GoodId}
 use Rattle.game_types.proofs.Walks.{returned}
+use Rattle.linear_table.specs.Plans.{IsWellFormed}
+use Rattle.linear_table.specs.declared.Linear.{Linear}
 use Rattle.production_table.specs.declared.faults.TableFault.TheVariants.{NoMemory}
 use Rattle.production_table.specs.declared.tables.TableRow.{TableRow}
 use Rattle.production_table.specs.Linear.{columns_of, linear_with, table_goods}
 use Rattle.production_table.proofs.Forms.{columns_count}
-use Rattle.production_table.proofs.Whole.{ends, rows_fault, too_many, whole}
+use Rattle.production_table.proofs.Whole.{rows_fault, too_many, whole}
+use Rattle.production_table.proofs.InGame.{in_game}
+use Rattle.production_table.proofs.WellFormed.{formed}
 use Rattle.production_table.proofs.tables.Table.to_linear.Goals as goal
 
 pub returns-in_err-columns-clause-linear : goal.returns-in_err-columns-clause-linear
@@ -39,4 +43,22 @@ returns-clause-linear c =
     (c.in_ok-goods.ensures ∙ ap (λ (columns : List (List (GoodId × Fraction))). table_goods c.args.self.now columns) c.as_slice-2.ensures) near in
     let same : linear_with c.args.self.now c.in_ok-goods.goods.items c.in_ok-columns.columns ≡ c.in_ok-linear.linear
     = sym (c.in_ok-linear.ensures ∙ ap (λ (columns : List (List (GoodId × Fraction))). linear_with c.args.self.now c.in_ok-goods.goods.items columns) c.as_slice-3.ensures) in
-    ends _ c.in_ok-linear.linear c.well_formed-2.result (is ∙ ap Ok same) c.well_formed-2.ensures.same c.well_formed-2.ensures.memory
+    is ∙ ap Ok same
+
+pub returns-clause-formed : goal.returns-clause-formed
+returns-clause-formed c =
+    let made : columns_of c.args.game.now c.args.self.now.power c.args.self.now.rows ≡ Ok c.in_ok-columns.columns
+    = ap (λ (rows : List TableRow). columns_of c.args.game.now c.args.self.now.power rows) (sym c.as_slice.ensures) ∙ c.in_ok-columns.ensures in
+    let same : linear_with c.args.self.now c.in_ok-goods.goods.items c.in_ok-columns.columns ≡ c.in_ok-linear.linear
+    = sym (c.in_ok-linear.ensures ∙ ap (λ (columns : List (List (GoodId × Fraction))). linear_with c.args.self.now c.in_ok-goods.goods.items columns) c.as_slice-3.ensures) in
+    subst IsWellFormed same
+    (formed c.args.game.now c.args.self.now c.in_ok-columns.columns c.in_ok-goods.goods.items c.requires.table made
+    (c.in_ok-goods.ensures ∙ ap (λ (columns : List (List (GoodId × Fraction))). table_goods c.args.self.now columns) c.as_slice-2.ensures))
+
+pub returns-clause-goods : goal.returns-clause-goods
+returns-clause-goods c =
+    let made : columns_of c.args.game.now c.args.self.now.power c.args.self.now.rows ≡ Ok c.in_ok-columns.columns
+    = ap (λ (rows : List TableRow). columns_of c.args.game.now c.args.self.now.power rows) (sym c.as_slice.ensures) ∙ c.in_ok-columns.ensures in
+    λ of_game.
+    in_game c.args.game.now c.args.self.now c.in_ok-columns.columns c.in_ok-linear.linear.goods c.requires.sound c.requires.rows of_game made
+    (ap (λ (linear : Linear). linear.goods) c.in_ok-linear.ensures ∙ c.in_ok-goods.ensures ∙ ap (λ (columns : List (List (GoodId × Fraction))). table_goods c.args.self.now columns) c.as_slice-2.ensures)
