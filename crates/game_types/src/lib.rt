@@ -19,8 +19,6 @@ mod refusals;
 mod research;
 mod setups;
 pub mod steps;
-#[cfg(test)]
-mod tests;
 
 pub use choices::{choice_of, is_within};
 pub use effects::{Allowed, BeaconSum, Bonus, EffectKind, Effects, Rates, Wide};
