@@ -5,8 +5,6 @@ mod fault;
 mod goods;
 mod recipes;
 mod technologies;
-#[cfg(test)]
-mod tests;
 
 pub use fault::{DumpCode, DumpFault};
 pub use goods::{

@@ -20,8 +20,6 @@ mod research;
 mod setups;
 pub mod steps;
 mod table_goods;
-#[cfg(test)]
-mod tests;
 
 pub use choices::{choice_of, is_within};
 pub use effects::{Allowed, BeaconSum, Bonus, EffectKind, Effects, Rates, Wide};

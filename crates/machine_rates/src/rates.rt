@@ -11,9 +11,6 @@ use game_types::{
     Activity, Effects, Energy, Fuel, Game, Machine, MachineKind, Product, Rates, Setup, Wide,
 };
 
-#[cfg(test)]
-mod tests;
-
 // The seconds of one craft at a speed of 1.
 fn craft_time(game: &Game, activity: &Activity) -> Ratio
     requires { IsSoundActivity game.now activity.now }

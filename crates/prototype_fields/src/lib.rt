@@ -6,8 +6,6 @@ mod fields;
 mod lists;
 mod names;
 mod numbers;
-#[cfg(test)]
-mod tests;
 mod trees;
 
 pub use fault::{FieldCode, FieldFault};
