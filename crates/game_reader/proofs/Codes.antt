@@ -25,7 +25,9 @@ use Rattle.game_types.specs.Nodes.{shape_of}
 use Rattle.game_types.specs.declared.games.TheConstants.{NODE_LIMIT}
 use Rattle.rocket_launches.specs.Launches.{flight_beyond, flight_taken, launch_fault, unless_some, with_launches}
 use Rattle.rocket_launches.specs.declared.silos.Flight.{Flight}
-use Rattle.fluid_variants.specs.Variants.{first_twice, first_variant_name, split, too_many_variants, unless_named, with_variants, within_limit}
+use Rattle.fluid_variants.specs.Naming.{first_twice}
+use Rattle.fluid_variants.specs.Split.{split}
+use Rattle.fluid_variants.specs.Variants.{first_variant_name, too_many_variants, unless_named, with_variants, within_limit}
 use Rattle.game_reader.specs.Games.{Gives, HasDraft, HasFault, HasFaultOf, HasGame, finished, game_of, resolved}
 use Rattle.game_reader.specs.Keys.{dump_wishes}
 use Rattle.game_reader.specs.Links.{each_linked, families_of, linked, linked_item, linked_machine, linked_recipe, linked_source, linked_tech}
