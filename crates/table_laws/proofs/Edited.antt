@@ -1,5 +1,5 @@
 -- What an edit leaves of a game is as good for a set-up.
-use Rattle.std.proofs.Common.{◌≡◌, ℕ, zero, suc, List, [], ◌∷◌, length, refl, sym, subst}
+use Rattle.std.proofs.Common.{◌≡◌, ◌∙◌, ◌+◌, ◌<◌, ℕ, zero, suc, List, [], ◌∷◌, length, refl, sym, ap, subst}
 use Rattle.std.specs.Prelude.{All, Bool, true, false, not, ◌&&◌, ◌==◌, Option, Some, None, Ok, Err, nat_lt, slice_get, slice_index_or, if◌then◌else◌}
 use Rattle.std.specs.List.{list_all}
 use Rattle.std.proofs.lemmas.List.{length-set}
@@ -11,7 +11,10 @@ use Rattle.game_types.specs.declared.recipes.Part.{Part}
 use Rattle.game_types.specs.declared.recipes.Recipe.{Recipe}
 use Rattle.game_types.specs.declared.research.Tech.{Tech}
 use Rattle.game_types.specs.declared.setups.Setup.{Setup}
+use Rattle.game_types.specs.Goods.{good_count, solid_and_fluid}
 use Rattle.game_types.specs.Lookups.{no_recipe}
+use Rattle.production_table.specs.declared.tables.Table.{Table}
+use Rattle.production_table.specs.Tables.{IsOfGame}
 use Rattle.research_rows.specs.Research.{no_tech}
 use Rattle.table_rows.specs.Setups.{has_fit, IsFitting}
 use Rattle.data_edit.specs.declared.books.Book.{Book}
@@ -223,3 +226,23 @@ edit_kept edit old new setup e fitting =
     let same : restored one.0 old ≡ new = cc in
     subst (λ (book : Book). IsFitting book.game setup) same
     (part_kept one.0 old setup (part_fits (has_fit old.game setup) edit old one.0 (λ good amount. always_fits old.game setup.at good.0) one.1) fitting)
+
+-- ---- as many goods
+counts_same : (part : Inverse) (book : Book) → good_count (restored part book).game ≡ good_count book.game
+counts_same (OfRecipe recipe part) book = refl
+counts_same (Unlocks tech list) book = ap (λ (n : ℕ). solid_and_fluid book.game + 1 + n) (length-with_at (with_unlocks list) tech.0 book.game.techs)
+counts_same (Barred node on) book = refl
+counts_same (Granted node on) book = refl
+
+pub goods_kept : (edit : Edit) (old new : Book) (t : Table) → effect edit old ≡ Ok new → IsOfGame old.game t → IsOfGame new.game t
+unfolding effect
+goods_kept edit old new t e of_game =
+    let one = bind_ok (replacement edit old) (λ part. Ok (restored part old)) new e in
+    let last : Ok (restored one.0 old) ≡ Ok new = one.2 in
+    let same : restored one.0 old ≡ new = cc in
+    let count : good_count old.game ≡ good_count new.game = sym (counts_same one.0 old) ∙ ap (λ (book : Book). good_count book.game) same in
+    record {
+      wants = subst (λ (n : ℕ). All (λ want. want.0.0 < n) t.wants) count of_game.wants;
+      imports = subst (λ (n : ℕ). All (λ import_. import_.0.0 < n) t.imports) count of_game.imports;
+      surpluses = subst (λ (n : ℕ). All (λ surplus. surplus.0.0 < n) t.surpluses) count of_game.surpluses;
+    }

@@ -3,4 +3,4 @@
 
 mod laws;
 
-pub use laws::fitting_rows_stay;
+pub use laws::{fitting_rows_stay, goods_stay};
