@@ -17,3 +17,4 @@ pub mod Columns
 pub mod WellFormed
 pub mod InGame
 pub mod StaysInGame
+pub mod Search

@@ -6,15 +6,11 @@ use Rattle.std.proofs.lemmas.Bool.Decides.{nat_tests}
 use Rattle.fractions.specs.Fraction.{Fraction}
 use Rattle.plan_base.specs.declared.ids.GoodId.{GoodId}
 use Rattle.linear_table.specs.Plans.{Rises as PlacesRise}
-use Rattle.production_table.specs.Linear.{is_numbered, or_first, parts_at, place_in, with_columns, with_good, with_goods}
+use Rattle.production_table.specs.Linear.{is_good_at, is_numbered, or_first, parts_at, place_in, with_columns, with_good, with_goods}
 use Rattle.production_table.specs.Numbers.{is_zero}
-use Rattle.production_table.specs.Tables.{Rises}
+use Rattle.production_table.specs.Tables.{GoodsRise, Rises}
 
--- ---- goods that rise, from this one on
-abbrev pub GoodsRise : ℕ → List GoodId → Type 0
-GoodsRise low [] = Unit {0}
-GoodsRise low (g ∷ goods) = (low ≤ g.0) × GoodsRise (g.0 + 1) goods
-
+-- ---- goods that rise
 -- a good is among them
 abbrev pub Has : List GoodId → ℕ → Type 0
 Has [] good = ⊥
@@ -116,7 +112,7 @@ spot_test : (m n : ℕ) (b : Bool) → m ≡ n → ◌≡◌ {A = ℕ} (cond (no
 spot_test m n true h = refl
 spot_test m n false h = omega arith
 
-spot_is : (x : ℕ) (goods : List GoodId) → position_or_len (is_numbered x) goods ≡ spot x goods
+pub spot_is : (x : ℕ) (goods : List GoodId) → position_or_len (is_numbered x) goods ≡ spot x goods
 spot_is x [] = refl
 spot_is x (g ∷ goods) = spot_test (position_or_len (is_numbered x) goods) (spot x goods) (g.0 == x) (spot_is x goods)
 

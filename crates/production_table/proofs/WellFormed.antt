@@ -16,9 +16,9 @@ use Rattle.production_table.specs.declared.tables.Table.{Table}
 use Rattle.production_table.specs.declared.tables.TableRow.{TableRow}
 use Rattle.production_table.specs.Linear.{columns_of, import_column, linear_with, or_none, place_in, row_column, row_columns, surplus_column, table_goods, want_of, with_columns, with_goods}
 use Rattle.production_table.specs.Numbers.{number_of}
-use Rattle.production_table.specs.Tables.{IsSoundTable, Rises}
+use Rattle.production_table.specs.Tables.{GoodsRise, IsSoundTable, Rises}
 use Rattle.production_table.proofs.Columns.{columns_rise, EachRises}
-use Rattle.production_table.proofs.Places.{all_kept, columns_goods_rise, columns_in, each_kept, goods_in, goods_kept, goods_rise, parts_places, place_is_spot, spot, spot_get, spot_within, AllIn, EachIn, GoodsRise, Has}
+use Rattle.production_table.proofs.Places.{all_kept, columns_goods_rise, columns_in, each_kept, goods_in, goods_kept, goods_rise, parts_places, place_is_spot, spot, spot_get, spot_within, AllIn, EachIn, Has}
 
 -- ---- what is wanted
 wanted_test : (p : GoodId × Fraction) (ps : List (GoodId × Fraction)) (good : GoodId) (b : Bool) → zero_fraction ≤ʳ p.1 → zero_fraction ≤ʳ or_none (number_of ps good)
@@ -205,6 +205,13 @@ form_with t goods columns s o = record {
   names_differ = λ i j c d less is other. names_apart 0 0 (linear_with t goods columns).columns i j c d (rows_from goods 0 0 t.rows columns t.imports t.surpluses (omega arith) s.imports_rise s.surpluses_rise) less is other;
 }
 
+pub table_goods_rise : (t : Table) (columns : List (List (GoodId × Fraction))) → GoodsRise 0 (table_goods t columns)
+table_goods_rise t columns =
+    let a : List GoodId = with_columns [] columns in
+    let b : List GoodId = with_goods a t.wants in
+    let c : List GoodId = with_goods b t.imports in
+    goods_rise c t.surpluses (goods_rise b t.imports (goods_rise a t.wants (columns_goods_rise [] columns tt)))
+
 ordered : (g : Game) (t : Table) (columns : List (List (GoodId × Fraction))) → columns_of g t.power t.rows ≡ Ok columns → IsOrdered t (table_goods t columns) columns
 ordered g t columns e =
     let a : List GoodId = with_columns [] columns in
@@ -212,7 +219,7 @@ ordered g t columns e =
     let c : List GoodId = with_goods b t.imports in
     let d : List GoodId = with_goods c t.surpluses in
     record {
-      goods_up = goods_rise c t.surpluses (goods_rise b t.imports (goods_rise a t.wants (columns_goods_rise [] columns tt)));
+      goods_up = table_goods_rise t columns;
       columns_up = columns_rise g t.power t.rows columns e;
       columns_in = each_kept a d columns (λ x has. goods_kept c t.surpluses x (goods_kept b t.imports x (goods_kept a t.wants x has))) (columns_in [] columns);
       imports_in = all_kept c d t.imports (λ x has. goods_kept c t.surpluses x has) (goods_in b t.imports);

@@ -1,6 +1,6 @@
 -- The linear form of a table: the goods that it mentions in order, a column for each row, import and surplus, and what is
 -- wanted of each good.
-use Rattle.std.specs.Prelude.{ℕ, ◌+◌, ◌==◌, Bool, nat_le, nat_lt, List, [], ◌∷◌, ◌++◌, map, length, Option, Some, None, position, Result, Ok, Err, if◌then◌else◌}
+use Rattle.std.specs.Prelude.{ℕ, ◌+◌, ◌==◌, Bool, false, nat_le, nat_lt, List, [], ◌∷◌, ◌++◌, map, length, Option, Some, None, position, Result, Ok, Err, if◌then◌else◌}
 use Rattle.fractions.specs.Fraction.{Fraction, zero_fraction, one_fraction, negated}
 use Rattle.plan_base.specs.declared.ids.GoodId.{GoodId}
 use Rattle.game_types.specs.declared.effects.Wide.{Wide}
@@ -58,6 +58,10 @@ or_first (Some place) = place
 
 abbrev pub is_numbered : ℕ → GoodId → Bool
 is_numbered good other = other.0 == good
+
+abbrev pub is_good_at : ℕ → Option GoodId → Bool
+is_good_at good None = false
+is_good_at good (Some other) = other.0 == good
 
 unfoldable pub place_in : List GoodId → ℕ → ℕ
 place_in goods good = or_first (position (is_numbered good) goods)

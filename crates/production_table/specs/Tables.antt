@@ -25,6 +25,11 @@ abbrev pub Rises : ℕ → List (GoodId × Fraction) → Type 0
 Rises low [] = Unit {0}
 Rises low (p ∷ ps) = (low ≤ p.0.0) × Rises (p.0.0 + 1) ps
 
+-- the same of goods alone
+abbrev pub GoodsRise : ℕ → List GoodId → Type 0
+GoodsRise low [] = Unit {0}
+GoodsRise low (good ∷ goods) = (low ≤ good.0) × GoodsRise (good.0 + 1) goods
+
 abbrev pub goods_of : List (GoodId × Fraction) → List ℕ
 goods_of pairs = map (λ pair. pair.0.0) pairs
 

@@ -1,11 +1,12 @@
 //! The linear form of a table.
-ghost use Rattle.std.specs.Prelude.{◌≡◌, ◌<◌, ◌≤◌, ◌++◌, ◌∷◌, [], All, IfOk, OnErr, OnOk, length, map, position};
+ghost use Rattle.std.specs.Prelude.{◌≡◌, ◌<◌, ◌≤◌, ◌++◌, ◌∷◌, [], All, IfOk, OnErr, OnOk, false, length, map, nat_lt, position, slice_get, true};
+ghost use Rattle.std.specs.List.Sorted.{IsPartitionPoint};
 ghost use Rattle.game_types.specs.Goods.{good_count};
 ghost use Rattle.game_types.specs.Sound.{IsSound};
 ghost use Rattle.linear_table.specs.Plans.{IsWellFormed};
 ghost use Rattle.production_table.specs.Answers.{Gives};
-ghost use Rattle.production_table.specs.Linear.{columns_of, import_column, is_not_below, is_numbered, linear_of, linear_with, of_row, parts_at, place_in, row_column, row_columns, surplus_column, table_goods, want_of, with_columns, with_good, with_goods};
-ghost use Rattle.production_table.specs.Tables.{IsOfGame, IsSoundTable};
+ghost use Rattle.production_table.specs.Linear.{columns_of, import_column, is_good_at, is_not_below, is_numbered, linear_of, linear_with, of_row, parts_at, place_in, row_column, row_columns, surplus_column, table_goods, want_of, with_columns, with_good, with_goods};
+ghost use Rattle.production_table.specs.Tables.{GoodsRise, IsOfGame, IsSoundTable};
 ghost use Rattle.table_rows.specs.Columns.{column_of};
 ghost use Rattle.table_rows.specs.Setups.{IsFitting};
 
@@ -120,16 +121,41 @@ fn goods_of(
     Ok(goods)
 }
 
-// The place of a good, where it is there.
+// How many of the goods, which rise, come before this one.
+fn count_below(goods: &[GoodId], good: GoodId) -> usize
+    requires { GoodsRise 0 goods.now }
+    ensures { IsPartitionPoint (λ other. nat_lt other.0 good.0 ≡ true) (λ other. nat_lt other.0 good.0 ≡ false) goods.now result }
+{
+    goods.partition_point(|other| other.0 < good.0)
+}
+
+// Whether a good stands at a place.
+fn is_good_at(goods: &[GoodId], place: usize, good: GoodId) -> bool
+    ensures { result ≡ is_good_at good.0 (slice_get goods.now place) }
+{
+    match goods.get(place) {
+        Some(other) => other.0 == good.0,
+        None => false,
+    }
+}
+
+// The place of a good among goods that rise, where it is there.
 fn find_good(goods: &[GoodId], good: GoodId) -> Option<usize>
+    requires { GoodsRise 0 goods.now }
     ensures { result ≡ position (is_numbered good.0) goods.now }
 {
-    goods.iter().position(|other| other.0 == good.0)
+    let place = count_below(goods, good);
+    if is_good_at(goods, place, good) {
+        Some(place)
+    } else {
+        None
+    }
 }
 
 #[tactic(auto, unfolding(crate::specs::Linear::place_in))]
 // The place of a good.
 fn place_in(goods: &[GoodId], good: GoodId) -> usize
+    requires { GoodsRise 0 goods.now }
     ensures { result ≡ place_in goods.now good.0 }
 {
     match find_good(goods, good) {
@@ -140,7 +166,8 @@ fn place_in(goods: &[GoodId], good: GoodId) -> usize
 
 // The place of a good among so few that its number is small.
 fn small_place_in(goods: &[GoodId], good: GoodId) -> u32
-    requires { length goods.now ≤ 512 }
+    requires few { length goods.now ≤ 512 }
+    requires rises { GoodsRise 0 goods.now }
     ensures { result ≡ place_in goods.now good.0 }
 {
     let place = place_in(goods, good);
@@ -154,7 +181,8 @@ fn add_part(
     goods: &[GoodId],
     pair: &(GoodId, Ratio),
 ) -> Result<(), NoMemory>
-    requires { length goods.now ≤ 512 }
+    requires few { length goods.now ≤ 512 }
+    requires rises { GoodsRise 0 goods.now }
     ensures { OnOk result (parts.new.items ≡ parts.old.items ++ parts_at goods.now (pair.now ∷ [])) }
 {
     if is_zero(&pair.1) {
@@ -170,7 +198,8 @@ fn parts_of(
     goods: &[GoodId],
     column: &[(GoodId, Ratio)],
 ) -> Result<Items<(u32, Ratio)>, NoMemory>
-    requires { length goods.now ≤ 512 }
+    requires few { length goods.now ≤ 512 }
+    requires rises { GoodsRise 0 goods.now }
     ensures { IfOk result (λ parts. parts ≡ parts_at goods.now column.now) }
 {
     let mut parts = Vec::new(alloc);
@@ -188,7 +217,8 @@ fn row_column(
     row: &TableRow,
     column: &[(GoodId, Ratio)],
 ) -> Result<LinearColumn, NoMemory>
-    requires { length goods.now ≤ 512 }
+    requires few { length goods.now ≤ 512 }
+    requires rises { GoodsRise 0 goods.now }
     ensures { IfOk result (λ made. made ≡ row_column goods.now number row.now column.now) }
 {
     Ok(LinearColumn {
@@ -205,7 +235,8 @@ fn one_part(
     good: GoodId,
     amount: Ratio,
 ) -> Result<Items<(u32, Ratio)>, NoMemory>
-    requires { length goods.now ≤ 512 }
+    requires few { length goods.now ≤ 512 }
+    requires rises { GoodsRise 0 goods.now }
     ensures { IfOk result (λ parts. parts ≡ (place_in goods.now good.0, amount) ∷ []) }
 {
     let mut parts = Vec::new(alloc);
@@ -219,7 +250,8 @@ fn import_column(
     goods: &[GoodId],
     pair: &(GoodId, Ratio),
 ) -> Result<LinearColumn, NoMemory>
-    requires { length goods.now ≤ 512 }
+    requires few { length goods.now ≤ 512 }
+    requires rises { GoodsRise 0 goods.now }
     ensures { IfOk result (λ made. made ≡ import_column goods.now pair.now) }
 {
     Ok(LinearColumn {
@@ -235,7 +267,8 @@ fn surplus_column(
     goods: &[GoodId],
     pair: &(GoodId, Ratio),
 ) -> Result<LinearColumn, NoMemory>
-    requires { length goods.now ≤ 512 }
+    requires few { length goods.now ≤ 512 }
+    requires rises { GoodsRise 0 goods.now }
     ensures { IfOk result (λ made. made ≡ surplus_column goods.now pair.now) }
 {
     Ok(LinearColumn {
@@ -265,6 +298,7 @@ fn add_rows(
     columns: &[Items<(GoodId, Ratio)>],
 ) -> Result<(), NoMemory>
     requires goods { length goods.now ≤ 512 }
+    requires rises { GoodsRise 0 goods.now }
     requires rows { length rows.now ≤ 512 }
     requires columns { length columns.now ≡ length rows.now }
     ensures { OnOk result (made.new.items ≡ made.old.items ++ row_columns goods.now 0 rows.now columns.now) }
@@ -285,7 +319,8 @@ fn add_imports(
     goods: &[GoodId],
     pairs: &[(GoodId, Ratio)],
 ) -> Result<(), NoMemory>
-    requires { length goods.now ≤ 512 }
+    requires few { length goods.now ≤ 512 }
+    requires rises { GoodsRise 0 goods.now }
     ensures { OnOk result (made.new.items ≡ made.old.items ++ map (import_column goods.now) pairs.now) }
 {
     for pair in pairs {
@@ -302,7 +337,8 @@ fn add_surpluses(
     goods: &[GoodId],
     pairs: &[(GoodId, Ratio)],
 ) -> Result<(), NoMemory>
-    requires { length goods.now ≤ 512 }
+    requires few { length goods.now ≤ 512 }
+    requires rises { GoodsRise 0 goods.now }
     ensures { OnOk result (made.new.items ≡ made.old.items ++ map (surplus_column goods.now) pairs.now) }
 {
     for pair in pairs {
@@ -335,6 +371,7 @@ fn linear_with(
     columns: &[Items<(GoodId, Ratio)>],
 ) -> Result<Linear, NoMemory>
     requires goods { length goods.items ≤ 512 }
+    requires rises { GoodsRise 0 goods.items }
     requires rows { length table.now.rows ≤ 512 }
     requires columns { length columns.now ≡ length table.now.rows }
     ensures { IfOk result (λ linear. linear ≡ linear_with table.now goods.items columns.now) }

@@ -11,4 +11,4 @@ out place n (inr h) few far = sym h
 pub returns-else-place-lt-LIMIT : goal.returns-else-place-lt-LIMIT
 returns-else-place-lt-LIMIT c =
     let far : 512 ≤ place_in c.args.goods.now c.args.good.0 = let e = c.place_in-place.ensures in let f = c.if-place-lt-LIMIT.false in omega arith in
-    out (place_in c.args.goods.now c.args.good.0) (length c.args.goods.now) (place_within c.args.goods.now c.args.good.0) c.requires far
+    out (place_in c.args.goods.now c.args.good.0) (length c.args.goods.now) (place_within c.args.goods.now c.args.good.0) c.requires.few far

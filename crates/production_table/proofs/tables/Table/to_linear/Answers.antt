@@ -8,10 +8,11 @@ use Rattle.linear_table.specs.declared.Linear.{Linear}
 use Rattle.production_table.specs.declared.faults.TableFault.TheVariants.{NoMemory}
 use Rattle.production_table.specs.declared.tables.TableRow.{TableRow}
 use Rattle.production_table.specs.Linear.{columns_of, linear_with, table_goods}
+use Rattle.production_table.specs.Tables.{GoodsRise}
 use Rattle.production_table.proofs.Forms.{columns_count}
 use Rattle.production_table.proofs.Whole.{rows_fault, too_many, whole}
 use Rattle.production_table.proofs.InGame.{in_game}
-use Rattle.production_table.proofs.WellFormed.{formed}
+use Rattle.production_table.proofs.WellFormed.{formed, table_goods_rise}
 use Rattle.production_table.proofs.tables.Table.to_linear.Goals as goal
 
 pub returns-in_err-columns-clause-linear : goal.returns-in_err-columns-clause-linear
@@ -33,6 +34,9 @@ linear_with-requires-clause-columns c =
     let made : columns_of c.args.game.now c.args.self.now.power c.args.self.now.rows ≡ Ok c.in_ok-columns.columns
     = ap (λ (rows : List TableRow). columns_of c.args.game.now c.args.self.now.power rows) (sym c.as_slice.ensures) ∙ c.in_ok-columns.ensures in
     ap (λ (columns : List (List (GoodId × Fraction))). length columns) c.as_slice-3.ensures ∙ columns_count c.args.game.now c.args.self.now.power c.args.self.now.rows c.in_ok-columns.columns made
+
+pub linear_with-requires-clause-rises : goal.linear_with-requires-clause-rises
+linear_with-requires-clause-rises c = subst (GoodsRise 0) (sym c.in_ok-goods.ensures) (table_goods_rise c.args.self.now c.as_slice-2.result.now)
 
 pub returns-clause-linear : goal.returns-clause-linear
 returns-clause-linear c =
