@@ -9,8 +9,6 @@ mod passes;
 mod raw;
 mod sections;
 mod sources;
-#[cfg(test)]
-mod tests;
 
 pub use draft::Draft;
 pub use passes::read_game;

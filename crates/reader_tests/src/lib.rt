@@ -1,0 +1,13 @@
+//! Tests of what a dump is read as: its fields, and its prototypes.
+#![tactic(auto)]
+
+#[cfg(test)]
+mod crafts;
+#[cfg(test)]
+mod drafts;
+#[cfg(test)]
+mod faults;
+#[cfg(test)]
+mod fields;
+#[cfg(test)]
+mod trees;
