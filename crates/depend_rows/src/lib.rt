@@ -12,8 +12,6 @@ mod places;
 mod recipes;
 mod rows;
 mod techs;
-#[cfg(test)]
-mod tests;
 mod touching;
 mod unions;
 

@@ -8,8 +8,6 @@ mod keys;
 mod laws;
 mod links;
 mod machines;
-#[cfg(test)]
-mod tests;
 mod ways;
 
 pub use dump::read_dump;
