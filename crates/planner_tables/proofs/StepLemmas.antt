@@ -17,8 +17,8 @@ use Rattle.production_table.specs.declared.faults.TableFault.{TableFault}
 use Rattle.production_table.specs.declared.faults.TableFault.TheVariants.{Full, LabelUsed, Negative, NoMemory}
 use Rattle.production_table.specs.declared.tables.Table.{Table}
 use Rattle.production_table.specs.declared.tables.TableRow.{TableRow}
-use Rattle.production_table.specs.Changes.{dropped, in_table, is_full, is_used, new_row, number_of, or_nothing, place_of, priced, put_or_take, repriced, rewanted, with_balance, with_import, with_number, with_price, with_row, with_surplus, with_want, without_number, without_row, guard, is_negative, price_fits, want_fits}
-use Rattle.production_table.specs.Linear.{AreGoods, IsOfGame}
+use Rattle.production_table.specs.Changes.{dropped, in_table, is_used, new_row, place_of, priced, with_balance, with_import, with_price, with_row, with_surplus, with_want, without_row}
+use Rattle.production_table.specs.Numbers.{guard, is_full, is_negative, number_of, or_nothing, price_fits, put_or_take, repriced, rewanted, want_fits, with_number, without_number}
 use Rattle.production_table.specs.Tables.{IsSoundTable, is_label}
 use Rattle.production_table.proofs.Found.{no_price, place_is, price_is, some_row}
 use Rattle.planner_tables.specs.declared.refusals.TableRefusal.{TableRefusal}
@@ -27,7 +27,7 @@ use Rattle.planner_tables.specs.declared.splices.Splice.{Splice}
 use Rattle.planner_tables.specs.declared.splices.Splice.TheVariants.{Remove, Insert}
 use Rattle.planner_tables.specs.declared.undos.Numbers.TheVariants.{Wants, Imports, Surpluses}
 use Rattle.planner_tables.specs.declared.undos.TablePart.TheVariants as part
-use Rattle.planner_tables.specs.Effects.{IsSoundOn, table_after}
+use Rattle.planner_tables.specs.Effects.{AreGoods, IsSoundOn, table_after}
 use Rattle.planner_tables.specs.Refusals.{Outcome, cause}
 use Rattle.planner_tables.specs.Steps.{MakesTable}
 use Rattle.planner_tables.specs.Undoing.{spliced, with_at, with_price_at, with_row_price, with_rows}
@@ -65,7 +65,7 @@ pub refused_as : {A : Type 0} (meant : Result (A × Table) TableFault) (unknown 
 refused_as meant unknown refusal fault h k = ap (table_after unknown) (h k.0) ∙ ap Err k.1
 
 -- ---- a row more
-four : {A F : Type 0} (r s u : Result (Unit {0}) F) (v w : A) → (r ▸ λ _. s ▸ λ _. u ▸ λ _. Ok v) ≡ Ok w → v ≡ w
+four : {A F : Type 0} (r s u : Result (Unit {0}) F) (v w : A) → ((r ▸ λ _. s ▸ λ _. u) ▸ λ _. Ok v) ≡ Ok w → v ≡ w
 four (Ok a) (Ok b) (Ok d) v w h = cc
 four (Err f) s u v w h = absurd (cc)
 four (Ok a) (Err f) u v w h = absurd (cc)

@@ -1,15 +1,17 @@
 -- Lists of tables: what each change makes of them, or its first refusal.
-use Rattle.std.specs.Prelude.{◌≡◌, ℕ, ◌≤◌, Bool, true, false, nat_lt, List, [], ◌∷◌, ◌++◌, length, remove, slice_index_or, slice_set, Option, Some, None, Result, Ok, Err, All, position, if◌then◌else◌}
+use Rattle.std.specs.Prelude.{◌≡◌, ℕ, ◌<◌, ◌≤◌, Bool, true, false, nat_lt, List, [], ◌∷◌, ◌++◌, length, remove, slice_index_or, slice_set, Option, Some, None, Result, Ok, Err, All, position, if◌then◌else◌}
 use Rattle.std.specs.List.{list_any}
 use Rattle.std.specs.Str.{bytes_eq}
+use Rattle.fractions.specs.Fraction.{Fraction}
+use Rattle.plan_base.specs.declared.ids.GoodId.{GoodId}
 use Rattle.game_types.specs.declared.games.Game.{Game}
+use Rattle.game_types.specs.Goods.{good_count}
 use Rattle.game_types.specs.Steps.{◌▸◌}
 use Rattle.script_reader.specs.declared.change.Change.{Change}
 use Rattle.script_reader.specs.declared.change.Change.TheVariants as change
 use Rattle.production_table.specs.declared.faults.TableFault.{TableFault}
 use Rattle.production_table.specs.declared.tables.Table.{Table}
 use Rattle.production_table.specs.Changes.{empty_table, with_balance, with_import, with_price, with_row, with_surplus, with_want, without_row}
-use Rattle.production_table.specs.Linear.{IsOfGame}
 use Rattle.production_table.specs.Tables.{IsSoundTable}
 use Rattle.table_rows.specs.Setups.{IsFitting}
 use Rattle.planner_tables.specs.declared.refusals.TableRefusal.{TableRefusal}
@@ -100,6 +102,15 @@ is_of_tables other = false
 abbrev pub HaveOwnNames : List Table → Type 0
 HaveOwnNames [] = Unit {0}
 HaveOwnNames (t ∷ ts) = (list_any (is_name t.name) ts ≡ false) × HaveOwnNames ts
+
+-- all goods of a table's lists are goods of the game
+abbrev pub AreGoods : Game → List (GoodId × Fraction) → Type 0
+AreGoods g pairs = All (λ pair. pair.0.0 < good_count g) pairs
+
+pub record IsOfGame (g : Game) (t : Table) : Type 0 where
+  pub wants : AreGoods g t.wants
+  pub imports : AreGoods g t.imports
+  pub surpluses : AreGoods g t.surpluses
 
 -- a table is sound, its goods are goods of the game, and each set-up can stand in a table of the game
 pub record IsSoundOn (g : Game) (t : Table) : Type 0 where

@@ -32,8 +32,7 @@ answered g (Err refusal) = refused g refusal None
 
 -- ---- the rates of a row
 abbrev pub rates_reply : Table → TableRow → Effects × Rates × Fraction → Reply
-rates_reply t row rates =
-    reply.Rate t.name row.label rates.0.speed rates.0.productivity rates.0.consumption rates.0.pollution rates.1.machines rates.1.power rates.1.drain rates.1.fuel rates.1.pollution rates.2
+rates_reply t row rates = reply.Rate t.name row.label rates.0 rates.1 rates.2
 
 -- the first step of a row's rates that is past the limits of fractions; neither the sums of its column nor its draw are asked
 abbrev pub rates_outcome : Table → TableRow → Result (Effects × Rates × Fraction) Wide → Outcome Reply

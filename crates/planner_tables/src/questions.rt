@@ -44,15 +44,8 @@ fn rates_reply(
     Ok(Reply::Rate {
         table: name,
         label,
-        speed: rates.0.speed,
-        productivity: rates.0.productivity,
-        consumption: rates.0.consumption,
-        pollution: rates.0.pollution,
-        machines: rates.1.machines,
-        power: rates.1.power,
-        drain: rates.1.drain,
-        fuel: rates.1.fuel,
-        emits: rates.1.pollution,
+        effects: rates.0,
+        rates: rates.1,
         beacons: rates.2,
     })
 }
