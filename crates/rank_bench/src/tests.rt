@@ -231,9 +231,6 @@ fn milestones_keep_their_places(rt: HostRuntime) -> Result<(), Fail> {
     let mut steps = Steps::new(Bench);
     let mut worlds = worlds(&rt, &graph, &marks, &marks, &mut steps)?;
     add_in_front(&rt, &mut worlds, &graph, &marks, &mut steps)?;
-    let full = Err(MilestoneFault::Full);
-    let answer = worlds.add_world(alloc, &graph, &marks, &marks, NodeId(64), 0, &mut steps);
-    assert_eq!(rt; answer, full);
     let already = Err(MilestoneFault::Already);
     let answer = worlds.add_world(alloc, &graph, &marks, &marks, NodeId(7), 0, &mut steps);
     assert_eq!(rt; answer, already);
