@@ -2,9 +2,9 @@
 ghost use Rattle.std.specs.Prelude.{◌≡◌, IfOk, string_bytes};
 ghost use Rattle.planner_cli.specs.BadDump.{code_name, fault_line, field_line, json_line, json_name};
 
-use crate::printed_word::printed_word;
 use craft_reader::{DumpCode, DumpFault};
 use json_text::{JsonCode, JsonFault};
+use plan_report::printed_word;
 use std::alloc::{AllocError, Global};
 
 fn json_name(code: JsonCode) -> &'static str

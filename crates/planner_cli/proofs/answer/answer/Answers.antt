@@ -1,0 +1,9 @@
+use Rattle.std.proofs.Common.{subst, sym}
+use Rattle.planning_state.specs.States.{first_state}
+use Rattle.planner_core.specs.Lines.{IsSessionOf}
+use Rattle.planner_cli.proofs.answer.answer.Goals as goal
+
+pub run_script-requires : goal.run_script-requires
+run_script-requires g c =
+    let game = c.requires.0 in
+    record { session = (first_state game, subst (IsSessionOf (first_state game)) (sym c.requires.1) (c.state_is_of_the_active_edits.ensures.first game)) }

@@ -1,0 +1,42 @@
+-- The dump and the script that the words of a run ask for.
+use Rattle.std.specs.Prelude.{◌<◌, ◌≤◌, ℕ, List, length, Option, None, Some}
+use Rattle.plan_io.specs.Store.{Shelf}
+use Rattle.game_types.specs.declared.games.Game.{Game}
+use Rattle.planner_cli.specs.Base.{HasBase}
+use Rattle.planner_cli.specs.Reading.{IsContent}
+use Rattle.planner_cli.specs.Words.{FileNames}
+
+-- a file of that name that is within its limit, and one that is not
+pub record IsInput (shelf : Shelf) (name : List ℕ) (limit : ℕ) (bytes : List ℕ) : Type 0 where
+  pub content : IsContent shelf name bytes
+  pub fits : length bytes ≤ limit
+
+pub record IsLong (shelf : Shelf) (name : List ℕ) (limit : ℕ) : Type 0 where
+  pub bytes : List ℕ
+  pub content : IsContent shelf name bytes
+  pub passes : limit < length bytes
+
+-- the bytes of the dump
+abbrev pub IsDump : Shelf → Option FileNames → List ℕ → Type 0
+IsDump shelf (Some names) dump = IsInput shelf names.dump 268_435_456 dump
+IsDump shelf None dump = ⊥
+
+-- those of the script
+abbrev pub IsScript : Shelf → Option FileNames → List ℕ → Type 0
+IsScript shelf (Some names) script = IsInput shelf names.script 16_777_216 script
+IsScript shelf None script = ⊥
+
+-- the dump is too long, and the script is
+abbrev pub IsLongDump : Shelf → Option FileNames → Type 0
+IsLongDump shelf (Some names) = IsLong shelf names.dump 268_435_456
+IsLongDump shelf None = ⊥
+
+abbrev pub IsLongScript : Shelf → Option FileNames → Type 0
+IsLongScript shelf (Some names) = IsLong shelf names.script 16_777_216
+IsLongScript shelf None = ⊥
+
+-- the dump has this base
+pub record IsBase (shelf : Shelf) (asked : Option FileNames) (game : Game) : Type 0 where
+  pub dump : List ℕ
+  pub given : IsDump shelf asked dump
+  pub has : HasBase dump game
