@@ -1,5 +1,5 @@
 -- Commands of tables, which this version does not answer yet.
-use Rattle.std.specs.Prelude.{◌≡◌, Bool, true, false, ℕ, List, Option, Some, None, Ok, Err, Any, All}
+use Rattle.std.specs.Prelude.{◌≡◌, Bool, true, false, ℕ, List, Some, None, Ok, Err, Any, All}
 use Rattle.script_reader.specs.declared.change.Change.{Change}
 use Rattle.script_reader.specs.declared.change.Change.TheVariants as change
 use Rattle.script_reader.specs.declared.command.Command.{Command}

@@ -6,6 +6,10 @@ ghost use Rattle.planner_core.specs.Lines.{IsSessionOf};
 ghost use Rattle.script_runner.specs.Leaves.{Leaves};
 ghost use Rattle.script_runner.specs.Scripts.{EndsScript, is_cut};
 
+use crate::lines::line_count;
+use crate::not_yet::wants_tables;
+use crate::output::write_all;
+use crate::report::answer_lines;
 use plan_base::Steps;
 use plan_io::Sink;
 use planner_core::Planner;
@@ -41,9 +45,23 @@ pub fn run_script<K: Sink, L>(
 ) -> ScriptEnd
     requires session { (base : State) × IsSessionOf base planner.old }
     ensures leaves { Leaves (EndsScript planner.old script.now) is_cut (K.written out.old) (K.written out.new) steps.old steps.new result }
+    ensures history { (base : State) → IsSessionOf base planner.old → IsSessionOf base planner.new }
     ensures limit { K.limit out.new ≡ K.limit out.old }
     ensures later { K.faults out.old ≤ K.faults out.new }
     ensures failed { result ≡ ScriptEnd.WriteFault → Rose (K.faults out.old) (K.faults out.new) }
 {
-    ScriptEnd::NoMemory
+    if line_count(script) > LINE_LIMIT {
+        return match write_all(out, b"too long script lines\n") {
+            Ok(()) => ScriptEnd::TooManyLines,
+            Err(_) => ScriptEnd::WriteFault,
+        };
+    }
+    match wants_tables(alloc, script) {
+        Ok(false) => answer_lines(alloc, planner, script, out, steps),
+        Ok(true) => match write_all(out, b"not yet\n") {
+            Ok(()) => ScriptEnd::NotYet,
+            Err(_) => ScriptEnd::WriteFault,
+        },
+        Err(_) => ScriptEnd::NoMemory,
+    }
 }
