@@ -80,6 +80,14 @@ impl Planner {
         }
     }
 
+    /// The game as the edits left it.
+    pub fn game(&self) -> &Game
+        ensures game { result.now ≡ self.now.state.book.game }
+        ensures sound { IsSound result.now }
+    {
+        self.planning.game()
+    }
+
     // Does a change as an entry by itself.
     fn do_one<L>(&mut self, change: Change, steps: &mut Steps<L>) -> Result<Reply, NoMemory>
         requires free { self.old.batch ≡ None }

@@ -96,7 +96,8 @@ impl Planning {
 
     /// The game as it stands.
     pub fn game(&self) -> &Game
-        ensures { result.now ≡ self.now.book.game }
+        ensures game { result.now ≡ self.now.book.game }
+        ensures sound { IsSound result.now }
     {
         &self.book.game
     }

@@ -1,0 +1,6 @@
+pub mod AnswerLemmas
+pub mod FormLemmas
+pub mod LinesLemmas
+pub mod SessionLemmas
+pub mod SoFarLemmas
+pub mod WritingLemmas

@@ -1,0 +1,75 @@
+//! The answer to one line.
+ghost use Rattle.std.specs.Prelude.{◌≡◌, ◌≤◌, ◌+◌, IfOk};
+ghost use Rattle.planning_state.specs.States.{State};
+ghost use Rattle.planner_core.specs.Lines.{IsSessionOf};
+ghost use Rattle.script_runner.specs.Answers.{gives_up, is_refusal_reply, reading_work, AnswersLine, IsReply};
+
+use crate::reading::{Reading, reading_of, refused_for};
+use linear_table::SolveAnswer;
+use plan_base::{NoMemory, Steps, Text};
+use plan_report::{Reply, print_reply};
+use planner_core::Planner;
+use std::alloc::Global;
+
+// Carries out what a line is read as.
+fn reply_to<L>(
+    planner: &mut Planner,
+    number: u32,
+    reading: Reading,
+    steps: &mut Steps<L>,
+) -> Result<Reply, NoMemory>
+    requires session { (base : State) × IsSessionOf base planner.old }
+    ensures reply { IfOk result (λ answer. IsReply number planner.old reading planner.new answer) }
+    ensures history { (base : State) → IsSessionOf base planner.old → IsSessionOf base planner.new }
+    ensures work { IfOk result (λ answer. steps.new ≤ steps.old + reading_work reading planner.old planner.new answer) }
+    ensures later { steps.old ≤ steps.new }
+{
+    match reading {
+        Ok(Some(command)) => planner.step(number, command, steps),
+        Ok(None) => Ok(Reply::Nothing),
+        Err(fault) => Ok(refused_for(fault)),
+    }
+}
+
+fn gives_up(answer: &SolveAnswer) -> bool
+    ensures { result ≡ gives_up answer.now }
+{
+    match answer {
+        SolveAnswer::TooWide { .. } => true,
+        SolveAnswer::OutOfBudget { .. } => true,
+        _ => false,
+    }
+}
+
+fn is_refusal(reply: &Reply) -> bool
+    ensures { result ≡ is_refusal_reply reply.now }
+{
+    match reply {
+        Reply::Refused { .. } => true,
+        Reply::Solved { answer, .. } => gives_up(answer),
+        _ => false,
+    }
+}
+
+/// Answers the line with this number: its text, and whether it is a refusal.
+///
+/// # Errors
+///
+/// `NoMemory` where memory could not be had. The line may have been carried out then.
+pub fn answer_line<L>(
+    alloc: Global,
+    planner: &mut Planner,
+    number: u32,
+    line: &[u8],
+    steps: &mut Steps<L>,
+) -> Result<(Text, bool), NoMemory>
+    requires session { (base : State) × IsSessionOf base planner.old }
+    ensures answer { IfOk result (λ answer. AnswersLine number line.now planner.old planner.new answer.0 answer.1 steps.old steps.new) }
+    ensures history { (base : State) → IsSessionOf base planner.old → IsSessionOf base planner.new }
+    ensures later { steps.old ≤ steps.new }
+{
+    let reading = reading_of(alloc, line)?;
+    let reply = reply_to(planner, number, reading, steps)?;
+    let text = print_reply(alloc, number, &reply, planner.game())?;
+    Ok((text, is_refusal(&reply)))
+}

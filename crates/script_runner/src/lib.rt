@@ -1,0 +1,15 @@
+//! The lines of a script, answered one after another by the planner.
+#![tactic(auto)]
+
+mod answer;
+mod laws;
+mod lines;
+mod not_yet;
+mod output;
+mod reading;
+mod report;
+mod run;
+
+pub use laws::planners_grow_from_the_base;
+pub use output::write_all;
+pub use run::{LINE_LIMIT, ScriptEnd, run_script};

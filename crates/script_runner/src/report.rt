@@ -1,0 +1,62 @@
+//! The replies to the lines of a script.
+ghost use Rattle.std.specs.Prelude.{◌≡◌, ◌≤◌};
+ghost use Rattle.plan_io.specs.Causes.{Rose};
+ghost use Rattle.planning_state.specs.States.{State};
+ghost use Rattle.planner_core.specs.Lines.{IsSessionOf};
+ghost use Rattle.script_runner.specs.Leaves.{Leaves};
+ghost use Rattle.script_runner.specs.Scripts.{is_cut, EndsScript, HasForm};
+
+use crate::answer::answer_line;
+use crate::lines::{split_line, trim_return};
+use crate::output::write_all;
+use crate::run::ScriptEnd;
+use plan_base::Steps;
+use plan_io::Sink;
+use planner_core::Planner;
+use std::alloc::Global;
+
+/// Answers each line, and writes its reply before the next line is answered.
+pub fn answer_lines<K: Sink, L>(
+    alloc: Global,
+    planner: &mut Planner,
+    script: &[u8],
+    out: &mut K,
+    steps: &mut Steps<L>,
+) -> ScriptEnd
+    requires session { (base : State) × IsSessionOf base planner.old }
+    requires form { HasForm script.now }
+    ensures leaves { Leaves (EndsScript planner.old script.now) is_cut (K.written out.old) (K.written out.new) steps.old steps.new result }
+    ensures history { (base : State) → IsSessionOf base planner.old → IsSessionOf base planner.new }
+    ensures limit { K.limit out.new ≡ K.limit out.old }
+    ensures later { K.faults out.old ≤ K.faults out.new }
+    ensures failed { result ≡ ScriptEnd.WriteFault → Rose (K.faults out.old) (K.faults out.new) }
+{
+    let mut rest = script;
+    let mut count: u32 = 0;
+    let mut refused = false;
+    while !rest.is_empty() {
+        let (line, more) = split_line(rest);
+        let (reply, refuses) = match answer_line(
+            alloc,
+            planner,
+            count + 1,
+            trim_return(line),
+            steps,
+        ) {
+            Ok(answer) => answer,
+            Err(_) => return ScriptEnd::NoMemory,
+        };
+        match write_all(out, reply.as_str().as_bytes()) {
+            Ok(()) => {}
+            Err(_) => return ScriptEnd::WriteFault,
+        }
+        rest = more;
+        count += 1;
+        refused |= refuses;
+    }
+    if refused {
+        ScriptEnd::SomeRefused
+    } else {
+        ScriptEnd::Done
+    }
+}
