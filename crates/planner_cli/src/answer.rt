@@ -14,7 +14,12 @@ use script_runner::{ScriptEnd, run_script};
 use std::alloc::Global;
 
 /// Answers each line of the script before the next.
-pub fn answer<K: Sink, L>(alloc: Global, ready: Ready, out: &mut K, steps: &mut Steps<L>) -> ScriptEnd
+pub fn answer<K: Sink, L>(
+    alloc: Global,
+    ready: Ready,
+    out: &mut K,
+    steps: &mut Steps<L>,
+) -> ScriptEnd
     requires { (game : Game) × (ready.planner ≡ first_planned game) }
     ensures leaves { Leaves (EndsScript ready.planner ready.script.items) is_cut (K.written out.old) (K.written out.new) steps.old steps.new result }
     ensures sink { KeepsSink (K.limit out.old) (K.limit out.new) (K.faults out.old) (K.faults out.new) (result ≡ ScriptEnd.WriteFault) }
