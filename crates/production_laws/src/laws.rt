@@ -1,18 +1,20 @@
 //! What holds of every plan of a table, and of every craft of a row.
-ghost use Rattle.std.specs.Prelude.{◌≡◌, ◌≢◌, All, Bool, List, Ok, true};
+ghost use Rattle.std.specs.Prelude.{◌≡◌, ◌≢◌, All, Bool, List, Ok, map, true};
 ghost use Rattle.fractions.specs.Fraction.{Fraction, negated, ◌+ʳ◌};
 ghost use Rattle.plan_base.specs.declared.ids.GoodId.{GoodId};
+ghost use Rattle.plan_base.specs.declared.ids.RecipeId.{RecipeId};
 ghost use Rattle.plan_base.specs.declared.ids.TechId.{TechId};
 ghost use Rattle.game_types.specs.declared.games.Game.{Game};
-ghost use Rattle.game_types.specs.declared.setups.Activity.TheVariants.{Research};
+ghost use Rattle.game_types.specs.declared.setups.Activity.TheVariants.{Craft, Research};
 ghost use Rattle.game_types.specs.declared.setups.Setup.{Setup};
 ghost use Rattle.game_types.specs.Goods.{electricity, units_good};
+ghost use Rattle.game_types.specs.Lookups.{recipe_at};
 ghost use Rattle.game_types.specs.Sound.{IsSound, IsSoundSetup};
 ghost use Rattle.linear_table.specs.Plans.{IsPlan};
 ghost use Rattle.linear_table.specs.declared.Linear.{Linear};
 ghost use Rattle.research_rows.specs.Research.{tech_at};
 ghost use Rattle.table_rows.specs.declared.rates.RowRates.{RowRates};
-ghost use Rattle.table_rows.specs.Columns.{column_of, contributions, fuel_parts, row_rates_of};
+ghost use Rattle.table_rows.specs.Columns.{column_of, contributions, fuel_parts, given, row_rates_of, taken};
 ghost use Rattle.table_rows.specs.Setups.{IsFitting};
 ghost use Rattle.production_table.specs.declared.tables.Table.{Table};
 ghost use Rattle.production_table.specs.Linear.{linear_of};
@@ -56,4 +58,13 @@ pub fn labs_take_packs()
     ensures packs { (g : Game) (power : Bool) (setup : Setup) (tech : TechId) (row : RowRates) (column : List (GoodId × Fraction)) (good : GoodId)
         → setup.activity ≡ Research tech → row_rates_of g setup ≡ Ok row → column_of g power setup ≡ Ok column → (electricity g).0 ≢ good.0 → (units_good g tech).0 ≢ good.0
         → amount_in column good ≡ negated (total_of (tech_at g tech).ingredients good) +ʳ share_of (fuel_parts g setup.fuel row.rates.fuel) good }
+{}
+
+/// Law: one craft of a recipe gives its products with their productivity and takes its ingredients, each of its choice, beside
+/// its fuel and electricity.
+pub fn crafts_give_and_take()
+    ensures { (g : Game) (power : Bool) (setup : Setup) (recipe : RecipeId) (row : RowRates) (column : List (GoodId × Fraction)) (good : GoodId)
+        → setup.activity ≡ Craft recipe → row_rates_of g setup ≡ Ok row → column_of g power setup ≡ Ok column → (electricity g).0 ≢ good.0
+        → amount_in column good ≡ share_of (map (given row.effects.productivity) (recipe_at g recipe).products) good
+            +ʳ share_of (map (taken g setup) (recipe_at g recipe).ingredients) good +ʳ share_of (fuel_parts g setup.fuel row.rates.fuel) good }
 {}

@@ -4,4 +4,7 @@
 
 mod laws;
 
-pub use laws::{columns_sum, goods_balance, labs_take_packs, power_balances, research_balances};
+pub use laws::{
+    columns_sum, crafts_give_and_take, goods_balance, labs_take_packs, power_balances,
+    research_balances,
+};
