@@ -7,14 +7,14 @@ ghost use Rattle.production_table.specs.Tables.{IsSoundTable};
 ghost use Rattle.table_rows.specs.Setups.{IsFitting};
 ghost use Rattle.table_tests.specs.Setups.{is_fitting, is_fitting_row};
 
-use crate::dumps::{game, huge, many, real};
+use crate::dumps::{game, real};
 use crate::names::{count, field, is_number, ratio, table_good};
 use crate::setups::{is_sound, setup};
 use fractions::Ratio;
 use game_types::{Game, Setup};
 use linear_table::{Column, Linear, LinearColumn};
 use plan_base::{GoodId, NoMemory};
-use production_table::{LIMIT, Table, TableFault, TableRow};
+use production_table::{Table, TableFault, TableRow};
 use std::alloc::Global;
 use std::test::Fail;
 use table_rows::check_setup;
@@ -111,12 +111,12 @@ fn balanced() -> &'static str {
     BALANCED
 }
 
-fn plain() -> &'static str {
+pub fn plain() -> &'static str {
     PLAIN
 }
 
 // ---- making a table
-fn table(alloc: Global) -> Option<Table>
+pub fn table(alloc: Global) -> Option<Table>
     ensures { IfSome result IsSoundTable }
 {
     match Table::make(alloc, "t") {
@@ -160,7 +160,7 @@ fn add_line(alloc: Global, game: &Game, table: &mut Table, line: &str) -> bool
     add_row(alloc, game, table, label, fields) && price_row(alloc, table, label, field(fields, 6))
 }
 
-fn add_lines(alloc: Global, game: &Game, table: &mut Table, lines: &str) -> bool
+pub fn add_lines(alloc: Global, game: &Game, table: &mut Table, lines: &str) -> bool
     requires sound { IsSound game.now }
     requires table { IsSoundTable table.old }
     ensures { IsSoundTable table.new }
@@ -238,7 +238,7 @@ fn add_surpluses(alloc: Global, game: &Game, table: &mut Table) -> bool
         && surplus(alloc, game, table, "electricity", &Ratio::zero())
 }
 
-fn real_table(alloc: Global, game: &Game) -> Option<Table>
+pub fn real_table(alloc: Global, game: &Game) -> Option<Table>
     requires { IsSound game.now }
     ensures { IfSome result IsSoundTable }
 {
@@ -420,7 +420,7 @@ fn is_linear(
 }
 
 // The linear form, where all rows fit.
-fn to_linear(alloc: Global, game: &Game, table: &Table) -> Option<Result<Linear, TableFault>>
+pub fn to_linear(alloc: Global, game: &Game, table: &Table) -> Option<Result<Linear, TableFault>>
     requires sound { IsSound game.now }
     requires table { IsSoundTable table.now }
 {
@@ -431,7 +431,7 @@ fn to_linear(alloc: Global, game: &Game, table: &Table) -> Option<Result<Linear,
     }
 }
 
-fn has_linear(
+pub fn has_linear(
     alloc: Global,
     game: &Game,
     table: &Table,
