@@ -51,11 +51,11 @@ part_rises low step good amount [] more at rise e =
 part_rises low step good amount (p ∷ ps) more at rise e =
     part_cases low step good amount p ps (with_part step good amount ps) more (nat_lt good.0 p.0.0) (good.0 == p.0.0) refl refl at rise (λ r f above. part_rises (p.0.0 + 1) step good amount ps r above rise.1 f) e
 
-added_rises : (c : Contribution) (column more : List (GoodId × Fraction)) → Rises 0 column → contributed c column ≡ Ok more → Rises 0 more
+pub added_rises : (c : Contribution) (column more : List (GoodId × Fraction)) → Rises 0 column → contributed c column ≡ Ok more → Rises 0 more
 unfolding contributed
 added_rises c column more rise e = let one = through c.1 (λ amount. with_part 8 c.0 amount column) more e in part_rises 0 8 c.0 one.0 column more (omega arith) rise one.2
 
-summed_rises : (column : List (GoodId × Fraction)) (cs : List Contribution) (more : List (GoodId × Fraction)) → Rises 0 column → summed column cs ≡ Ok more → Rises 0 more
+pub summed_rises : (column : List (GoodId × Fraction)) (cs : List Contribution) (more : List (GoodId × Fraction)) → Rises 0 column → summed column cs ≡ Ok more → Rises 0 more
 unfolding summed
 summed_rises column [] more rise e = let same : column ≡ more = cc in subst (λ (qs : List (GoodId × Fraction)). Rises 0 qs) same rise
 summed_rises column (c ∷ cs) more rise e =
@@ -67,7 +67,7 @@ drawn_rises g rates beacons column more rise e =
     let one = through (draw_of rates.power rates.machines rates.drain beacons) (λ draw. with_part 18 (electricity g) (negated draw) column) more e in
     part_rises 0 18 (electricity g) (negated one.0) column more (omega arith) rise one.2
 
-drawn_where_rises : (power : Bool) (g : Game) (rates : Rates) (beacons : Fraction) (column more : List (GoodId × Fraction)) → Rises 0 column → drawn_where power g rates beacons column ≡ Ok more → Rises 0 more
+pub drawn_where_rises : (power : Bool) (g : Game) (rates : Rates) (beacons : Fraction) (column more : List (GoodId × Fraction)) → Rises 0 column → drawn_where power g rates beacons column ≡ Ok more → Rises 0 more
 drawn_where_rises true g rates beacons column more rise e = drawn_rises g rates beacons column more rise e
 drawn_where_rises false g rates beacons column more rise e = let same : column ≡ more = cc in subst (λ (qs : List (GoodId × Fraction)). Rises 0 qs) same rise
 

@@ -48,7 +48,7 @@ abbrev EachBelow : ℕ → List (List (GoodId × Fraction)) → Type 0
 EachBelow n [] = Unit {0}
 EachBelow n (column ∷ columns) = PairsBelow n column × EachBelow n columns
 
-abbrev AddedBelow : ℕ → List Contribution → Type 0
+abbrev pub AddedBelow : ℕ → List Contribution → Type 0
 AddedBelow n [] = Unit {0}
 AddedBelow n (c ∷ cs) = (c.0.0 < n) × AddedBelow n cs
 
@@ -175,17 +175,17 @@ either : (P : GoodId → Type 0) (o p : Option GoodId) → IfSome o P → IfSome
 either P (Some x) p h k = h
 either P None p h k = k
 
-choice_good : (g : Game) (at : List GoodId) (good : ℕ) (low high : Option Fraction) → All (λ own. IsFluid g own.0) at → IsGood g good → IfSome (choice_of g at good low high) (λ best. IsGood g best.0)
+pub choice_good : (g : Game) (at : List GoodId) (good : ℕ) (low high : Option Fraction) → All (λ own. IsFluid g own.0) at → IsGood g good → IfSome (choice_of g at good low high) (λ best. IsGood g best.0)
 unfolding choice_of
 choice_good g at good low high each h =
     either (λ (best : GoodId). IsGood g best.0) (first_where (λ own. is_fit g good low high own.0) at) (coolest_fit g good low high) (first_good g (λ own. is_fit g good low high own.0) at each) (fit_good g good low high h)
 
-chosen_good : (g : Game) (good : GoodId) (o : Option GoodId) → IsGood g good.0 → IfSome o (λ best. IsGood g best.0) → IsGood g (or_good good o).0
+pub chosen_good : (g : Game) (good : GoodId) (o : Option GoodId) → IsGood g good.0 → IfSome o (λ best. IsGood g best.0) → IsGood g (or_good good o).0
 chosen_good g good (Some best) h k = k
 chosen_good g good None h k = h
 
 -- ---- what comes in
-abbrev InputGood : Game → Input → Type 0
+abbrev pub InputGood : Game → Input → Type 0
 InputGood g (OfFluid good) = IsGood g good.0
 InputGood g NoInput = Unit {0}
 InputGood g Missing = Unit {0}
@@ -210,7 +210,7 @@ taken_good g at Reactor each h = tt
 taken_good g at (Lab inputs speed) each h = tt
 taken_good g at (Beacon effectivity) each h = tt
 
-input_good : (g : Game) (setup : Setup) → IsSound g → IsSoundSetup g setup → InputGood g (input_of g setup)
+pub input_good : (g : Game) (setup : Setup) → IsSound g → IsSoundSetup g setup → InputGood g (input_of g setup)
 unfolding input_of machine_at
 input_good g setup sound s = taken_good g setup.at (machine_at g setup.machine).kind s.at (All-get_or (IsSoundMachine g) g.machines setup.machine.0 no_machine s.machine sound.machines).kind
 
@@ -221,11 +221,11 @@ up g n h = omega arith
 item_up : (g : Game) (n : ℕ) → IsItem g n → n < good_count g
 item_up g n h = omega arith
 
-added_append : (n : ℕ) (xs ys : List Contribution) → AddedBelow n xs → AddedBelow n ys → AddedBelow n (xs ++ ys)
+pub added_append : (n : ℕ) (xs ys : List Contribution) → AddedBelow n xs → AddedBelow n ys → AddedBelow n (xs ++ ys)
 added_append n [] ys h k = k
 added_append n (x ∷ xs) ys h k = (h.0, added_append n xs ys h.1 k)
 
-added_map : {X : Type 0} (n : ℕ) (share : X → Contribution) (P : X → Type 0) (xs : List X) → ((x : X) → P x → (share x).0.0 < n) → All P xs → AddedBelow n (map share xs)
+pub added_map : {X : Type 0} (n : ℕ) (share : X → Contribution) (P : X → Type 0) (xs : List X) → ((x : X) → P x → (share x).0.0 < n) → All P xs → AddedBelow n (map share xs)
 added_map n share P [] h each = tt
 added_map n share P (x ∷ xs) h each = (h x (All-head P x xs each), added_map n share P xs h (All-tail P x xs each))
 
@@ -234,19 +234,19 @@ input_below g amount (OfFluid good) h = (up g good.0 h, tt)
 input_below g amount NoInput h = tt
 input_below g amount Missing h = tt
 
-recipe_sound : (g : Game) (n : ℕ) → IsSound g → n < length g.recipes → IsSoundRecipe g (recipe_at g (record { 0 = n }))
+pub recipe_sound : (g : Game) (n : ℕ) → IsSound g → n < length g.recipes → IsSoundRecipe g (recipe_at g (record { 0 = n }))
 unfolding recipe_at
 recipe_sound g n sound h = All-get_or (IsSoundRecipe g) g.recipes n no_recipe h sound.recipes
 
-source_sound : (g : Game) (n : ℕ) → IsSound g → n < length g.sources → IsSoundSource g (source_at g (record { 0 = n }))
+pub source_sound : (g : Game) (n : ℕ) → IsSound g → n < length g.sources → IsSoundSource g (source_at g (record { 0 = n }))
 unfolding source_at
 source_sound g n sound h = All-get_or (IsSoundSource g) g.sources n no_source h sound.sources
 
-tech_sound : (g : Game) (n : ℕ) → IsSound g → n < length g.techs → IsSoundTech g (tech_at g (record { 0 = n }))
+pub tech_sound : (g : Game) (n : ℕ) → IsSound g → n < length g.techs → IsSoundTech g (tech_at g (record { 0 = n }))
 unfolding tech_at
 tech_sound g n sound h = All-get_or (IsSoundTech g) g.techs n no_tech h sound.techs
 
-item_sound : (g : Game) (n : ℕ) → IsSound g → n < length g.items → IsSoundItem g (item_at g (record { 0 = n }))
+pub item_sound : (g : Game) (n : ℕ) → IsSound g → n < length g.items → IsSoundItem g (item_at g (record { 0 = n }))
 unfolding item_at
 item_sound g n sound h = All-get_or (IsSoundItem g) g.items n no_item h sound.items
 

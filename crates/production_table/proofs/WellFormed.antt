@@ -183,7 +183,7 @@ surplus_sound l n (suc j) (p ∷ ps) c prices each is = surplus_sound l n j ps c
 
 -- ---- the whole
 -- the goods are in order, and all that a table mentions is among them
-record IsOrdered (t : Table) (goods : List GoodId) (columns : List (List (GoodId × Fraction))) : Type 0 where
+pub record IsOrdered (t : Table) (goods : List GoodId) (columns : List (List (GoodId × Fraction))) : Type 0 where
   pub goods_up : GoodsRise 0 goods
   pub columns_up : EachRises columns
   pub columns_in : EachIn goods columns
@@ -212,7 +212,7 @@ table_goods_rise t columns =
     let c : List GoodId = with_goods b t.imports in
     goods_rise c t.surpluses (goods_rise b t.imports (goods_rise a t.wants (columns_goods_rise [] columns tt)))
 
-ordered : (g : Game) (t : Table) (columns : List (List (GoodId × Fraction))) → columns_of g t.power t.rows ≡ Ok columns → IsOrdered t (table_goods t columns) columns
+pub ordered : (g : Game) (t : Table) (columns : List (List (GoodId × Fraction))) → columns_of g t.power t.rows ≡ Ok columns → IsOrdered t (table_goods t columns) columns
 ordered g t columns e =
     let a : List GoodId = with_columns [] columns in
     let b : List GoodId = with_goods a t.wants in

@@ -3,4 +3,3 @@ pub mod Tables
 pub mod Numbers
 pub mod Linear
 pub mod Changes
-pub mod Balance
