@@ -7,9 +7,9 @@ use Rattle.planning_state.proofs.FaultLemmas.{of-edit}
 use Rattle.planning_state.proofs.changes.apply_change.Goals as goal
 
 pub returns-in-Err-clause-fault : goal.returns-in-Err-clause-fault
-returns-in-Err-clause-fault c = λ refusal milestones e. refused-name c.args.book.now milestones c.args.change.now refusal c.requires.held (c.in-Err.ensures refusal e)
+returns-in-Err-clause-fault c = λ refusal milestones tables e. refused-name c.args.book.now milestones tables c.args.change.now refusal c.requires.held c.requires.of_book (c.in-Err.ensures refusal e)
 
 pub returns-in-Err-apply_edit-clause-fault : goal.returns-in-Err-apply_edit-clause-fault
-returns-in-Err-apply_edit-clause-fault c = λ refusal milestones e.
-    of-edit (effect c.in-Ok.edit c.args.book.now) (λ r. effect_of (state_of c.args.book.now milestones) c.args.change.now ≡ Err r) c.in-Err-apply_edit.fault c.in-Err-apply_edit.ensures.effect
-    (λ f h. refused-edit c.args.book.now milestones c.args.change.now c.in-Ok.edit f c.requires.held c.in-Ok.ensures h) refusal (sym c.edit_fault.ensures ∙ e)
+returns-in-Err-apply_edit-clause-fault c = λ refusal milestones tables e.
+    of-edit (effect c.in-Ok-Some.edit c.args.book.now) (λ r. effect_of (state_of c.args.book.now milestones tables) c.args.change.now ≡ Err r) c.in-Err-apply_edit.fault c.in-Err-apply_edit.ensures.effect
+    (λ f h. refused-edit c.args.book.now milestones tables c.args.change.now c.in-Ok-Some.edit f c.requires.held c.requires.of_book c.in-Ok-Some.ensures h) refusal (sym c.edit_fault.ensures ∙ e)
