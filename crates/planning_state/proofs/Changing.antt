@@ -88,7 +88,7 @@ effect-tables s (Surplus table good price) t = refl
 effect-tables s (Power table on) t = refl
 
 -- a change of the tables asks for no edit of the book, and one of the book does
-no-edit : (g : Game) (change : Change) → is_of_tables change ≡ true → edit_named g change ≡ Ok None
+pub no-edit : (g : Game) (change : Change) → is_of_tables change ≡ true → edit_named g change ≡ Ok None
 unfolding edit_named
 no-edit g (Grant object) t = absurd cc
 no-edit g (Revoke object) t = absurd cc

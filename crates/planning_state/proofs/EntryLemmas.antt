@@ -48,7 +48,7 @@ no-milestone (Import table good price) h = refl
 no-milestone (Surplus table good price) h = refl
 no-milestone (Power table on) h = refl
 
-held-work : (s t : State) (changes : List Change) → list_all can_be_held changes ≡ true → work_of s changes t ≡ work_of_book changes s t
+pub held-work : (s t : State) (changes : List Change) → list_all can_be_held changes ≡ true → work_of s changes t ≡ work_of_book changes s t
 unfolding work_of
 held-work s t [] held = refl
 held-work s t (change ∷ []) held = ap (λ o. work_by o (change ∷ []) s t) (no-milestone change (first (can_be_held change) held))

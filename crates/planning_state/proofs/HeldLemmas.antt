@@ -95,7 +95,7 @@ held-none s t changes same = record {
   stays = λ n untouched. subst (λ (b : Book). StaysAs s.book b n) same (stays-refl s.book n);
 }
 
-ok-same : (s t : State) → (let o : Outcome State = Ok s in o) ≡ Ok t → s ≡ t
+pub ok-same : (s t : State) → (let o : Outcome State = Ok s in o) ≡ Ok t → s ≡ t
 ok-same s t f = cc
 
 held-edit : (s t : State) (change : Change) (edit : Edit) → edit_named s.book.game change ≡ Ok (Some edit) → (outcome : Result Book EditFault) → effect edit s.book ≡ outcome → with_book s outcome ≡ Ok t → Held s (change ∷ []) t
@@ -125,12 +125,12 @@ held-one s t change held e = by-kind (is_of_tables change) refl
     by-kind true is = held-tables s t change (tables_effect s.book.game s.tables change) (sym (effect-tables s change is) ∙ e)
     by-kind false is = held-named s t change (edit_named s.book.game change) refl (sym (effect-book s change held is) ∙ e)
 
-both : (a b : Bool) → (a && b) ≡ true → (a ≡ true) × (b ≡ true)
+pub both : (a b : Bool) → (a && b) ≡ true → (a ≡ true) × (b ≡ true)
 both true true e = (refl, refl)
 both true false e = absurd cc
 both false b e = absurd cc
 
-then-ok : (r : Outcome State) (place : ℕ) (next : State → Result State (ℕ × Refusal)) (t : State) → then_apply r place next ≡ Ok t → (u : State) × (r ≡ Ok u) × (next u ≡ Ok t)
+pub then-ok : (r : Outcome State) (place : ℕ) (next : State → Result State (ℕ × Refusal)) (t : State) → then_apply r place next ≡ Ok t → (u : State) × (r ≡ Ok u) × (next u ≡ Ok t)
 then-ok (Ok u) place next t e = (u, refl, e)
 then-ok (Err refusal) place next t e = absurd cc
 
