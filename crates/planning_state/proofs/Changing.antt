@@ -348,8 +348,8 @@ so_far-more old book new stood tables left changes i d edits more_edits undos mo
   stays = λ n untouched.
       let apart : (is_touched old edits n ≡ false) × (is_touched old one n ≡ false) = untouched-more old edits one n (subst (λ l. is_touched old l n ≡ false) own untouched) in
       stays-trans old book new n (s.stays n apart.0) (next.stays n
-          (ap (λ (h : Shape). list_any (λ edit. has_node (touched_by h edit) n) (edits_named book.game (get_or changes i d ∷ []))) s.names.shape
-          ∙ (ap (λ es. is_touched old es n) (edits-same old.game book.game s.names (get_or changes i d ∷ [])) ∙ apart.1)));
+      (ap (λ (h : Shape). list_any (λ edit. has_node (touched_by h edit) n) (edits_named book.game (get_or changes i d ∷ []))) s.names.shape
+      ∙ (ap (λ es. is_touched old es n) (edits-same old.game book.game s.names (get_or changes i d ∷ [])) ∙ apart.1)));
 }
   where
     one : List Edit

@@ -77,7 +77,7 @@ none-below f zero h = refl
 none-below f (suc n) h = omega (arith, h n, none-below f n h)
 
 no-size : (rows : List Row) (ranks : List ℕ) → size_of rows [] ranks ranks ≡ 0
-no-size rows ranks = none-below (λ n. if has_node [] n || (slice_index ranks n == slice_index ranks n) then 0 else 1 + user_count rows n) (length rows) each
+no-size rows ranks = omega (arith, none-below (λ n. if has_node [] n || (slice_index ranks n == slice_index ranks n) then 0 else 1 + user_count rows n) (length rows) each)
   where
     each : (k : ℕ) → (if has_node [] k || (slice_index ranks k == slice_index ranks k) then 0 else 1 + user_count rows k) ≡ 0
     each k = let own : (slice_index ranks k == slice_index ranks k) ≡ true = grind arith in ap (λ (b : Bool). if b then 0 else 1 + user_count rows k) own

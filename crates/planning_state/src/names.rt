@@ -182,7 +182,11 @@ fn product_edit(recipe: RecipeId, good: GoodId, amount: &Option<Ratio>) -> Edit
 ///
 /// `Unknown` with the first of its names that nothing has. Or `NoMemory`.
 #[tactic(auto, unfolding(crate::specs::Actions::edit_named))]
-pub(crate) fn edit_named(alloc: Global, game: &Game, change: &Change) -> Result<Option<Edit>, ChangeFault>
+pub(crate) fn edit_named(
+    alloc: Global,
+    game: &Game,
+    change: &Change,
+) -> Result<Option<Edit>, ChangeFault>
     requires { IsSound game.now }
     ensures { Gives (edit_named game.now change.now) result }
 {
