@@ -1,6 +1,6 @@
 -- What a change makes of a list of tables, and that its part leads back.
-use Rattle.std.proofs.Common.{◌≡◌, ◌∙◌, ℕ, zero, suc, ◌+◌, ◌-◌, ◌<◌, ◌≤◌, List, [], ◌∷◌, ◌++◌, Bool, true, false, length, get_or, set, drop, take, Option, Some, None, Result, Ok, Err, refl, sym, ap, subst, arith, length-append}
-use Rattle.std.specs.Prelude.{All, ◌||◌, if◌then◌else◌, ◌==◌, ◌&&◌, nat_lt, nat_le, insert, remove, slice_get, slice_set, slice_index_or, position, vec_capacity, vec_len, Vec}
+use Rattle.std.proofs.Common.{◌≡◌, ◌∙◌, ℕ, zero, suc, ◌-◌, ◌<◌, ◌≤◌, List, [], ◌∷◌, ◌++◌, Bool, true, false, length, get_or, set, drop, take, Result, Ok, Err, refl, sym, ap, subst, arith, length-append}
+use Rattle.std.specs.Prelude.{◌||◌, if◌then◌else◌, ◌==◌, ◌&&◌, nat_lt, nat_le, insert, remove, slice_set, vec_capacity, vec_len, Vec}
 use Rattle.std.specs.List.{list_any}
 use Rattle.std.specs.Str.{bytes_eq}
 use Rattle.std.specs.Global.{Global}
@@ -9,20 +9,17 @@ use Rattle.std.proofs.lemmas.List.Edits.{length-remove}
 use Rattle.std.proofs.lemmas.List.Elements.{All-push, All-set, All-take, All-drop, All-append}
 use Rattle.std.proofs.lemmas.List.{get_or_default, length-set}
 use Rattle.std.proofs.lemmas.Slice.Eq.{bytes_eq-Decides}
-use Rattle.fractions.specs.Fraction.{Fraction}
 use Rattle.game_types.specs.declared.games.Game.{Game}
 use Rattle.game_types.specs.Steps.{◌▸◌}
 use Rattle.script_reader.specs.declared.change.Change.{Change}
 use Rattle.script_reader.specs.declared.change.Change.TheVariants as change
-use Rattle.plan_base.specs.declared.ids.GoodId.{GoodId}
-use Rattle.game_types.specs.declared.setups.Setup.{Setup}
 use Rattle.production_table.specs.declared.tables.Table.{Table}
 use Rattle.production_table.specs.Changes.{empty_table}
 use Rattle.production_table.specs.Tables.{IsSoundTable}
 use Rattle.planner_tables.specs.declared.refusals.ChangeFault.TheVariants.{Refused}
 use Rattle.planner_tables.specs.declared.refusals.TableRefusal.{TableRefusal}
 use Rattle.planner_tables.specs.declared.refusals.TableRefusal.TheVariants.{NameUsed, Full}
-use Rattle.planner_tables.specs.declared.splices.Splice.TheVariants.{Remove, Insert}
+use Rattle.planner_tables.specs.declared.splices.Splice.TheVariants.{Remove}
 use Rattle.planner_tables.specs.declared.steps.Step.{Step}
 use Rattle.planner_tables.specs.declared.steps.Step.TheVariants as step
 use Rattle.planner_tables.specs.declared.undos.TablePart.{TablePart}
@@ -32,7 +29,7 @@ use Rattle.planner_tables.specs.Effects.{AreSoundTables, HaveOwnNames, IsSoundOn
 use Rattle.planner_tables.specs.Names.{good_named, setup_named}
 use Rattle.planner_tables.specs.Refusals.{Outcome}
 use Rattle.planner_tables.specs.Steps.{MakesTable, MakesTables, is_step, step_effect, step_named, step_table}
-use Rattle.planner_tables.specs.Undoing.{has_room, part_restored, spliced, tables_restored, with_at}
+use Rattle.planner_tables.specs.Undoing.{has_room, part_restored, spliced, tables_restored}
 use Rattle.planner_tables.proofs.Places.{put_back}
 use Rattle.planner_tables.proofs.SpliceLemmas.{goes_again, insert-end}
 

@@ -5,7 +5,6 @@ use Rattle.std.specs.Global.{Global}
 use Rattle.std.proofs.lemmas.Bool.Decides.{nat_tests}
 use Rattle.std.proofs.lemmas.List.Edits.{length-insert, length-remove}
 use Rattle.std.proofs.lemmas.Option.{slice_get_within}
-use Rattle.planner_tables.specs.declared.splices.Splice.{Splice}
 use Rattle.planner_tables.specs.declared.splices.Splice.TheVariants.{Remove, Insert}
 use Rattle.planner_tables.specs.Undoing.{spliced}
 

@@ -1,11 +1,9 @@
 -- What a change makes of one table, and that its part leads back.
-use Rattle.std.proofs.Common.{◌≡◌, ◌≢◌, ◌∙◌, ℕ, zero, suc, ◌+◌, ◌-◌, ◌<◌, ◌≤◌, List, [], ◌∷◌, ◌++◌, Bool, true, false, length, get_or, drop, take, Option, Some, None, Result, Ok, Err, refl, sym, ap, subst, arith}
-use Rattle.std.specs.Prelude.{All, if◌then◌else◌, ◌==◌, ◌&&◌, nat_lt, nat_le, insert, remove, slice_get, slice_set, position, vec_capacity, vec_len, Vec}
+use Rattle.std.proofs.Common.{◌≡◌, ◌≢◌, ◌∙◌, ℕ, suc, ◌<◌, ◌≤◌, List, [], ◌∷◌, ◌++◌, true, false, length, get_or, drop, take, Option, Some, None, Result, Ok, Err, refl, sym, ap, subst, arith}
+use Rattle.std.specs.Prelude.{All, if◌then◌else◌, ◌==◌, nat_lt, insert, remove, slice_get, slice_set, position, vec_capacity, vec_len, Vec}
 use Rattle.std.specs.Global.{Global}
-use Rattle.std.proofs.lemmas.Bool.Decides.{nat_tests}
-use Rattle.std.proofs.lemmas.List.Edits.{length-remove}
-use Rattle.std.proofs.lemmas.List.Elements.{All-nil, All-cons, All-head, All-tail, All-push, All-set, All-take, All-drop, All-append, All-get_or}
-use Rattle.std.proofs.lemmas.Option.{get_or_from_slice_get, slice_get_within}
+use Rattle.std.proofs.lemmas.List.Elements.{All-cons, All-head, All-tail, All-push, All-set, All-take, All-drop, All-append, All-get_or}
+use Rattle.std.proofs.lemmas.Option.{get_or_from_slice_get}
 use Rattle.fractions.specs.Fraction.{Fraction}
 use Rattle.plan_base.specs.declared.ids.GoodId.{GoodId}
 use Rattle.game_types.specs.declared.setups.Setup.{Setup}
@@ -17,7 +15,7 @@ use Rattle.production_table.specs.declared.faults.TableFault.{TableFault}
 use Rattle.production_table.specs.declared.faults.TableFault.TheVariants.{Full, LabelUsed, Negative, NoMemory}
 use Rattle.production_table.specs.declared.tables.Table.{Table}
 use Rattle.production_table.specs.declared.tables.TableRow.{TableRow}
-use Rattle.production_table.specs.Changes.{dropped, in_table, is_used, new_row, place_of, priced, with_balance, with_import, with_price, with_row, with_surplus, with_want, without_row}
+use Rattle.production_table.specs.Changes.{dropped, in_table, is_used, new_row, place_of, priced, with_import, with_price, with_row, with_surplus, with_want, without_row}
 use Rattle.production_table.specs.Numbers.{guard, is_full, is_negative, number_of, or_nothing, price_fits, put_or_take, repriced, rewanted, want_fits, with_number, without_number}
 use Rattle.production_table.specs.Tables.{IsSoundTable, is_label}
 use Rattle.production_table.proofs.Found.{no_price, place_is, price_is, some_row}
@@ -30,7 +28,7 @@ use Rattle.planner_tables.specs.declared.undos.TablePart.TheVariants as part
 use Rattle.planner_tables.specs.Effects.{AreGoods, IsSoundOn, table_after}
 use Rattle.planner_tables.specs.Refusals.{Outcome, cause}
 use Rattle.planner_tables.specs.Steps.{MakesTable}
-use Rattle.planner_tables.specs.Undoing.{spliced, with_at, with_price_at, with_row_price, with_rows}
+use Rattle.planner_tables.specs.Undoing.{spliced, with_price_at, with_row_price, with_rows}
 use Rattle.planner_tables.proofs.Places.{put_back}
 use Rattle.planner_tables.proofs.SpliceLemmas.{goes_again, comes_again, insert-end}
 

@@ -1,6 +1,6 @@
 -- What the rows of a plan take. A figure is none exactly where one of its operands is none, or where it is itself past the
 -- limits of fractions.
-use Rattle.std.specs.Prelude.{ℕ, ◌+◌, ◌-◌, ◌/◌, ℤ, pos, negsuc, List, [], ◌∷◌, length, Option, Some, None, Result, Ok, Err, option_and_then, option_map, if◌then◌else◌}
+use Rattle.std.specs.Prelude.{ℕ, ◌+◌, ◌-◌, ◌/◌, ℤ, pos, negsuc, List, [], ◌∷◌, Option, Some, None, Result, Ok, Err, if◌then◌else◌}
 use Rattle.std.specs.Prelude.{neg_ℤ}
 use Rattle.fractions.specs.Fraction.{Fraction, ◌+ʳ◌, ◌*ʳ◌, whole_fraction, zero_fraction}
 use Rattle.game_types.specs.declared.effects.Effects.{Effects}

@@ -1,6 +1,6 @@
 -- What is answered about tables: the rates of one row, and what the solver says of a table.
-use Rattle.std.specs.Prelude.{◌≡◌, ◌↔◌, ℕ, List, map, find, Option, Some, None, Result, Ok, Err}
-use Rattle.fractions.specs.Fraction.{Fraction, zero_fraction}
+use Rattle.std.specs.Prelude.{◌≡◌, ◌↔◌, ℕ, List, map, find, None, Result, Ok, Err}
+use Rattle.fractions.specs.Fraction.{Fraction}
 use Rattle.game_types.specs.declared.effects.Effects.{Effects}
 use Rattle.game_types.specs.declared.effects.Rates.{Rates}
 use Rattle.game_types.specs.declared.effects.Wide.{Wide}
@@ -20,7 +20,6 @@ use Rattle.production_table.specs.Linear.{linear_of}
 use Rattle.production_table.specs.Tables.{is_label, labels_of}
 use Rattle.plan_report.specs.declared.reply.Reply.{Reply}
 use Rattle.plan_report.specs.declared.reply.Reply.TheVariants as reply
-use Rattle.planner_tables.specs.declared.refusals.TableRefusal.{TableRefusal}
 use Rattle.planner_tables.specs.declared.refusals.TableRefusal.TheVariants.{NoName, Wide as WideRow}
 use Rattle.planner_tables.specs.Effects.{named, table_at, table_named}
 use Rattle.planner_tables.specs.Figures.{answer_figures, nothing, summed}

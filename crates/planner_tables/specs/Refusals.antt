@@ -1,5 +1,5 @@
 -- Why a change of tables, or a question about them, is refused, and what is told of it.
-use Rattle.std.specs.Prelude.{◌≡◌, ℕ, List, length, nat_lt, Option, Some, None, Result, Ok, Err, if◌then◌else◌}
+use Rattle.std.specs.Prelude.{◌≡◌, ℕ, length, nat_lt, Option, Some, None, Result, Ok, Err, if◌then◌else◌}
 use Rattle.plan_base.specs.declared.ids.EntityId.{EntityId}
 use Rattle.plan_base.specs.declared.ids.GoodId.{GoodId}
 use Rattle.plan_base.specs.declared.ids.NodeId.{NodeId}

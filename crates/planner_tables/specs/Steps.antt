@@ -1,5 +1,5 @@
 -- What a change makes of one table.
-use Rattle.std.specs.Prelude.{◌≡◌, ◌<◌, ℕ, List, [], Bool, true, false, Result, Ok, Err}
+use Rattle.std.specs.Prelude.{◌≡◌, ◌<◌, ℕ, List, [], Bool, true, false, Ok, Err}
 use Rattle.game_types.specs.declared.games.Game.{Game}
 use Rattle.game_types.specs.Goods.{good_count}
 use Rattle.game_types.specs.Sound.{IsSoundSetup}

@@ -13,7 +13,7 @@ use Rattle.data_edit.specs.declared.edits.Edit.TheVariants as edit
 use Rattle.data_edit.specs.declared.edits.EditFault.{EditFault}
 use Rattle.data_edit.specs.declared.parts.Inverse.{Inverse}
 use Rattle.data_edit.specs.Books.{IsSoundBook}
-use Rattle.data_edit.specs.Edits.{effect, restored}
+use Rattle.data_edit.specs.Edits.{effect}
 use Rattle.data_edit.specs.Names.{KeepsNames}
 use Rattle.data_edit.proofs.NamesKept.{edit_keeps}
 use Rattle.depend_rows.specs.Touched.{touched_by, StaysAs}

@@ -1,5 +1,5 @@
 -- Entries that change the book and the tables, and how they are taken back.
-use Rattle.std.proofs.Common.{◌≡◌, ◌∙◌, ℕ, ◌+◌, ◌*◌, ◌≤◌, ◌||◌, ◌&&◌, Bool, false, true, List, [], ◌∷◌, Option, None, Some, Result, Ok, Err, refl, sym, ap, subst}
+use Rattle.std.proofs.Common.{◌≡◌, ◌∙◌, ℕ, ◌+◌, ◌*◌, ◌≤◌, ◌&&◌, Bool, false, true, List, [], ◌∷◌, Option, None, Some, Result, Ok, Err, refl, sym, ap, subst}
 use Rattle.std.specs.List.{list_all, list_any}
 use Rattle.plan_base.specs.declared.ids.NodeId.{NodeId}
 use Rattle.plan_base.specs.declared.shape.Shape.{Shape}

@@ -1,5 +1,5 @@
 -- Entries of changes of the tables alone take no step.
-use Rattle.std.proofs.Common.{◌≡◌, ◌∙◌, ℕ, ◌+◌, ◌*◌, ◌<◌, ◌||◌, ◌&&◌, zero, suc, Bool, false, true, List, [], ◌∷◌, Option, None, Some, Result, Ok, Err, length, refl, sym, ap, arith, All}
+use Rattle.std.proofs.Common.{◌≡◌, ◌∙◌, ℕ, ◌+◌, ◌*◌, ◌<◌, ◌||◌, ◌&&◌, zero, suc, Bool, false, true, List, [], ◌∷◌, Option, Result, Ok, Err, length, refl, sym, ap, arith, All}
 use Rattle.std.specs.Prelude.{◌==◌, if◌then◌else◌, slice_get, slice_index}
 use Rattle.std.specs.List.{list_all}
 use Rattle.std.proofs.lemmas.List.Elements.{All-head}
@@ -23,10 +23,10 @@ use Rattle.script_reader.specs.declared.change.Change.TheVariants.{Grant, Revoke
 use Rattle.production_table.specs.declared.tables.Table.{Table as ProductionTable}
 use Rattle.planner_tables.specs.declared.refusals.TableRefusal.{TableRefusal}
 use Rattle.planner_tables.specs.Effects.{is_of_tables, tables_effect}
-use Rattle.planning_state.specs.Actions.{Outcome, can_be_held, edit_named}
+use Rattle.planning_state.specs.Actions.{Outcome, can_be_held}
 use Rattle.planning_state.specs.States.{State, state_of}
 use Rattle.planning_state.specs.Effects.{effect_of, with_tables}
-use Rattle.planning_state.specs.Work.{edit_and, edits_named, touched_in, work_of, work_of_book}
+use Rattle.planning_state.specs.Work.{edit_and, edits_named, touched_in, work_of}
 use Rattle.planning_state.specs.Worlds.{worlds_of}
 use Rattle.planning_state.proofs.Changing.{effect-tables, no-edit}
 use Rattle.planning_state.proofs.EntryLemmas.{held-work}

@@ -1,11 +1,7 @@
-use Rattle.std.proofs.Common.{◌≡◌, ◌<◌, ◌≤◌, ◌∙◌, ℕ, List, Bool, true, false, ◌++◌, ◌∷◌, [], length, ap, sym, subst, arith}
+use Rattle.std.proofs.Common.{◌≡◌, ◌∙◌, List, ◌++◌, ◌∷◌, [], length, ap, sym, arith}
 use Rattle.std.specs.List.{list_any}
 use Rattle.production_table.specs.declared.tables.Table.{Table}
 use Rattle.production_table.specs.Changes.{empty_table}
-use Rattle.script_reader.specs.declared.change.Change.{Change}
-use Rattle.planner_tables.specs.declared.refusals.ChangeFault.{ChangeFault}
-use Rattle.planner_tables.specs.declared.refusals.ChangeFault.TheVariants.{Refused}
-use Rattle.planner_tables.specs.declared.refusals.TableRefusal.{TableRefusal}
 use Rattle.planner_tables.specs.declared.refusals.TableRefusal.TheVariants.{Full, NameUsed}
 use Rattle.planner_tables.specs.Effects.{is_name}
 use Rattle.planner_tables.proofs.ChangeLemmas.{refused_same, table_made, table_used, tables_full}

@@ -1,4 +1,4 @@
-use Rattle.std.proofs.Common.{◌≡◌, ◌<◌, ◌∙◌, List, Ok, Err, get_or, length, sym, subst}
+use Rattle.std.proofs.Common.{◌≡◌, ◌<◌, ◌∙◌, List, Ok, Err, length, sym, subst}
 use Rattle.production_table.specs.declared.tables.Table.{Table}
 use Rattle.planner_tables.specs.Effects.{table_named}
 use Rattle.planner_tables.specs.Steps.{MakesTable, step_effect}

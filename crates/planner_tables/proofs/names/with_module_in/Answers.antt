@@ -1,4 +1,4 @@
-use Rattle.std.proofs.Common.{◌≡◌, List, sym, subst}
+use Rattle.std.proofs.Common.{List, sym, subst}
 use Rattle.game_types.specs.declared.setups.BeaconGroup.{BeaconGroup}
 use Rattle.game_types.specs.Sound.{IsSoundSetup}
 use Rattle.planner_tables.proofs.NameLemmas.{in_added}

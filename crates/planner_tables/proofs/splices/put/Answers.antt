@@ -1,5 +1,5 @@
-use Rattle.std.proofs.Common.{◌≡◌, ◌≤◌, ◌∙◌, ap, sym, arith, length}
-use Rattle.std.specs.Prelude.{vec_len, insert}
+use Rattle.std.proofs.Common.{ap, arith}
+use Rattle.std.specs.Prelude.{vec_len}
 use Rattle.std.proofs.lemmas.Grind.{common_steps}
 use Rattle.planner_tables.proofs.SpliceLemmas.{goes_again}
 use Rattle.planner_tables.proofs.splices.put.Goals as goal
