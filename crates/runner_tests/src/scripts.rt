@@ -79,19 +79,41 @@ fn edits_and_questions_are_answered(rt: HostRuntime) -> Result<(), Fail> {
 
 #[test]
 fn a_report_is_done(rt: HostRuntime) -> Result<(), Fail> {
-    assert!(rt; tells_all(rt.alloc(), "reach item:ore\r\n# so it is", ScriptEnd::Done, "1 reach item:ore rank 3\n"));
+    assert!(rt;
+        tells_all(
+            rt.alloc(),
+            "reach item:ore\r\n# so it is",
+            ScriptEnd::Done,
+            "1 reach item:ore rank 3\n"
+        )
+    );
     Ok(())
 }
 
 #[test]
 fn a_report_is_cut_off(rt: HostRuntime) -> Result<(), Fail> {
-    assert!(rt; tells(rt.alloc(), b"reach item:ore\nmilestones\n", 30, ScriptEnd::WriteFault, "1 reach item:ore rank 3\n2 mil"));
+    assert!(rt;
+        tells(
+            rt.alloc(),
+            b"reach item:ore\nmilestones\n",
+            30,
+            ScriptEnd::WriteFault,
+            "1 reach item:ore rank 3\n2 mile"
+        )
+    );
     Ok(())
 }
 
 #[test]
 fn tables_are_not_answered_yet(rt: HostRuntime) -> Result<(), Fail> {
-    assert!(rt; tells_all(rt.alloc(), "milestones\nwant t item:ore 1", ScriptEnd::NotYet, "not yet\n"));
+    assert!(rt;
+        tells_all(
+            rt.alloc(),
+            "milestones\nwant t item:ore 1",
+            ScriptEnd::NotYet,
+            "not yet\n"
+        )
+    );
     Ok(())
 }
 
@@ -117,6 +139,13 @@ fn the_most_lines_are_answered(rt: HostRuntime) -> Result<(), Fail> {
 
 #[test]
 fn one_line_more_is_too_many(rt: HostRuntime) -> Result<(), Fail> {
-    assert!(rt; tells_of_lines(rt.alloc(), 100_001, ScriptEnd::TooManyLines, "too long script lines\n"));
+    assert!(rt;
+        tells_of_lines(
+            rt.alloc(),
+            100_001,
+            ScriptEnd::TooManyLines,
+            "too long script lines\n"
+        )
+    );
     Ok(())
 }
