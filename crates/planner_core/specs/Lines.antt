@@ -9,11 +9,11 @@ use Rattle.script_reader.specs.declared.change.Change.{Change}
 use Rattle.script_reader.specs.declared.command.Command.{Command}
 use Rattle.script_reader.specs.declared.command.Command.TheVariants as command
 use Rattle.planning_state.specs.declared.refusals.Refusal.{Refusal}
-use Rattle.plan_report.specs.declared.Detail.TheVariants.{Word}
-use Rattle.plan_report.specs.declared.RefusalCode.{RefusalCode}
-use Rattle.plan_report.specs.declared.RefusalCode.TheVariants as code
-use Rattle.plan_report.specs.declared.Reply.{Reply}
-use Rattle.plan_report.specs.declared.Reply.TheVariants as reply
+use Rattle.plan_report.specs.declared.reply.RefusalCode.{RefusalCode}
+use Rattle.plan_report.specs.declared.reply.RefusalCode.TheVariants as code
+use Rattle.plan_report.specs.declared.reply.Reply.{Reply}
+use Rattle.plan_report.specs.declared.reply.Reply.TheVariants as reply
+use Rattle.planner_tables.specs.Questions.{rate_reply, IsSolveReply}
 use Rattle.planning_state.specs.declared.undos.Undo.{Undo}
 use Rattle.planning_state.specs.Actions.{Outcome, can_be_held, node_named}
 use Rattle.planning_state.specs.States.{State, first_state}
@@ -60,7 +60,7 @@ closed p = record p { batch = None }
 
 abbrev pub Tries : Result State (ℕ × Refusal) → (ℕ → Option ℕ) → Planned → List Change → Planned → Reply → Type 0
 Tries (Ok state) line_of p edits r answer = Enters p edits r × Closes p r × (answer ≡ done_reply p.quiet)
-Tries (Err fault) line_of p edits r answer = (r ≡ closed p) × (answer ≡ refused fault.1 (line_of fault.0))
+Tries (Err fault) line_of p edits r answer = (r ≡ closed p) × (answer ≡ refused p.state.book.game fault.1 (line_of fault.0))
 
 abbrev pub line_of : Option Held → Option ℕ
 line_of None = None
@@ -93,11 +93,7 @@ abbrev pub Says : Planned → Planned → Reply → Reply → Type 0
 Says p r answer told = (r ≡ p) × (answer ≡ told)
 
 abbrev pub Asks : Planned → Planned → Outcome NodeId → (NodeId → Reply → Type 0) → Reply → Type 0
-Asks p r node ask answer = (r ≡ p) × AboutNode node ask answer
-
--- no table is kept yet
-abbrev pub no_table : List ℕ → Reply
-no_table table = reply.Refused code.P1 (Word None table) None
+Asks p r node ask answer = (r ≡ p) × AboutNode p.state.book.game node ask answer
 
 -- ---- a line where no batch is open
 abbrev pub IsFree : Planned → Command → Planned → Reply → Type 0
@@ -108,8 +104,8 @@ IsFree p (command.Mask object) r answer = Asks p r (node_named p.state.book.game
 IsFree p (command.List kind) r answer = Says p r answer (list_reply p.state.book kind)
 IsFree p command.Milestones r answer = Says p r answer (reply.Milestones p.state.milestones)
 IsFree p command.Summary r answer = Says p r answer (summary_reply p.state (length (session_of p.kept).done) (length (session_of p.kept).undone))
-IsFree p (command.Rate table label) r answer = Says p r answer (no_table table)
-IsFree p (command.Solve table budget) r answer = Says p r answer (no_table table)
+IsFree p (command.Rate table label) r answer = Says p r answer (rate_reply p.state.book.game p.state.tables table label)
+IsFree p (command.Solve table budget) r answer = (r ≡ p) × IsSolveReply p.state.book.game p.state.tables table budget answer
 IsFree p (command.Quiet on) r answer = (r ≡ record p { quiet = on }) × (answer ≡ reply.Nothing)
 IsFree p command.Undo r answer = Moves (session_of p.kept).done code.H1 (undo_of (session_of p.kept)) p r answer
 IsFree p command.Redo r answer = Moves (session_of p.kept).undone code.H2 (redo_of (session_of p.kept)) p r answer

@@ -6,6 +6,7 @@ use Rattle.plan_base.specs.declared.ids.NodeId.{NodeId}
 use Rattle.plan_base.specs.declared.shape.Kind.{Kind}
 use Rattle.graph_store.specs.declared.Group.{Group}
 use Rattle.game_types.specs.Nodes.{shape_of}
+use Rattle.game_types.specs.declared.games.Game.{Game}
 use Rattle.data_edit.specs.declared.books.Book.{Book}
 use Rattle.data_edit.specs.declared.edits.EditFault.{EditFault}
 use Rattle.data_edit.specs.declared.edits.EditFault.TheVariants as of_edit
@@ -15,13 +16,14 @@ use Rattle.milestone_masks.specs.declared.worlds.MilestoneFault.TheVariants as o
 use Rattle.milestone_masks.specs.Why.{IsWhy}
 use Rattle.milestone_masks.specs.Worlds.{missing_in}
 use Rattle.planning_state.specs.declared.refusals.Refusal.{Refusal}
-use Rattle.planning_state.specs.declared.refusals.Refusal.TheVariants.{Unknown, NoTable, TooManyTables, OfEdit, OfMilestone}
-use Rattle.plan_report.specs.declared.Detail.{Detail}
-use Rattle.plan_report.specs.declared.Detail.TheVariants.{Bare, Word}
-use Rattle.plan_report.specs.declared.RefusalCode.{RefusalCode}
-use Rattle.plan_report.specs.declared.RefusalCode.TheVariants as code
-use Rattle.plan_report.specs.declared.Reply.{Reply}
-use Rattle.plan_report.specs.declared.Reply.TheVariants as reply
+use Rattle.planning_state.specs.declared.refusals.Refusal.TheVariants.{Unknown, OfEdit, OfMilestone, OfTables}
+use Rattle.planner_tables.specs.Refusals.{code_of as table_code, detail_of as table_detail}
+use Rattle.plan_report.specs.declared.reply.Detail.{Detail}
+use Rattle.plan_report.specs.declared.reply.Detail.TheVariants.{Bare, Word}
+use Rattle.plan_report.specs.declared.reply.RefusalCode.{RefusalCode}
+use Rattle.plan_report.specs.declared.reply.RefusalCode.TheVariants as code
+use Rattle.plan_report.specs.declared.reply.Reply.{Reply}
+use Rattle.plan_report.specs.declared.reply.Reply.TheVariants as reply
 use Rattle.planning_state.specs.Actions.{Outcome}
 use Rattle.planning_state.specs.States.{State}
 use Rattle.planning_state.specs.Worlds.{is_reached, mask_in, rank_of, ranks_in, world_of}
@@ -43,19 +45,19 @@ milestone_code of_milestone.NoMemory = code.M1
 
 abbrev pub code_of : Refusal → RefusalCode
 code_of (Unknown object) = code.X1
-code_of (NoTable table) = code.P1
-code_of TooManyTables = code.P3
 code_of (OfEdit fault) = edit_code fault
 code_of (OfMilestone fault) = milestone_code fault
+code_of (OfTables refusal) = table_code refusal
 
--- a name that nothing has is told
-abbrev pub detail_of : Refusal → Detail
-detail_of (Unknown object) = Word (Some object.kind) object.name
-detail_of (NoTable table) = Word None table
-detail_of refusal = Bare
+-- a name that nothing has is told, and of a refusal of tables what they tell
+abbrev pub detail_of : Game → Refusal → Detail
+detail_of g (Unknown object) = Word (Some object.kind) object.name
+detail_of g (OfEdit fault) = Bare
+detail_of g (OfMilestone fault) = Bare
+detail_of g (OfTables refusal) = table_detail g refusal
 
-abbrev pub refused : Refusal → Option ℕ → Reply
-refused refusal at = reply.Refused (code_of refusal) (detail_of refusal) at
+abbrev pub refused : Game → Refusal → Option ℕ → Reply
+refused g refusal at = reply.Refused (code_of refusal) (detail_of g refusal) at
 
 -- a refusal that has no details
 abbrev pub refused_as : RefusalCode → Reply
@@ -110,9 +112,9 @@ abbrev pub bits_of : State → ℕ
 bits_of s = sum_by (bits_at s) (range_with_len 0 (node_count (shape_of s.book.game)))
 
 abbrev pub summary_reply : State → ℕ → ℕ → Reply
-summary_reply s done undone = reply.Summary (reached_count s.book) (node_count (shape_of s.book.game)) (length s.milestones) (bits_of s) 0 done undone
+summary_reply s done undone = reply.Summary (reached_count s.book) (node_count (shape_of s.book.game)) (length s.milestones) (bits_of s) (length s.tables) done undone
 
 -- a name that nothing has is refused, and else the node is asked about
-abbrev pub AboutNode : Outcome NodeId → (NodeId → Reply → Type 0) → Reply → Type 0
-AboutNode (Ok node) ask r = ask node r
-AboutNode (Err refusal) ask r = r ≡ refused refusal None
+abbrev pub AboutNode : Game → Outcome NodeId → (NodeId → Reply → Type 0) → Reply → Type 0
+AboutNode g (Ok node) ask r = ask node r
+AboutNode g (Err refusal) ask r = r ≡ refused g refusal None

@@ -16,8 +16,8 @@ ghost use Rattle.std.specs.List.{list_all};
 ghost use Rattle.planner_core.specs.Lines.{changes_of, entry_work, first_planned, is_free, is_refused, line_at, line_work, Does, Ends, Held as HeldChange, HoldsChange, IsFree, IsOpen, IsSessionOf, IsStep, Moves};
 
 use crate::questions::{
-    list_reply, mask_reply, milestones_reply, missing_reply, no_table, reach_reply, refused,
-    refused_as, summary_reply, why_reply,
+    list_reply, mask_reply, milestones_reply, missing_reply, rate_reply, reach_reply, refused,
+    refused_as, solve_reply, summary_reply, why_reply,
 };
 use edit_undo::{DoFault, History};
 use game_types::Game;
@@ -100,7 +100,9 @@ impl Planner {
         let edits = one(self.alloc, change)?;
         match self.history.doit(&mut self.planning, edits, steps) {
             Ok(()) => Ok(done_reply(self.quiet)),
-            Err(DoFault::Refused(_, refusal)) => Ok(refused(refusal, None)),
+            Err(DoFault::Refused(_, refusal)) => {
+                Ok(refused(self.planning.game(), refusal, None))
+            }
             Err(_) => Err(NoMemory),
         }
     }
@@ -154,8 +156,12 @@ impl Planner {
             Command::Mask(object) => mask_reply(self.alloc, &self.planning, &object),
             Command::List(kind) => list_reply(self.alloc, &self.planning, kind),
             Command::Milestones => milestones_reply(self.alloc, &self.planning),
-            Command::Rate { table, .. } => Ok(no_table(table)),
-            Command::Solve { table, .. } => Ok(no_table(table)),
+            Command::Rate { table, label } => {
+                rate_reply(self.alloc, &self.planning, &table, &label)
+            }
+            Command::Solve { table, budget } => {
+                solve_reply(self.alloc, &self.planning, &table, budget)
+            }
             Command::Quiet(on) => {
                 self.quiet = on;
                 Ok(Reply::Nothing)
@@ -225,7 +231,7 @@ impl Planner {
             }
             Err(DoFault::Refused(place, refusal)) => {
                 let at = line_at(held.as_slice(), place);
-                let answer = refused(refusal, at);
+                let answer = refused(self.planning.game(), refusal, at);
                 self.batch = None;
                 Ok(answer)
             }

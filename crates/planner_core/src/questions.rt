@@ -2,15 +2,18 @@
 ghost use Rattle.std.specs.Prelude.{◌≡◌, ℕ, ◌+◌, ◌*◌, ◌^◌, ◌<◌, ◌-◌, ◌≤◌, ◌++◌, ◌∷◌, [], All, List, None, Some, IfOk, OnOk, if◌then◌else◌, length, map};
 ghost use Rattle.plan_base.specs.Shape.{count_of, first_of, node_count};
 ghost use Rattle.game_types.specs.Nodes.{shape_of};
-ghost use Rattle.plan_report.specs.declared.Reply.TheVariants as reply;
-ghost use Rattle.plan_report.specs.declared.Detail.TheVariants.{Bare};
+ghost use Rattle.plan_report.specs.declared.reply.Reply.TheVariants as reply;
+ghost use Rattle.plan_report.specs.declared.reply.Detail.TheVariants.{Bare};
 ghost use Rattle.planning_state.specs.declared.refusals.Refusal.{Refusal as RefusalOf};
 ghost use Rattle.planning_state.specs.Actions.{node_named};
 ghost use Rattle.planner_core.specs.Replies.{edit_code, mask_reply, milestone_code, missing_lines, list_reply, missing_reply, reached_count, reached_from, bits_at, bits_of, refused, refused_as, summary_reply, why_line, AboutNode, IsWhyReply};
 ghost use Rattle.planning_state.specs.Worlds.{is_reached, rank_of};
-ghost use Rattle.planner_core.specs.Lines.{no_table, reply_work};
+ghost use Rattle.game_types.specs.Sound.{IsSound};
+ghost use Rattle.planner_tables.specs.Questions.{rate_reply, IsSolveReply};
+ghost use Rattle.planner_core.specs.Lines.{reply_work};
 
 use data_edit::EditFault;
+use game_types::Game;
 use graph_store::Group;
 use milestone_masks::MilestoneFault;
 use plan_base::{Items, Kind, NoMemory, NodeId, Steps, Text};
@@ -53,13 +56,6 @@ pub(crate) fn refused_as(code: RefusalCode) -> Reply
     }
 }
 
-/// A table that is not there.
-pub(crate) fn no_table(table: Text) -> Reply
-    ensures { result ≡ no_table table }
-{
-    refused(Refusal::NoTable(table), None)
-}
-
 // A refusal without details, of a line of a batch or of the line itself.
 fn bare(code: RefusalCode, at: Option<u32>) -> Reply
     ensures { result ≡ reply.Refused code Bare at }
@@ -71,9 +67,10 @@ fn bare(code: RefusalCode, at: Option<u32>) -> Reply
     }
 }
 
-/// A refusal, with the name that nothing has.
-pub(crate) fn refused(refusal: Refusal, at: Option<u32>) -> Reply
-    ensures { result ≡ refused refusal at }
+/// A refusal, with the name that nothing has, or what tables tell.
+pub(crate) fn refused(game: &Game, refusal: Refusal, at: Option<u32>) -> Reply
+    requires { IsSound game.now }
+    ensures { result ≡ refused game.now refusal at }
 {
     match refusal {
         Refusal::Unknown(object) => {
@@ -87,23 +84,19 @@ pub(crate) fn refused(refusal: Refusal, at: Option<u32>) -> Reply
                 at,
             }
         }
-        Refusal::NoTable(name) => Reply::Refused {
-            code: RefusalCode::P1,
-            detail: Detail::Word { kind: None, name },
-            at,
-        },
-        Refusal::TooManyTables => bare(RefusalCode::P3, at),
         Refusal::OfEdit(fault) => bare(edit_code(fault), at),
         Refusal::OfMilestone(fault) => bare(milestone_code(fault), at),
+        Refusal::OfTables(refusal) => planner_tables::refused(game, refusal, at),
     }
 }
 
 // The reply where an object can't be found.
-fn not_found(fault: ChangeFault) -> Result<Reply, NoMemory>
-    ensures { IfOk result (λ answer. (refusal : RefusalOf) × (fault ≡ ChangeFault.Refused refusal) × (answer ≡ refused refusal None)) }
+fn not_found(game: &Game, fault: ChangeFault) -> Result<Reply, NoMemory>
+    requires { IsSound game.now }
+    ensures { IfOk result (λ answer. (refusal : RefusalOf) × (fault ≡ ChangeFault.Refused refusal) × (answer ≡ refused game.now refusal None)) }
 {
     match fault {
-        ChangeFault::Refused(refusal) => Ok(refused(refusal, None)),
+        ChangeFault::Refused(refusal) => Ok(refused(game, refusal, None)),
         ChangeFault::NoMemory => Err(NoMemory),
     }
 }
@@ -114,14 +107,14 @@ pub(crate) fn reach_reply(
     planning: &Planning,
     object: &Object,
 ) -> Result<Reply, NoMemory>
-    ensures { IfOk result (AboutNode (node_named planning.now.book.game object.now) (λ node told. told ≡ reply.Reach node (rank_of planning.now.book node.0))) }
+    ensures { IfOk result (AboutNode planning.now.book.game (node_named planning.now.book.game object.now) (λ node told. told ≡ reply.Reach node (rank_of planning.now.book node.0))) }
 {
     match planning.node(object) {
         Ok(node) => Ok(Reply::Reach {
             node,
             rank: planning.rank(node),
         }),
-        Err(fault) => not_found(fault),
+        Err(fault) => not_found(planning.game(), fault),
     }
 }
 
@@ -131,11 +124,11 @@ pub(crate) fn mask_reply(
     planning: &Planning,
     object: &Object,
 ) -> Result<Reply, NoMemory>
-    ensures { IfOk result (AboutNode (node_named planning.now.book.game object.now) (λ node told. told ≡ mask_reply planning.now node (is_reached planning.now.book node.0))) }
+    ensures { IfOk result (AboutNode planning.now.book.game (node_named planning.now.book.game object.now) (λ node told. told ≡ mask_reply planning.now node (is_reached planning.now.book node.0))) }
 {
     match planning.node(object) {
         Ok(node) => mask_of(alloc, planning, node),
-        Err(fault) => not_found(fault),
+        Err(fault) => not_found(planning.game(), fault),
     }
 }
 
@@ -166,13 +159,13 @@ pub(crate) fn why_reply<L>(
     object: &Object,
     steps: &mut Steps<L>,
 ) -> Result<Reply, NoMemory>
-    ensures why { IfOk result (AboutNode (node_named planning.now.book.game object.now) (λ node told. IsWhyReply planning.now node (is_reached planning.now.book node.0) told)) }
+    ensures why { IfOk result (AboutNode planning.now.book.game (node_named planning.now.book.game object.now) (λ node told. IsWhyReply planning.now node (is_reached planning.now.book node.0) told)) }
     ensures steps { IfOk result (λ told. steps.new ≤ steps.old + reply_work told) }
     ensures later { steps.old ≤ steps.new }
 {
     match planning.node(object) {
         Ok(node) => why_of(alloc, planning, node, steps),
-        Err(fault) => not_found(fault),
+        Err(fault) => not_found(planning.game(), fault),
     }
 }
 
@@ -242,13 +235,13 @@ pub(crate) fn missing_reply<L>(
     object: &Object,
     steps: &mut Steps<L>,
 ) -> Result<Reply, NoMemory>
-    ensures missing { IfOk result (AboutNode (node_named planning.now.book.game object.now) (λ node told. told ≡ missing_reply planning.now node (is_reached planning.now.book node.0))) }
+    ensures missing { IfOk result (AboutNode planning.now.book.game (node_named planning.now.book.game object.now) (λ node told. told ≡ missing_reply planning.now node (is_reached planning.now.book node.0))) }
     ensures steps { IfOk result (λ told. steps.new ≤ steps.old + reply_work told) }
     ensures later { steps.old ≤ steps.new }
 {
     match planning.node(object) {
         Ok(node) => missing_of(alloc, planning, node, steps),
-        Err(fault) => not_found(fault),
+        Err(fault) => not_found(planning.game(), fault),
     }
 }
 
@@ -393,8 +386,32 @@ pub(crate) fn summary_reply(planning: &Planning, done: u64, undone: u64) -> Repl
         nodes: planning.node_count(),
         milestones: planning.milestone_count(),
         bits,
-        tables: 0,
+        tables: planning.tables().len() as u32,
         done,
         undone,
     }
+}
+
+/// The rates of a row of a table, or why there are none.
+pub(crate) fn rate_reply(
+    alloc: Global,
+    planning: &Planning,
+    table: &Text,
+    label: &Text,
+) -> Result<Reply, NoMemory>
+    ensures { IfOk result (λ told. told ≡ rate_reply planning.now.book.game planning.now.tables table.now label.now) }
+{
+    planner_tables::rate_reply(alloc, planning.game(), planning.tables(), table, label)
+}
+
+/// What the solver says of a table, with so many exchanges at most, or why it is not asked.
+pub(crate) fn solve_reply(
+    alloc: Global,
+    planning: &Planning,
+    table: &Text,
+    budget: u32,
+) -> Result<Reply, NoMemory>
+    ensures { IfOk result (IsSolveReply planning.now.book.game planning.now.tables table.now budget) }
+{
+    planner_tables::solve_reply(alloc, planning.game(), planning.tables(), table, budget)
 }

@@ -8,10 +8,11 @@ ghost use Rattle.planner_tables.specs.Effects.{IsSoundOn, table_after};
 ghost use Rattle.planner_tables.specs.Refusals.{cause};
 ghost use Rattle.planner_tables.specs.Steps.{IsRefused, MakesTable, StepFits, step_effect};
 
+use crate::undos::copied;
 use crate::{ChangeFault, Numbers, Splice, TablePart, TableRefusal};
 use fractions::Ratio;
 use game_types::{Game, Setup};
-use plan_base::{GoodId, Items, NoMemory, Text};
+use plan_base::{GoodId, Text};
 use production_table::{Table, TableFault};
 use script_reader::Object;
 use std::alloc::Global;
@@ -103,17 +104,6 @@ fn good_fault(alloc: Global, object: &Object, fault: TableFault) -> ChangeFault
         TableFault::Unknown => no_price(alloc, object),
         other => plain_fault(other),
     }
-}
-
-// An equal list of its own.
-fn copied(
-    alloc: Global,
-    numbers: &Items<(GoodId, Ratio)>,
-) -> Result<Items<(GoodId, Ratio)>, NoMemory>
-    ensures { IfOk result (λ copy. copy ≡ numbers.now) }
-{
-    let copy = Vec::from_slice(alloc, numbers.as_slice())?;
-    Ok(Items::from_vec(copy))
 }
 
 // A row comes in at the end.

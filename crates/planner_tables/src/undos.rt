@@ -1,10 +1,12 @@
 //! What undoes a change of tables.
-ghost use Rattle.std.specs.Prelude.{◌≡◌};
-ghost use Rattle.planner_tables.specs.Undoing.{part_restored, tables_restored, with_at, with_numbers, with_power, with_price_at, with_row_price, with_rows};
+ghost use Rattle.std.specs.Prelude.{◌≡◌, IfOk, List};
+ghost use Rattle.production_table.specs.declared.tables.Table.{Table as TableOf};
+ghost use Rattle.production_table.specs.declared.tables.TableRow.{TableRow as RowOf};
+ghost use Rattle.planner_tables.specs.Undoing.{part_restored, spliced, tables_restored, with_at, with_numbers, with_power, with_price_at, with_row_price, with_rows};
 
-use crate::splices::{Splice, exchange_element};
+use crate::splices::{Splice, copied_insertion, copied_removal, exchange_element};
 use fractions::Ratio;
-use plan_base::{GoodId, Items};
+use plan_base::{GoodId, Items, NoMemory};
 use production_table::{Table, TableRow};
 use std::alloc::Global;
 use std::mem;
@@ -146,5 +148,88 @@ pub fn exchange_tables(alloc: Global, tables: &mut Vec<Table>, undo: TableUndo) 
             table,
             part: exchange_part_at(alloc, tables.as_mut_slice(), table, part),
         },
+    }
+}
+
+/// An equal list of its own.
+pub(crate) fn copied(
+    alloc: Global,
+    numbers: &Items<(GoodId, Ratio)>,
+) -> Result<Items<(GoodId, Ratio)>, NoMemory>
+    ensures { IfOk result (λ copy. copy ≡ numbers.now) }
+{
+    let copy = Vec::from_slice(alloc, numbers.as_slice())?;
+    Ok(Items::from_vec(copy))
+}
+
+fn copied_row(alloc: Global, splice: &Splice<TableRow>) -> Result<Splice<TableRow>, NoMemory>
+    ensures { IfOk result (λ copy. (rows : List RowOf) → spliced copy rows ≡ spliced splice.now rows) }
+{
+    match splice {
+        Splice::Remove { place, room } => copied_removal(alloc, *place, room),
+        Splice::Insert { place, item, room } => {
+            let row = item.copy(alloc)?;
+            copied_insertion(alloc, *place, row, room)
+        }
+    }
+}
+
+fn copied_table(alloc: Global, splice: &Splice<Table>) -> Result<Splice<Table>, NoMemory>
+    ensures { IfOk result (λ copy. (tables : List TableOf) → spliced copy tables ≡ spliced splice.now tables) }
+{
+    match splice {
+        Splice::Remove { place, room } => copied_removal(alloc, *place, room),
+        Splice::Insert { place, item, room } => {
+            let table = item.copy(alloc)?;
+            copied_insertion(alloc, *place, table, room)
+        }
+    }
+}
+
+fn copied_part(alloc: Global, part: &TablePart) -> Result<TablePart, NoMemory>
+    ensures { IfOk result (λ copy. (table : TableOf) → part_restored copy table ≡ part_restored part.now table) }
+{
+    match part {
+        TablePart::Rows(splice) => {
+            let copy = copied_row(alloc, splice)?;
+            Ok(TablePart::Rows(copy))
+        }
+        TablePart::Goods { list, numbers } => {
+            let numbers = copied(alloc, numbers)?;
+            Ok(TablePart::Goods {
+                list: *list,
+                numbers,
+            })
+        }
+        TablePart::Price { row, price } => Ok(TablePart::Price {
+            row: *row,
+            price: *price,
+        }),
+        TablePart::Power(on) => Ok(TablePart::Power(*on)),
+    }
+}
+
+impl TableUndo {
+    /// What undoes the same.
+    ///
+    /// # Errors
+    ///
+    /// `NoMemory` where memory could not be had.
+    pub fn copy(&self, alloc: Global) -> Result<TableUndo, NoMemory>
+        ensures { IfOk result (λ copy. (tables : List TableOf) → tables_restored copy tables ≡ tables_restored self.now tables) }
+    {
+        match self {
+            TableUndo::Tables(splice) => {
+                let copy = copied_table(alloc, splice)?;
+                Ok(TableUndo::Tables(copy))
+            }
+            TableUndo::Part { table, part } => {
+                let part = copied_part(alloc, part)?;
+                Ok(TableUndo::Part {
+                    table: *table,
+                    part,
+                })
+            }
+        }
     }
 }

@@ -16,7 +16,7 @@ use Rattle.script_reader.specs.declared.change.Change.TheVariants.{Grant, Revoke
 use Rattle.planning_state.specs.declared.undos.Undo.{Undo}
 use Rattle.planning_state.specs.declared.undos.Undo.TheVariants.{Taken}
 use Rattle.planning_state.specs.Actions.{Outcome, can_be_held, node_named}
-use Rattle.planning_state.specs.States.{State, state_of, IsSoundState}
+use Rattle.planning_state.specs.States.{State, state_of, AreSoundMilestones}
 use Rattle.planning_state.specs.Undoing.{Fits, FitsTaken, LeadsBack, taken_back}
 use Rattle.planning_state.specs.Work.{milestone_named, work_by, work_of, work_of_book, work_of_milestone}
 use Rattle.planning_state.specs.Worlds.{ranks_in, world_of}
@@ -48,7 +48,7 @@ no-milestone (Import table good price) h = refl
 no-milestone (Surplus table good price) h = refl
 no-milestone (Power table on) h = refl
 
-held-work : (s t : State) (changes : List Change) → list_all can_be_held changes ≡ true → work_of s changes t ≡ work_of_book changes s t
+pub held-work : (s t : State) (changes : List Change) → list_all can_be_held changes ≡ true → work_of s changes t ≡ work_of_book changes s t
 unfolding work_of
 held-work s t [] held = refl
 held-work s t (change ∷ []) held = ap (λ o. work_by o (change ∷ []) s t) (no-milestone change (first (can_be_held change) held))
@@ -89,9 +89,9 @@ work-put (Ok u) s own t book changes node place old new e b f fits put h =
 pub put-within : (s t : State) (changes : List Change) (undos : List Undo) (node : NodeId) (place : ℕ) → undos ≡ Taken node place ∷ [] → LeadsBack t changes undos s → node.0 < node_count (shape_of t.book.game)
 put-within s t changes undos node place is leads =
     subst (λ (u : State). node.0 < node_count (shape_of u.book.game)) same_book
-    (subst (λ (m : NodeId). m.0 < node_count (shape_of s.book.game)) there (leads.sound.nodes place node inside))
+    (subst (λ (m : NodeId). m.0 < node_count (shape_of s.book.game)) there (leads.sound.milestones.nodes place node inside))
   where
-    put : state_of t.book (insert t.milestones place node) ≡ s
+    put : state_of t.book (insert t.milestones place node) t.tables ≡ s
     put = ap (λ us. taken_back us t) (sym is) ∙ leads.back
 
     room : place ≤ length t.milestones
@@ -103,11 +103,12 @@ put-within s t changes undos node place is leads =
     inside : place < length s.milestones
     inside = omega (arith, room, ap (λ (u : State). length u.milestones) put, length-insert t.milestones place node room)
 
-    same_book : s ≡ state_of t.book (insert t.milestones place node)
+    same_book : s ≡ state_of t.book (insert t.milestones place node) t.tables
     same_book = sym put
 
 pub fits-put : (s t : State) (changes : List Change) (undos : List Undo) (node : NodeId) (place : ℕ) → undos ≡ Taken node place ∷ [] → LeadsBack t changes undos s → FitsTaken t.book.game changes node place (length t.milestones)
 fits-put s t changes undos node place is leads = subst (λ us. Fits changes us t) is leads.fits
 
-pub put-sound : (s t : State) (changes : List Change) (undos : List Undo) (node : NodeId) (place : ℕ) → undos ≡ Taken node place ∷ [] → LeadsBack t changes undos s → IsSoundState (state_of t.book (insert t.milestones place node))
-put-sound s t changes undos node place is leads = subst IsSoundState (sym (ap (λ us. taken_back us t) (sym is) ∙ leads.back)) leads.sound
+pub put-sound : (s t : State) (changes : List Change) (undos : List Undo) (node : NodeId) (place : ℕ) → undos ≡ Taken node place ∷ [] → LeadsBack t changes undos s → AreSoundMilestones t.book (insert t.milestones place node)
+put-sound s t changes undos node place is leads =
+    subst (λ (u : State). AreSoundMilestones u.book u.milestones) (sym (ap (λ us. taken_back us t) (sym is) ∙ leads.back)) leads.sound.milestones

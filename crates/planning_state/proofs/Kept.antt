@@ -28,7 +28,8 @@ use Rattle.depend_rows.proofs.Below.{length-rows_of}
 use Rattle.milestone_masks.specs.declared.worlds.Milestone.{Milestone}
 use Rattle.milestone_masks.specs.Worlds.{AgreeInWorlds, AreWorlds, Kept, milestones_of}
 use Rattle.milestone_masks.proofs.ChangeLemmas.{SameAt, agree-in_worlds}
-use Rattle.planning_state.specs.States.{state_of, IsSoundState}
+use Rattle.production_table.specs.declared.tables.Table.{Table}
+use Rattle.planning_state.specs.States.{state_of, AreSoundMilestones}
 use Rattle.planning_state.specs.Worlds.{milestone_in, ranks_in, world_of, worlds_of, IsKept}
 use Rattle.planning_state.specs.Books.{AreRowsBut, ComesFrom, is_touched}
 
@@ -61,9 +62,9 @@ milestones-in book (m ∷ ms) all =
 same_kept : (a b : List ℕ) (ms ns : List Milestone) → a ≡ b → ms ≡ ns → (let x : Kept = record { base = a; milestones = ms } in x) ≡ (let y : Kept = record { base = b; milestones = ns } in y)
 same_kept a b ms ns e f = cc
 
-pub kept-is : (book : Book) (kept : Kept) → AreWorlds (rows_of book.game) book.barred book.granted kept → kept ≡ worlds_of (state_of book (milestones_of kept))
+pub kept-is : (book : Book) (kept : Kept) (tables : List Table) → AreWorlds (rows_of book.game) book.barred book.granted kept → kept ≡ worlds_of (state_of book (milestones_of kept) tables)
 unfolding worlds_of
-kept-is book kept are =
+kept-is book kept tables are =
     same_kept kept.base (ranks_in (world_of book None)) kept.milestones (map (milestone_in book) (map (λ m. m.node) kept.milestones))
     (are-ranks_in (world_of book None) kept.base are.base)
     (milestones-in book kept.milestones are.each)
@@ -148,7 +149,7 @@ pub kept-settled : {E : Type 0} (result : Result (Unit {0}) E) (before after : B
     → OnOk result (rows ≡ rows_of after.game) → OnOk result (AreWorlds (rows_of after.game) after.barred after.granted new) → OnOk result (IsKept after rows new)
 kept-settled (Err fault) before after own rows old new kept names sound same e are = tt
 kept-settled (Ok u) before after own rows old new kept names sound same e are = record {
-  sound = subst (λ (nodes : List NodeId). IsSoundState (state_of after nodes)) (sym same) (record {
+  sound = subst (AreSoundMilestones after) (sym same) (record {
     book = sound;
     nodes = subst (λ (k : ℕ). All (λ (m : NodeId). m.0 < k) (milestones_of old)) (sym (same_count before after names)) kept.sound.nodes;
     once = kept.sound.once;

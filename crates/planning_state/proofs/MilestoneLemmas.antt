@@ -26,7 +26,9 @@ use Rattle.milestone_masks.specs.declared.worlds.Milestone.{Milestone}
 use Rattle.milestone_masks.specs.declared.worlds.MilestoneFault.{MilestoneFault}
 use Rattle.milestone_masks.specs.Worlds.{AddAnswer, AreWorlds, Kept, milestones_of, place_of}
 use Rattle.milestone_masks.proofs.WorldLemmas.{All-insert, map-drop, map-both, map-take}
-use Rattle.planning_state.specs.States.{State, milestone_place, state_of, IsSoundState}
+use Rattle.production_table.specs.declared.tables.Table.{Table}
+use Rattle.planner_tables.specs.Effects.{AreSoundTables}
+use Rattle.planning_state.specs.States.{State, milestone_place, state_of, AreSoundMilestones}
 use Rattle.edit_undo.specs.Edits.{apply_edits, then_apply, IsEntry, Leads}
 use Rattle.milestone_masks.specs.declared.worlds.MilestoneFault.TheVariants as of_milestone
 use Rattle.script_reader.specs.declared.change.Object.{Object}
@@ -264,23 +266,23 @@ there (Some place) h = (place, refl)
 length-nodes : (kept : Kept) → length (milestones_of kept) ≡ length kept.milestones
 length-nodes kept = length-of (λ (m : Milestone). m.node) kept.milestones
 
-pub add-refused : (book : Book) (kept : Kept) (object : Object) (node : NodeId) (fault : MilestoneFault) (refusal : Refusal) → node_named book.game object ≡ Ok node → AddAnswer (Err fault) kept.milestones node.0 → milestone_fault fault ≡ Refused refusal
-    → apply_edits effect_of (state_of book (milestones_of kept)) (MilestoneLine object ∷ []) ≡ Err (0, refusal)
-add-refused book kept object node of_milestone.NoMemory refusal named answer e = absurd cc
-add-refused book kept object node of_milestone.NotOne refusal named answer e = absurd answer
-add-refused book kept object node of_milestone.Already refusal named answer e =
+pub add-refused : (book : Book) (kept : Kept) (tables : List Table) (object : Object) (node : NodeId) (fault : MilestoneFault) (refusal : Refusal) → node_named book.game object ≡ Ok node → AddAnswer (Err fault) kept.milestones node.0 → milestone_fault fault ≡ Refused refusal
+    → apply_edits effect_of (state_of book (milestones_of kept) tables) (MilestoneLine object ∷ []) ≡ Err (0, refusal)
+add-refused book kept tables object node of_milestone.NoMemory refusal named answer e = absurd cc
+add-refused book kept tables object node of_milestone.NotOne refusal named answer e = absurd answer
+add-refused book kept tables object node of_milestone.Already refusal named answer e =
     let found : (place : ℕ) × (place_of kept.milestones node.0 ≡ Some place) = there (place_of kept.milestones node.0) answer in
     let same : OfMilestone of_milestone.Already ≡ refusal = cc in
-    on-one (state_of book (milestones_of kept)) (MilestoneLine object) (Err (OfMilestone of_milestone.Already)) (Err (0, refusal))
-    (add-named (state_of book (milestones_of kept)) object node named ∙ ap (with_milestone (state_of book (milestones_of kept)) node) (place-is kept.milestones node.0 ∙ found.1))
+    on-one (state_of book (milestones_of kept) tables) (MilestoneLine object) (Err (OfMilestone of_milestone.Already)) (Err (0, refusal))
+    (add-named (state_of book (milestones_of kept) tables) object node named ∙ ap (with_milestone (state_of book (milestones_of kept) tables) node) (place-is kept.milestones node.0 ∙ found.1))
     (ap (λ r. Err (0, r)) same)
-add-refused book kept object node of_milestone.Full refusal named answer e =
+add-refused book kept tables object node of_milestone.Full refusal named answer e =
     let full : nat_le 256 (length (milestones_of kept)) ≡ true = grind (arith, nat_tests, answer.1, length-nodes kept) in
     let same : OfMilestone of_milestone.Full ≡ refusal = cc in
-    on-one (state_of book (milestones_of kept)) (MilestoneLine object) (Err (OfMilestone of_milestone.Full)) (Err (0, refusal))
-    (add-named (state_of book (milestones_of kept)) object node named
-    ∙ (ap (with_milestone (state_of book (milestones_of kept)) node) (place-is kept.milestones node.0 ∙ answer.0)
-    ∙ ap (λ (b : Bool). if b then Err (OfMilestone of_milestone.Full) else Ok (state_of book (milestones_of kept ++ node ∷ []))) full))
+    on-one (state_of book (milestones_of kept) tables) (MilestoneLine object) (Err (OfMilestone of_milestone.Full)) (Err (0, refusal))
+    (add-named (state_of book (milestones_of kept) tables) object node named
+    ∙ (ap (with_milestone (state_of book (milestones_of kept) tables) node) (place-is kept.milestones node.0 ∙ answer.0)
+    ∙ ap (λ (b : Bool). if b then Err (OfMilestone of_milestone.Full) else Ok (state_of book (milestones_of kept ++ node ∷ []) tables)) full))
     (ap (λ r. Err (0, r)) same)
 
 -- a milestone more at the end
@@ -298,24 +300,24 @@ last-place nodes node none =
     end : (pos len more : ℕ) → more ≡ cond (eqb pos len) (len + cond (node.0 == node.0) 0 1) pos → pos ≤ len → cond (nat_lt pos len) (Some pos) None ≡ None → more ≡ len
     end pos len more e h n = grind (arith, nat_tests, e, h, n)
 
-pub add-leads : (book : Book) (rows : List Row) (old new : Kept) (object : Object) (node : NodeId) (place : ℕ) (undos : List Undo) → IsKept book rows old → node_named book.game object ≡ Ok node
+pub add-leads : (book : Book) (rows : List Row) (old new : Kept) (tables : List Table) (object : Object) (node : NodeId) (place : ℕ) (undos : List Undo) → IsKept book rows old → AreSoundTables book.game tables → node_named book.game object ≡ Ok node
     → place_of old.milestones node.0 ≡ None → length old.milestones < 256 → place ≡ length old.milestones → milestones_of new ≡ insert (milestones_of old) place node → undos ≡ Added node ∷ []
-    → Leads effect_of is_entry LeadsBack (state_of book (milestones_of old)) (MilestoneLine object ∷ []) undos (state_of book (milestones_of new))
-add-leads book rows old new object node place undos kept named none room at put is = record {
+    → Leads effect_of is_entry LeadsBack (state_of book (milestones_of old) tables) (MilestoneLine object ∷ []) undos (state_of book (milestones_of new) tables)
+add-leads book rows old new tables object node place undos kept fit named none room at put is = record {
   entry = entry-one (MilestoneLine object);
-  accepted = on-one (state_of book (milestones_of old)) (MilestoneLine object) (Ok (state_of book (milestones_of old ++ node ∷ []))) (Ok (state_of book (milestones_of new)))
-      (add-named (state_of book (milestones_of old)) object node named
-      ∙ (ap (with_milestone (state_of book (milestones_of old)) node) (place-is old.milestones node.0 ∙ none)
-      ∙ ap (λ (b : Bool). if b then Err (OfMilestone of_milestone.Full) else Ok (state_of book (milestones_of old ++ node ∷ []))) not_full))
-      (ap (λ ms. Ok (state_of book ms)) (sym pushed));
+  accepted = on-one (state_of book (milestones_of old) tables) (MilestoneLine object) (Ok (state_of book (milestones_of old ++ node ∷ []) tables)) (Ok (state_of book (milestones_of new) tables))
+      (add-named (state_of book (milestones_of old) tables) object node named
+      ∙ (ap (with_milestone (state_of book (milestones_of old) tables) node) (place-is old.milestones node.0 ∙ none)
+      ∙ ap (λ (b : Bool). if b then Err (OfMilestone of_milestone.Full) else Ok (state_of book (milestones_of old ++ node ∷ []) tables)) not_full))
+      (ap (λ ms. Ok (state_of book ms tables)) (sym pushed));
   back = record {
-    sound = kept.sound;
+    sound = record { milestones = kept.sound; tables = fit };
     names = names-refl book.game;
-    fits = subst (λ us. Fits (MilestoneLine object ∷ []) us (state_of book (milestones_of new))) (sym is) tt;
-    back = ap (λ us. taken_back us (state_of book (milestones_of new))) is
-        ∙ (ap (λ ms. state_of book (removed_at ms (milestone_place ms node.0))) pushed
-        ∙ (ap (λ o. state_of book (removed_at (milestones_of old ++ node ∷ []) o)) (last-place (milestones_of old) node (place-is old.milestones node.0 ∙ none))
-        ∙ ap (state_of book) (remove-last (milestones_of old) node)));
+    fits = subst (λ us. Fits (MilestoneLine object ∷ []) us (state_of book (milestones_of new) tables)) (sym is) tt;
+    back = ap (λ us. taken_back us (state_of book (milestones_of new) tables)) is
+        ∙ (ap (λ ms. state_of book (removed_at ms (milestone_place ms node.0)) tables) pushed
+        ∙ (ap (λ o. state_of book (removed_at (milestones_of old ++ node ∷ []) o) tables) (last-place (milestones_of old) node (place-is old.milestones node.0 ∙ none))
+        ∙ ap (λ ms. state_of book ms tables) (remove-last (milestones_of old) node)));
   };
 }
   where
@@ -330,13 +332,13 @@ add-leads book rows old new object node place undos kept named none room at put 
     remove-last (y ∷ xs) x = ap (λ ys. y ∷ ys) (remove-last xs x)
 
 -- ---- a milestone less
-pub take-refused : (book : Book) (kept : Kept) (object : Object) (node : NodeId) (fault : MilestoneFault) (refusal : Refusal) → node_named book.game object ≡ Ok node → fault ≡ of_milestone.NotOne → place_of kept.milestones node.0 ≡ None → milestone_fault fault ≡ Refused refusal
-    → apply_edits effect_of (state_of book (milestones_of kept)) (UnmilestoneLine object ∷ []) ≡ Err (0, refusal)
-take-refused book kept object node fault refusal named is none e =
+pub take-refused : (book : Book) (kept : Kept) (tables : List Table) (object : Object) (node : NodeId) (fault : MilestoneFault) (refusal : Refusal) → node_named book.game object ≡ Ok node → fault ≡ of_milestone.NotOne → place_of kept.milestones node.0 ≡ None → milestone_fault fault ≡ Refused refusal
+    → apply_edits effect_of (state_of book (milestones_of kept) tables) (UnmilestoneLine object ∷ []) ≡ Err (0, refusal)
+take-refused book kept tables object node fault refusal named is none e =
     let not_one : milestone_fault of_milestone.NotOne ≡ Refused refusal = subst (λ f. milestone_fault f ≡ Refused refusal) is e in
     let same : OfMilestone of_milestone.NotOne ≡ refusal = cc in
-    on-one (state_of book (milestones_of kept)) (UnmilestoneLine object) (Err (OfMilestone of_milestone.NotOne)) (Err (0, refusal))
-    (take-named (state_of book (milestones_of kept)) object node named ∙ ap (without_milestone (state_of book (milestones_of kept))) (place-is kept.milestones node.0 ∙ none))
+    on-one (state_of book (milestones_of kept) tables) (UnmilestoneLine object) (Err (OfMilestone of_milestone.NotOne)) (Err (0, refusal))
+    (take-named (state_of book (milestones_of kept) tables) object node named ∙ ap (without_milestone (state_of book (milestones_of kept) tables)) (place-is kept.milestones node.0 ∙ none))
     (ap (λ r. Err (0, r)) same)
 
 -- a node that is put where it stood
@@ -360,20 +362,20 @@ found-at nodes node place found =
     put-back : (xs : List NodeId) → position_or_len (λ (m : NodeId). m.0 == node.0) xs < length xs → insert (remove xs (position_or_len (λ (m : NodeId). m.0 == node.0) xs)) (position_or_len (λ (m : NodeId). m.0 == node.0) xs) node ≡ xs
     put-back xs h = put-at xs (position_or_len (λ (m : NodeId). m.0 == node.0) xs) node h (same_node (get_or xs (position_or_len (λ (m : NodeId). m.0 == node.0) xs) node) node (passes_at_first (λ (m : NodeId). m.0 == node.0) xs node h))
 
-pub take-leads : (book : Book) (rows : List Row) (old new : Kept) (object : Object) (node : NodeId) (place : ℕ) (undos : List Undo) → IsKept book rows old → node_named book.game object ≡ Ok node
+pub take-leads : (book : Book) (rows : List Row) (old new : Kept) (tables : List Table) (object : Object) (node : NodeId) (place : ℕ) (undos : List Undo) → IsKept book rows old → AreSoundTables book.game tables → node_named book.game object ≡ Ok node
     → place_of old.milestones node.0 ≡ Some place → new.milestones ≡ remove old.milestones place → undos ≡ Taken node place ∷ []
-    → Leads effect_of is_entry LeadsBack (state_of book (milestones_of old)) (UnmilestoneLine object ∷ []) undos (state_of book (milestones_of new))
-take-leads book rows old new object node place undos kept named found dropped is = record {
+    → Leads effect_of is_entry LeadsBack (state_of book (milestones_of old) tables) (UnmilestoneLine object ∷ []) undos (state_of book (milestones_of new) tables)
+take-leads book rows old new tables object node place undos kept fit named found dropped is = record {
   entry = entry-one (UnmilestoneLine object);
-  accepted = on-one (state_of book (milestones_of old)) (UnmilestoneLine object) (Ok (state_of book (remove (milestones_of old) place))) (Ok (state_of book (milestones_of new)))
-      (take-named (state_of book (milestones_of old)) object node named ∙ ap (without_milestone (state_of book (milestones_of old))) (place-is old.milestones node.0 ∙ found))
-      (ap (λ ms. Ok (state_of book ms)) (sym less));
+  accepted = on-one (state_of book (milestones_of old) tables) (UnmilestoneLine object) (Ok (state_of book (remove (milestones_of old) place) tables)) (Ok (state_of book (milestones_of new) tables))
+      (take-named (state_of book (milestones_of old) tables) object node named ∙ ap (without_milestone (state_of book (milestones_of old) tables)) (place-is old.milestones node.0 ∙ found))
+      (ap (λ ms. Ok (state_of book ms tables)) (sym less));
   back = record {
-    sound = kept.sound;
+    sound = record { milestones = kept.sound; tables = fit };
     names = names-refl book.game;
-    fits = subst (λ us. Fits (UnmilestoneLine object ∷ []) us (state_of book (milestones_of new))) (sym is) (record { object = object; change = refl; named = named; room = room });
-    back = ap (λ us. taken_back us (state_of book (milestones_of new))) is
-        ∙ (ap (λ ms. state_of book (insert ms place node)) less ∙ ap (state_of book) stood.1);
+    fits = subst (λ us. Fits (UnmilestoneLine object ∷ []) us (state_of book (milestones_of new) tables)) (sym is) (record { object = object; change = refl; named = named; room = room });
+    back = ap (λ us. taken_back us (state_of book (milestones_of new) tables)) is
+        ∙ (ap (λ ms. state_of book (insert ms place node) tables) less ∙ ap (λ ms. state_of book ms tables) stood.1);
   };
 }
   where
@@ -387,11 +389,11 @@ take-leads book rows old new object node place undos kept named found dropped is
     room = omega (arith, stood.0, ap length less, length-remove (milestones_of old) place stood.0)
 
 -- ---- a milestone that comes back is none, and there is room for it
-pub not-already : (book : Book) (kept : Kept) (node : NodeId) (place : ℕ) → place ≤ length (milestones_of kept) → IsSoundState (state_of book (insert (milestones_of kept) place node)) → IsSome (place_of kept.milestones node.0) → ⊥
+pub not-already : (book : Book) (kept : Kept) (node : NodeId) (place : ℕ) → place ≤ length (milestones_of kept) → AreSoundMilestones book (insert (milestones_of kept) place node) → IsSome (place_of kept.milestones node.0) → ⊥
 not-already book kept node place room sound is =
     let found : (k : ℕ) × (place_of kept.milestones node.0 ≡ Some k) = there (place_of kept.milestones node.0) is in
     let stands : (found.0 < length (milestones_of kept)) × ((get_or (milestones_of kept) found.0 node).0 ≡ node.0) = stands-at (milestones_of kept) node.0 found.0 node (place-is kept.milestones node.0 ∙ found.1) in
     not-twice (milestones_of kept) place found.0 node room stands.0 sound.once stands.1
 
-pub not-full : (book : Book) (kept : Kept) (node : NodeId) (place : ℕ) → place ≤ length (milestones_of kept) → IsSoundState (state_of book (insert (milestones_of kept) place node)) → 256 ≤ length kept.milestones → ⊥
+pub not-full : (book : Book) (kept : Kept) (node : NodeId) (place : ℕ) → place ≤ length (milestones_of kept) → AreSoundMilestones book (insert (milestones_of kept) place node) → 256 ≤ length kept.milestones → ⊥
 not-full book kept node place room sound full = omega (arith, sound.few, full, length-insert (milestones_of kept) place node room, length-nodes kept)

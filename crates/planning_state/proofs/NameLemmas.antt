@@ -1,5 +1,5 @@
 -- What names mean stays where the names do.
-use Rattle.std.proofs.Common.{◌≡◌, ◌∙◌, ℕ, ◌+◌, List, [], ◌∷◌, Ok, length, refl, ap}
+use Rattle.std.proofs.Common.{◌≡◌, ◌∙◌, ℕ, ◌+◌, List, [], ◌∷◌, Option, Some, Ok, length, refl, ap}
 use Rattle.std.specs.Prelude.{option_map, if◌then◌else◌}
 use Rattle.plan_base.specs.Shape.{first_of}
 use Rattle.plan_base.specs.declared.ids.GoodId.{GoodId}
@@ -49,23 +49,23 @@ module _ (g h : Game) (names : KeepsNames g h) where
 
   pub edit-same : (change : Change) → edit_named h change ≡ edit_named g change
   unfolding edit_named
-  edit-same (Grant object) = ap (λ (o : Outcome NodeId). o ▸ λ node. Ok (edit.Grant node)) (node-same object)
-  edit-same (Revoke object) = ap (λ (o : Outcome NodeId). o ▸ λ node. Ok (edit.Revoke node)) (node-same object)
-  edit-same (Forbid object) = ap (λ (o : Outcome NodeId). o ▸ λ node. Ok (edit.Forbid node)) (node-same object)
-  edit-same (Permit object) = ap (λ (o : Outcome NodeId). o ▸ λ node. Ok (edit.Permit node)) (node-same object)
+  edit-same (Grant object) = ap (λ (o : Outcome NodeId). o ▸ λ node. Ok (Some (edit.Grant node))) (node-same object)
+  edit-same (Revoke object) = ap (λ (o : Outcome NodeId). o ▸ λ node. Ok (Some (edit.Revoke node))) (node-same object)
+  edit-same (Forbid object) = ap (λ (o : Outcome NodeId). o ▸ λ node. Ok (Some (edit.Forbid node))) (node-same object)
+  edit-same (Permit object) = ap (λ (o : Outcome NodeId). o ▸ λ node. Ok (Some (edit.Permit node))) (node-same object)
   edit-same (Milestone object) = refl
   edit-same (Unmilestone object) = refl
   edit-same (Ingredient recipe good amount) =
-      ap (λ (o : Outcome RecipeId). o ▸ λ r. good_named h good ▸ λ x. Ok (ingredient_edit r x amount)) (recipe-same recipe)
-      ∙ ap (λ (o : Outcome GoodId). recipe_named g recipe ▸ λ r. o ▸ λ x. Ok (ingredient_edit r x amount)) (good-same good)
+      ap (λ (o : Outcome RecipeId). o ▸ λ r. good_named h good ▸ λ x. Ok (Some (ingredient_edit r x amount))) (recipe-same recipe)
+      ∙ ap (λ (o : Outcome GoodId). recipe_named g recipe ▸ λ r. o ▸ λ x. Ok (Some (ingredient_edit r x amount))) (good-same good)
   edit-same (Product recipe good amount) =
-      ap (λ (o : Outcome RecipeId). o ▸ λ r. good_named h good ▸ λ x. Ok (product_edit r x amount)) (recipe-same recipe)
-      ∙ ap (λ (o : Outcome GoodId). recipe_named g recipe ▸ λ r. o ▸ λ x. Ok (product_edit r x amount)) (good-same good)
+      ap (λ (o : Outcome RecipeId). o ▸ λ r. good_named h good ▸ λ x. Ok (Some (product_edit r x amount))) (recipe-same recipe)
+      ∙ ap (λ (o : Outcome GoodId). recipe_named g recipe ▸ λ r. o ▸ λ x. Ok (Some (product_edit r x amount))) (good-same good)
   edit-same (Unlock tech recipe on) =
-      ap (λ (o : Outcome TechId). o ▸ λ t. recipe_named h recipe ▸ λ r. Ok (edit.SetUnlock t r on)) (tech-same tech)
-      ∙ ap (λ (o : Outcome RecipeId). tech_named g tech ▸ λ t. o ▸ λ r. Ok (edit.SetUnlock t r on)) (recipe-same recipe)
-  edit-same (Time recipe seconds) = ap (λ (o : Outcome RecipeId). o ▸ λ r. Ok (edit.SetTime r seconds)) (recipe-same recipe)
-  edit-same (Enabled recipe on) = ap (λ (o : Outcome RecipeId). o ▸ λ r. Ok (edit.SetEnabled r on)) (recipe-same recipe)
+      ap (λ (o : Outcome TechId). o ▸ λ t. recipe_named h recipe ▸ λ r. Ok (Some (edit.SetUnlock t r on))) (tech-same tech)
+      ∙ ap (λ (o : Outcome RecipeId). tech_named g tech ▸ λ t. o ▸ λ r. Ok (Some (edit.SetUnlock t r on))) (recipe-same recipe)
+  edit-same (Time recipe seconds) = ap (λ (o : Outcome RecipeId). o ▸ λ r. Ok (Some (edit.SetTime r seconds))) (recipe-same recipe)
+  edit-same (Enabled recipe on) = ap (λ (o : Outcome RecipeId). o ▸ λ r. Ok (Some (edit.SetEnabled r on))) (recipe-same recipe)
   edit-same (Table table) = refl
   edit-same (Untable table) = refl
   edit-same (Row table label activity machine parts) = refl
@@ -79,4 +79,4 @@ module _ (g h : Game) (names : KeepsNames g h) where
   pub edits-same : (changes : List Change) → edits_named h changes ≡ edits_named g changes
   edits-same [] = refl
   edits-same (change ∷ changes) =
-      ap (λ (o : Outcome Edit). edit_and o (edits_named h changes)) (edit-same change) ∙ ap (edit_and (edit_named g change)) (edits-same changes)
+      ap (λ (o : Outcome (Option Edit)). edit_and o (edits_named h changes)) (edit-same change) ∙ ap (edit_and (edit_named g change)) (edits-same changes)

@@ -10,6 +10,8 @@ use Rattle.graph_store.specs.Rows.{AreMembersBelow, member_count}
 use Rattle.reach_ranks.specs.Rounds.{Nodes}
 use Rattle.reach_ranks.specs.Ranks.{AreRanks}
 use Rattle.game_types.specs.Nodes.{shape_of}
+use Rattle.game_types.specs.declared.games.Game.{Game}
+use Rattle.planner_tables.specs.Effects.{AreSoundTables, IsSoundOn}
 use Rattle.data_edit.specs.declared.books.Book.{Book}
 use Rattle.data_edit.specs.Books.{IsSoundBook}
 use Rattle.depend_rows.specs.Rows.{rows_of}
@@ -19,11 +21,12 @@ use Rattle.milestone_masks.specs.declared.worlds.Milestone.{Milestone}
 use Rattle.milestone_masks.specs.Why.{IsWhy}
 use Rattle.milestone_masks.specs.Worlds.{AreWorlds, Kept, mask_of, milestones_of, missing_in, ranked}
 use Rattle.milestone_masks.proofs.LawLemmas.{mask-same, ranked-reached}
+use Rattle.production_table.specs.declared.tables.Table.{Table}
 use Rattle.planning_state.specs.States.{State, state_of}
 use Rattle.planning_state.specs.Worlds.{is_reached, mask_in, rank_of, ranks_in, world_of, IsKept}
 use Rattle.planning_state.proofs.Kept.{are-ranks_in, is-whole}
 
-module _ (s : State) (book : Book) (rows : List Row) (kept : Kept) (view : state_of book (milestones_of kept) ≡ s) (keeps : IsKept book rows kept) where
+module _ (s : State) (book : Book) (tables : List Table) (rows : List Row) (kept : Kept) (view : state_of book (milestones_of kept) tables ≡ s) (keeps : IsKept book rows kept) where
   long : length kept.base ≡ node_count (shape_of book.game)
   long = keeps.worlds.base.as_long ∙ length-rows_of book.game
 
@@ -85,6 +88,9 @@ kept-first book rows worlds sound e none are = record {
   rows_are = e;
   worlds = are;
 }
+
+pub no-tables : (g : Game) → AreSoundTables g []
+no-tables g = record { names = tt; few = omega arith; each = All-nil (IsSoundOn g) }
 
 pub first-steps : {A E : Type 0} (result : Result A E) (book : Book) (rows : List Row) (old new : ℕ) → rows ≡ rows_of book.game → new ≤ old + 4 * (length rows + member_count rows) → IfOk result (λ _. new ≤ old + 4 * (node_count (shape_of book.game) + member_count (rows_of book.game)))
 first-steps (Ok a) book rows old new e h = more (length rows) (member_count rows) (ap length e ∙ length-rows_of book.game) (ap member_count e) h

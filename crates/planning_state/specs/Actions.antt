@@ -14,9 +14,9 @@ use Rattle.data_edit.specs.declared.edits.Edit.{Edit}
 use Rattle.data_edit.specs.declared.edits.Edit.TheVariants as edit
 use Rattle.script_reader.specs.declared.change.Object.{Object}
 use Rattle.script_reader.specs.declared.change.Change.{Change}
-use Rattle.script_reader.specs.declared.change.Change.TheVariants.{Grant, Revoke, Forbid, Permit, Milestone, Unmilestone, Ingredient, Product, Unlock, Time, Enabled, Table, Untable, Row, Unrow, Price, Want, Import, Surplus, Power}
+use Rattle.script_reader.specs.declared.change.Change.TheVariants.{Grant, Revoke, Forbid, Permit, Milestone, Unmilestone, Ingredient, Product, Unlock, Time, Enabled}
 use Rattle.planning_state.specs.declared.refusals.Refusal.{Refusal}
-use Rattle.planning_state.specs.declared.refusals.Refusal.TheVariants.{Unknown, NoTable, TooManyTables}
+use Rattle.planning_state.specs.declared.refusals.Refusal.TheVariants.{Unknown}
 use Rattle.planning_state.specs.declared.refusals.ChangeFault.{ChangeFault}
 use Rattle.planning_state.specs.declared.refusals.ChangeFault.TheVariants.{Refused, NoMemory}
 
@@ -77,29 +77,19 @@ abbrev pub product_edit : RecipeId → GoodId → Option Fraction → Edit
 product_edit recipe good (Some amount) = edit.SetProduct recipe good amount
 product_edit recipe good None = edit.DropProduct recipe good
 
--- the edit of the book that a change asks for, or the first of its names that nothing has. Milestones are no part of the
--- book, and there is no room for tables yet.
-unfoldable pub edit_named : Game → Change → Outcome Edit
-edit_named g (Grant object) = node_named g object ▸ λ node. Ok (edit.Grant node)
-edit_named g (Revoke object) = node_named g object ▸ λ node. Ok (edit.Revoke node)
-edit_named g (Forbid object) = node_named g object ▸ λ node. Ok (edit.Forbid node)
-edit_named g (Permit object) = node_named g object ▸ λ node. Ok (edit.Permit node)
-edit_named g (Milestone object) = Err TooManyTables
-edit_named g (Unmilestone object) = Err TooManyTables
-edit_named g (Ingredient recipe good amount) = recipe_named g recipe ▸ λ r. good_named g good ▸ λ x. Ok (ingredient_edit r x amount)
-edit_named g (Product recipe good amount) = recipe_named g recipe ▸ λ r. good_named g good ▸ λ x. Ok (product_edit r x amount)
-edit_named g (Unlock tech recipe on) = tech_named g tech ▸ λ t. recipe_named g recipe ▸ λ r. Ok (edit.SetUnlock t r on)
-edit_named g (Time recipe seconds) = recipe_named g recipe ▸ λ r. Ok (edit.SetTime r seconds)
-edit_named g (Enabled recipe on) = recipe_named g recipe ▸ λ r. Ok (edit.SetEnabled r on)
-edit_named g (Table table) = Err TooManyTables
-edit_named g (Untable table) = Err (NoTable table)
-edit_named g (Row table label activity machine parts) = Err (NoTable table)
-edit_named g (Unrow table label) = Err (NoTable table)
-edit_named g (Price table label price) = Err (NoTable table)
-edit_named g (Want table good amount) = Err (NoTable table)
-edit_named g (Import table good price) = Err (NoTable table)
-edit_named g (Surplus table good price) = Err (NoTable table)
-edit_named g (Power table on) = Err (NoTable table)
+-- The edit of the book that a change asks for, or the first of its names that nothing has. Changes of the milestones and of
+-- the tables ask for none.
+unfoldable pub edit_named : Game → Change → Outcome (Option Edit)
+edit_named g (Grant object) = node_named g object ▸ λ node. Ok (Some (edit.Grant node))
+edit_named g (Revoke object) = node_named g object ▸ λ node. Ok (Some (edit.Revoke node))
+edit_named g (Forbid object) = node_named g object ▸ λ node. Ok (Some (edit.Forbid node))
+edit_named g (Permit object) = node_named g object ▸ λ node. Ok (Some (edit.Permit node))
+edit_named g (Ingredient recipe good amount) = recipe_named g recipe ▸ λ r. good_named g good ▸ λ x. Ok (Some (ingredient_edit r x amount))
+edit_named g (Product recipe good amount) = recipe_named g recipe ▸ λ r. good_named g good ▸ λ x. Ok (Some (product_edit r x amount))
+edit_named g (Unlock tech recipe on) = tech_named g tech ▸ λ t. recipe_named g recipe ▸ λ r. Ok (Some (edit.SetUnlock t r on))
+edit_named g (Time recipe seconds) = recipe_named g recipe ▸ λ r. Ok (Some (edit.SetTime r seconds))
+edit_named g (Enabled recipe on) = recipe_named g recipe ▸ λ r. Ok (Some (edit.SetEnabled r on))
+edit_named g change = Ok None
 
 -- whether a batch may hold the change: each but those of milestones
 abbrev pub can_be_held : Change → Bool

@@ -12,13 +12,13 @@ use Rattle.planning_state.specs.declared.undos.Undo.TheVariants.{Added, Taken}
 use Rattle.planning_state.specs.Actions.{can_be_held}
 use Rattle.planning_state.specs.Undoing.{is_of_milestone}
 
--- one milestone, or changes of the book
+-- one milestone, or changes of the book and of the tables
 abbrev pub IsEntryOf : List Change → Entry → Type 0
 IsEntryOf changes (Add object) = changes ≡ Milestone object.now ∷ []
 IsEntryOf changes (Take object) = changes ≡ Unmilestone object.now ∷ []
 IsEntryOf changes Held = list_all can_be_held changes ≡ true
 
--- one milestone, or parts of the book
+-- one milestone, or parts of the book and of the tables
 abbrev pub IsBackOf : List Undo → Back → Type 0
 IsBackOf undos (Drops node) = undos ≡ Added node ∷ []
 IsBackOf undos (Puts node place) = undos ≡ Taken node place ∷ []

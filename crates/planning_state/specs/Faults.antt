@@ -6,8 +6,10 @@ use Rattle.milestone_masks.specs.declared.worlds.MilestoneFault.{MilestoneFault}
 use Rattle.milestone_masks.specs.declared.worlds.MilestoneFault.TheVariants as of_milestone
 use Rattle.edit_undo.specs.declared.editable.EntryFault.{EntryFault}
 use Rattle.edit_undo.specs.declared.editable.EntryFault.TheVariants as entry
+use Rattle.planner_tables.specs.declared.refusals.ChangeFault.{ChangeFault as TablesFault}
+use Rattle.planner_tables.specs.declared.refusals.ChangeFault.TheVariants as of_tables
 use Rattle.planning_state.specs.declared.refusals.Refusal.{Refusal}
-use Rattle.planning_state.specs.declared.refusals.Refusal.TheVariants.{OfEdit, OfMilestone}
+use Rattle.planning_state.specs.declared.refusals.Refusal.TheVariants.{OfEdit, OfMilestone, OfTables}
 use Rattle.planning_state.specs.declared.refusals.ChangeFault.{ChangeFault}
 use Rattle.planning_state.specs.declared.refusals.ChangeFault.TheVariants.{Refused, NoMemory}
 
@@ -22,3 +24,7 @@ edit_fault fault = Refused (OfEdit fault)
 abbrev pub milestone_fault : MilestoneFault → ChangeFault
 milestone_fault of_milestone.NoMemory = NoMemory
 milestone_fault fault = Refused (OfMilestone fault)
+
+abbrev pub tables_fault : TablesFault → ChangeFault
+tables_fault (of_tables.Refused refusal) = Refused (OfTables refusal)
+tables_fault of_tables.NoMemory = NoMemory

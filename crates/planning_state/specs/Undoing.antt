@@ -9,31 +9,47 @@ use Rattle.game_types.specs.declared.games.Game.{Game}
 use Rattle.script_reader.specs.declared.change.Object.{Object}
 use Rattle.script_reader.specs.declared.change.Change.{Change}
 use Rattle.script_reader.specs.declared.change.Change.TheVariants.{Unmilestone}
+use Rattle.production_table.specs.declared.tables.Table.{Table}
+use Rattle.planner_tables.specs.Undoing.{tables_restored}
 use Rattle.planning_state.specs.Actions.{can_be_held, node_named}
 use Rattle.planning_state.specs.declared.undos.Undo.{Undo}
-use Rattle.planning_state.specs.declared.undos.Undo.TheVariants.{Part, Added, Taken}
+use Rattle.planning_state.specs.declared.undos.Undo.TheVariants.{Part, OfTables, Added, Taken}
 use Rattle.planning_state.specs.States.{State, state_of, milestone_place, IsSoundState}
 
--- what is about milestones leaves the book
+-- what is about milestones and about tables leaves the book
 abbrev pub part_restored : Undo → Book → Book
 part_restored (Part part) book = restored part book
+part_restored (OfTables undo) book = book
 part_restored (Added node) book = book
 part_restored (Taken node place) book = book
 
--- the parts are put back, the last one first
+-- the parts of the book are put back, the last one first
 abbrev pub all_restored : List Undo → Book → Book
 all_restored [] book = book
 all_restored (undo ∷ undos) book = part_restored undo (all_restored undos book)
+
+-- what is about milestones and about the book leaves the tables
+abbrev pub table_part_restored : Undo → List Table → List Table
+table_part_restored (Part part) tables = tables
+table_part_restored (OfTables undo) tables = tables_restored undo tables
+table_part_restored (Added node) tables = tables
+table_part_restored (Taken node place) tables = tables
+
+-- the parts of the tables are put back, the last one first
+abbrev pub all_tables_restored : List Undo → List Table → List Table
+all_tables_restored [] tables = tables
+all_tables_restored (undo ∷ undos) tables = table_part_restored undo (all_tables_restored undos tables)
 
 abbrev pub removed_at : List NodeId → Option ℕ → List NodeId
 removed_at milestones None = milestones
 removed_at milestones (Some place) = remove milestones place
 
--- the milestone that an entry added goes, the one that it took comes back at its place, or the parts of the book are put back
+-- the milestone that an entry added goes, the one that it took comes back at its place, or the parts of the book and those of
+-- the tables are put back
 abbrev pub taken_back : List Undo → State → State
-taken_back (Added node ∷ []) s = state_of s.book (removed_at s.milestones (milestone_place s.milestones node.0))
-taken_back (Taken node place ∷ []) s = state_of s.book (insert s.milestones place node)
-taken_back undos s = state_of (all_restored undos s.book) s.milestones
+taken_back (Added node ∷ []) s = state_of s.book (removed_at s.milestones (milestone_place s.milestones node.0)) s.tables
+taken_back (Taken node place ∷ []) s = state_of s.book (insert s.milestones place node) s.tables
+taken_back undos s = state_of (all_restored undos s.book) s.milestones (all_tables_restored undos s.tables)
 
 -- whether the entry was one of milestones
 abbrev pub is_of_milestone : List Undo → Bool

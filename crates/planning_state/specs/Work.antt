@@ -16,8 +16,9 @@ use Rattle.planning_state.specs.States.{State}
 use Rattle.planning_state.specs.Worlds.{ranks_in, world_of, worlds_of}
 
 -- the edits of the book that changes ask for, in order
-abbrev pub edit_and : Outcome Edit → List Edit → List Edit
-edit_and (Ok edit) edits = edit ∷ edits
+abbrev pub edit_and : Outcome (Option Edit) → List Edit → List Edit
+edit_and (Ok (Some edit)) edits = edit ∷ edits
+edit_and (Ok None) edits = edits
 edit_and (Err refusal) edits = edits
 
 abbrev pub edits_named : Game → List Change → List Edit

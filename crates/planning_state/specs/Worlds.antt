@@ -9,7 +9,7 @@ use Rattle.data_edit.specs.declared.books.Book.{Book}
 use Rattle.depend_rows.specs.Rows.{rows_of}
 use Rattle.milestone_masks.specs.declared.worlds.Milestone.{Milestone}
 use Rattle.milestone_masks.specs.Worlds.{AreWorlds, Kept, mask, milestones_of}
-use Rattle.planning_state.specs.States.{State, state_of, IsSoundState}
+use Rattle.planning_state.specs.States.{State, AreSoundMilestones}
 
 -- the world in which the marks bar, and one more node where there is one
 abbrev pub world_of : Book → Option NodeId → World
@@ -39,9 +39,9 @@ milestone_in book node = record { node = node; ranks = ranks_in (world_of book (
 unfoldable pub worlds_of : State → Kept
 worlds_of s = record { base = ranks_in (world_of s.book None); milestones = map (milestone_in s.book) s.milestones }
 
--- What is kept is that of a sound state: the rows are the dependency rows of the game, and the ranks are those of the
+-- What is kept is that of a sound book and its milestones: the rows are the dependency rows of the game, and the ranks are those of the
 -- definitions, in the base world and in each milestone's world.
 pub record IsKept (book : Book) (rows : List Row) (kept : Kept) : Type 0 where
-  pub sound : IsSoundState (state_of book (milestones_of kept))
+  pub sound : AreSoundMilestones book (milestones_of kept)
   pub rows_are : rows ≡ rows_of book.game
   pub worlds : AreWorlds (rows_of book.game) book.barred book.granted kept

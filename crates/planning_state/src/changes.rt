@@ -1,27 +1,31 @@
-//! Changes of a book, and how they are taken back.
-ghost use Rattle.std.specs.Prelude.{◌≡◌, true, ℕ, ◌<◌, ◌^◌, ◌+◌, ◌∷◌, ◌++◌, [], List, Err, IfErr, IfOk, OnErr, OnOk, length, vec_len, vec_capacity};
+//! Changes of a book and its tables, and how they are taken back.
+ghost use Rattle.std.specs.Prelude.{◌≡◌, true, false, ℕ, ◌<◌, ◌^◌, ◌+◌, ◌∷◌, ◌++◌, [], List, Err, IfErr, IfOk, OnErr, OnOk, length, vec_len, vec_capacity};
 ghost use Rattle.std.specs.List.{list_all};
 ghost use Rattle.plan_base.specs.declared.ids.NodeId.{NodeId};
 ghost use Rattle.data_edit.specs.declared.edits.Edit.{Edit as EditOf};
-ghost use Rattle.data_edit.specs.declared.parts.Inverse.{Inverse as InverseOf};
 ghost use Rattle.data_edit.specs.Books.{IsSoundBook};
 ghost use Rattle.game_types.specs.Sound.{IsSound};
 ghost use Rattle.edit_undo.specs.Edits.{apply_edits, IsFaultOf};
+ghost use Rattle.production_table.specs.declared.tables.Table.{Table};
+ghost use Rattle.planner_tables.specs.Effects.{AreSoundTables, is_of_tables};
 ghost use Rattle.planning_state.specs.declared.refusals.Refusal.{Refusal};
 ghost use Rattle.planning_state.specs.Actions.{can_be_held, edit_named};
 ghost use Rattle.planning_state.specs.States.{state_of};
 ghost use Rattle.planning_state.specs.Effects.{effect_of};
-ghost use Rattle.planning_state.specs.Undoing.{all_restored, part_restored};
+ghost use Rattle.planning_state.specs.Undoing.{all_restored, all_tables_restored, part_restored, table_part_restored};
 ghost use Rattle.planning_state.specs.Work.{edit_and, edits_named};
-ghost use Rattle.planning_state.specs.Books.{Applies, AppliesOne};
+ghost use Rattle.planning_state.specs.Books.{Applies, AppliesNext, AppliesOne};
 
+use crate::entries::is_of_tables;
 use crate::names::edit_named;
-use crate::refusals::{ChangeFault, Refusal, edit_fault, entry_fault};
+use crate::refusals::{ChangeFault, Refusal, edit_fault, entry_fault, tables_fault};
 use crate::undos::Undo;
 use data_edit::{Book, Edit, Inverse, apply_edit, exchange};
 use edit_undo::EntryFault;
 use game_types::Game;
 use plan_base::NoMemory;
+use planner_tables::{change_tables, exchange_tables};
+use production_table::Table as ProductionTable;
 use script_reader::Change;
 use std::alloc::Global;
 
@@ -36,6 +40,7 @@ pub(crate) fn put<T: Drop>(list: &mut Vec<T>, item: T)
     }
 }
 
+// Makes the edit of the book that a change asks for.
 fn apply_change(
     alloc: Global,
     book: &mut Book,
@@ -43,12 +48,14 @@ fn apply_change(
 ) -> Result<(Edit, Inverse), ChangeFault>
     requires sound { IsSoundBook book.old }
     requires held { can_be_held change.now ≡ true }
+    requires of_book { is_of_tables change.now ≡ false }
     ensures ok { IfOk result (λ done. AppliesOne book.old change.now done.0 done.1 book.new) }
-    ensures fault { IfErr result (λ fault. (refusal : Refusal) (milestones : List NodeId) → fault ≡ ChangeFault.Refused refusal → effect_of (state_of book.old milestones) change.now ≡ Err refusal) }
+    ensures fault { IfErr result (λ fault. (refusal : Refusal) (milestones : List NodeId) (tables : List Table) → fault ≡ ChangeFault.Refused refusal → effect_of (state_of book.old milestones tables) change.now ≡ Err refusal) }
     ensures err { OnErr result (book.new ≡ book.old) }
 {
     let edit = match edit_named(alloc, &book.game, change) {
-        Ok(edit) => edit,
+        Ok(Some(edit)) => edit,
+        Ok(None) => unreachable!(),
         Err(fault) => return Err(fault),
     };
     match apply_edit(alloc, book, &edit) {
@@ -57,8 +64,8 @@ fn apply_change(
     }
 }
 
-// Applies one more change of a book: its edit and what takes it back come behind the others.
-fn apply_next(
+// Applies one more change of the book: its edit and what takes it back come behind the others.
+fn apply_to_book(
     alloc: Global,
     book: &mut Book,
     change: &Change,
@@ -67,8 +74,9 @@ fn apply_next(
 ) -> Result<(), ChangeFault>
     requires sound { IsSoundBook book.old }
     requires held { can_be_held change.now ≡ true }
-    ensures ok { OnOk result ((edit : EditOf) × (part : InverseOf) × AppliesOne book.old change.now edit part book.new × (edits.new.items ≡ edits.old.items ++ edit ∷ []) × (undos.new.items ≡ undos.old.items ++ Undo.Part part ∷ [])) }
-    ensures fault { IfErr result (λ fault. (refusal : Refusal) (milestones : List NodeId) → fault ≡ ChangeFault.Refused refusal → effect_of (state_of book.old milestones) change.now ≡ Err refusal) }
+    requires of_book { is_of_tables change.now ≡ false }
+    ensures ok { OnOk result ((tables : List Table) → AreSoundTables book.old.game tables → AppliesNext book.old tables change.now edits.old.items undos.old.items book.new tables edits.new.items undos.new.items) }
+    ensures fault { IfErr result (λ fault. (refusal : Refusal) (milestones : List NodeId) (tables : List Table) → fault ≡ ChangeFault.Refused refusal → effect_of (state_of book.old milestones tables) change.now ≡ Err refusal) }
     ensures err { OnErr result ((book.new ≡ book.old) × (edits.new.items ≡ edits.old.items) × (undos.new.items ≡ undos.old.items)) }
 {
     if edits.reserve(1).is_err() || undos.reserve(1).is_err() {
@@ -80,59 +88,127 @@ fn apply_next(
     Ok(())
 }
 
-// Puts the part of the book back that this holds.
-fn take_one_back(alloc: Global, book: &mut Book, undo: Undo)
-    ensures { book.new ≡ part_restored undo book.old }
+// Applies one more change of the tables: what takes it back comes behind the others.
+fn apply_to_tables(
+    alloc: Global,
+    book: &Book,
+    tables: &mut Vec<ProductionTable>,
+    change: &Change,
+    undos: &mut Vec<Undo>,
+) -> Result<(), ChangeFault>
+    requires sound { IsSoundBook book.now }
+    requires tables { AreSoundTables book.now.game tables.old.items }
+    requires of_tables { is_of_tables change.now ≡ true }
+    ensures ok { OnOk result ((edits : List EditOf) → AppliesNext book.now tables.old.items change.now edits undos.old.items book.now tables.new.items edits undos.new.items) }
+    ensures fault { IfErr result (λ fault. (refusal : Refusal) (milestones : List NodeId) → fault ≡ ChangeFault.Refused refusal → effect_of (state_of book.now milestones tables.old.items) change.now ≡ Err refusal) }
+    ensures err { OnErr result ((tables.new.items ≡ tables.old.items) × (undos.new.items ≡ undos.old.items)) }
+{
+    if undos.reserve(1).is_err() {
+        return Err(ChangeFault::NoMemory);
+    }
+    match change_tables(alloc, &book.game, tables, change) {
+        Ok(undo) => {
+            put(undos, Undo::OfTables(undo));
+            Ok(())
+        }
+        Err(fault) => Err(tables_fault(fault)),
+    }
+}
+
+// Applies one more change of the book or of the tables.
+fn apply_next(
+    alloc: Global,
+    book: &mut Book,
+    tables: &mut Vec<ProductionTable>,
+    change: &Change,
+    edits: &mut Vec<Edit>,
+    undos: &mut Vec<Undo>,
+) -> Result<(), ChangeFault>
+    requires sound { IsSoundBook book.old }
+    requires tables { AreSoundTables book.old.game tables.old.items }
+    requires held { can_be_held change.now ≡ true }
+    ensures ok { OnOk result (AppliesNext book.old tables.old.items change.now edits.old.items undos.old.items book.new tables.new.items edits.new.items undos.new.items) }
+    ensures fault { IfErr result (λ fault. (refusal : Refusal) (milestones : List NodeId) → fault ≡ ChangeFault.Refused refusal → effect_of (state_of book.old milestones tables.old.items) change.now ≡ Err refusal) }
+    ensures err { OnErr result ((book.new ≡ book.old) × (tables.new.items ≡ tables.old.items) × (edits.new.items ≡ edits.old.items) × (undos.new.items ≡ undos.old.items)) }
+{
+    if is_of_tables(change) {
+        apply_to_tables(alloc, book, tables, change, undos)
+    } else {
+        apply_to_book(alloc, book, change, edits, undos)
+    }
+}
+
+// Puts the part that this holds back.
+fn take_one_back(alloc: Global, book: &mut Book, tables: &mut Vec<ProductionTable>, undo: Undo)
+    ensures book { book.new ≡ part_restored undo book.old }
+    ensures tables { tables.new.items ≡ table_part_restored undo tables.old.items }
 {
     match undo {
         Undo::Part(part) => {
             let _old = exchange(alloc, book, part);
+        }
+        Undo::OfTables(part) => {
+            let _old = exchange_tables(alloc, tables, part);
         }
         Undo::Added(_) => {}
         Undo::Taken { .. } => {}
     }
 }
 
-// Puts the part of the book back that the last of these holds, which goes.
-fn take_last_back(alloc: Global, book: &mut Book, undos: &mut Vec<Undo>)
+// Puts the part that the last of these holds back, which goes.
+fn take_last_back(
+    alloc: Global,
+    book: &mut Book,
+    tables: &mut Vec<ProductionTable>,
+    undos: &mut Vec<Undo>,
+)
     ensures book { all_restored undos.new.items book.new ≡ all_restored undos.old.items book.old }
+    ensures tables { all_tables_restored undos.new.items tables.new.items ≡ all_tables_restored undos.old.items tables.old.items }
     ensures count { 0 < length undos.old.items → length undos.new.items + 1 ≡ length undos.old.items }
 {
     if let Some(undo) = undos.pop() {
-        take_one_back(alloc, book, undo);
+        take_one_back(alloc, book, tables, undo);
     }
 }
 
-/// Puts the parts of the book back that these hold, the last one first. It takes no memory.
-pub(crate) fn take_all_back(alloc: Global, book: &mut Book, undos: Vec<Undo>)
-    ensures { book.new ≡ all_restored undos.items book.old }
+/// Puts the parts of the book and of the tables that these hold back, the last one first. It takes no memory.
+pub(crate) fn take_all_back(
+    alloc: Global,
+    book: &mut Book,
+    tables: &mut Vec<ProductionTable>,
+    undos: Vec<Undo>,
+)
+    ensures book { book.new ≡ all_restored undos.items book.old }
+    ensures tables { tables.new.items ≡ all_tables_restored undos.items tables.old.items }
 {
     let mut left = undos;
     for _ in 0..left.len() {
-        take_last_back(alloc, book, &mut left);
+        take_last_back(alloc, book, tables, &mut left);
     }
 }
 
-/// Applies changes of a book in order, or none of them.
+/// Applies changes of a book and its tables in order, or none of them.
 pub(crate) fn apply_changes(
     alloc: Global,
     book: &mut Book,
+    tables: &mut Vec<ProductionTable>,
     changes: &[Change],
 ) -> Result<(Vec<Edit>, Vec<Undo>), EntryFault<Refusal>>
     requires sound { IsSoundBook book.old }
+    requires tables { AreSoundTables book.old.game tables.old.items }
     requires held { list_all can_be_held changes.now ≡ true }
     requires few { length changes.now < 2 ^ 32 }
-    ensures ok { IfOk result (λ done. Applies book.old changes.now done.0.items done.1.items book.new) }
-    ensures fault { IfErr result (λ fault. (milestones : List NodeId) → IsFaultOf (apply_edits effect_of (state_of book.old milestones) changes.now) fault) }
-    ensures err { OnErr result (book.new ≡ book.old) }
+    ensures ok { IfOk result (λ done. Applies book.old tables.old.items changes.now done.0.items done.1.items book.new tables.new.items) }
+    ensures fault { IfErr result (λ fault. (milestones : List NodeId) → IsFaultOf (apply_edits effect_of (state_of book.old milestones tables.old.items) changes.now) fault) }
+    ensures err { OnErr result ((book.new ≡ book.old) × (tables.new.items ≡ tables.old.items)) }
 {
     let mut edits = Vec::new(alloc);
     let mut undos = Vec::new(alloc);
     for i in 0..changes.len() {
-        match apply_next(alloc, book, &changes[i], &mut edits, &mut undos) {
+        match apply_next(alloc, book, tables, &changes[i], &mut edits, &mut undos) {
             Ok(()) => {}
             Err(fault) => {
-                take_all_back(alloc, book, undos);
+                take_all_back(alloc, book, tables, undos);
                 return Err(entry_fault(i as u32, fault));
             }
         }
@@ -151,10 +227,11 @@ fn push_edit(
     ensures { OnOk result (edits.new.items ≡ edits.old.items ++ edit_and (edit_named game.now change.now) []) }
 {
     match edit_named(alloc, game, change) {
-        Ok(edit) => {
+        Ok(Some(edit)) => {
             edits.push(edit)?;
             Ok(())
         }
+        Ok(None) => Ok(()),
         Err(ChangeFault::Refused(_)) => Ok(()),
         Err(ChangeFault::NoMemory) => Err(NoMemory),
     }

@@ -1,6 +1,7 @@
 //! What an entry changes, and what takes it back.
 ghost use Rattle.std.specs.Prelude.{◌≡◌, ◌∷◌, [], true};
 ghost use Rattle.std.specs.List.{list_all};
+ghost use Rattle.planner_tables.specs.Effects.{is_of_tables};
 ghost use Rattle.planning_state.specs.Actions.{can_be_held};
 ghost use Rattle.planning_state.specs.Effects.{is_entry};
 ghost use Rattle.planning_state.specs.Entries.{IsBackOf, IsEntryOf};
@@ -15,7 +16,7 @@ pub enum Entry<'a> {
     Add(&'a Object),
     /// A milestone is taken away.
     Take(&'a Object),
-    /// The book is changed.
+    /// The book and the tables are changed.
     Held,
 }
 
@@ -27,6 +28,24 @@ pub fn can_be_held(change: &Change) -> bool
         Change::Milestone(_) => false,
         Change::Unmilestone(_) => false,
         _ => true,
+    }
+}
+
+/// Whether the change is one of tables.
+pub(crate) fn is_of_tables(change: &Change) -> bool
+    ensures { result ≡ is_of_tables change.now }
+{
+    match change {
+        Change::Table(_) => true,
+        Change::Untable(_) => true,
+        Change::Row { .. } => true,
+        Change::Unrow { .. } => true,
+        Change::Price { .. } => true,
+        Change::Want { .. } => true,
+        Change::Import { .. } => true,
+        Change::Surplus { .. } => true,
+        Change::Power { .. } => true,
+        _ => false,
     }
 }
 
@@ -51,7 +70,7 @@ pub enum Back {
     Drops(NodeId),
     /// The node is a milestone again, at this place in their order.
     Puts { node: NodeId, place: u32 },
-    /// Parts of the book are put back.
+    /// Parts of the book and of the tables are put back.
     Parts,
 }
 
@@ -69,6 +88,7 @@ pub fn back_of(undos: &[Undo]) -> Back
                 };
             }
             Undo::Part(_) => {}
+            Undo::OfTables(_) => {}
         }
     }
     Back::Parts

@@ -1,4 +1,4 @@
-//! Entries that change the book: all of their changes and one repair, or none.
+//! Entries that change the book and the tables: all of their changes and one repair, or none.
 ghost use Rattle.std.specs.Prelude.{◌≡◌, ◌≢◌, ℕ, ◌+◌, ◌*◌, ◌<◌, ◌≤◌, ◌^◌, true, false, All, List, IfErr, IfOk, OnErr, OnOk, length};
 ghost use Rattle.std.specs.List.{list_all};
 ghost use Rattle.game_types.specs.Nodes.{shape_of};
@@ -8,24 +8,28 @@ ghost use Rattle.depend_rows.specs.Rows.{rows_of};
 ghost use Rattle.depend_rows.specs.Touched.{touched_by_all};
 ghost use Rattle.milestone_masks.specs.Worlds.{milestones_of, size_of_all};
 ghost use Rattle.edit_undo.specs.Edits.{apply_edits, IsEntry, IsFaultOf, Leads};
+ghost use Rattle.production_table.specs.declared.tables.Table.{Table};
+ghost use Rattle.planner_tables.specs.Effects.{AreSoundTables};
 ghost use Rattle.planning_state.specs.Actions.{can_be_held};
 ghost use Rattle.planning_state.specs.States.{state_of};
 ghost use Rattle.planning_state.specs.Effects.{effect_of, is_entry};
-ghost use Rattle.planning_state.specs.Undoing.{all_restored, LeadsBack};
+ghost use Rattle.planning_state.specs.Undoing.{all_restored, all_tables_restored, LeadsBack};
 ghost use Rattle.planning_state.specs.Work.{edits_named, work_of_book};
 ghost use Rattle.planning_state.specs.Worlds.{IsKept};
-ghost use Rattle.planning_state.specs.Books.{ComesFrom, RestoresOne, TakesBack};
+ghost use Rattle.planning_state.specs.Books.{ComesFrom, RestoresPart, RestoresTables, TakesBack};
 
 use crate::changes::{apply_changes, edits_named, put, take_all_back};
 use crate::refusals::Refusal;
 use crate::settling::settle;
 use crate::undos::Undo;
-use data_edit::{Book, Edit, exchange};
+use data_edit::{Book, Edit, Inverse, exchange};
 use depend_rows::touched_all;
 use edit_undo::EntryFault;
 use graph_store::ReplaceRows;
 use milestone_masks::Worlds;
 use plan_base::{NoMemory, Steps};
+use planner_tables::{TableUndo, exchange_tables};
+use production_table::Table as ProductionTable;
 use script_reader::Change;
 use std::alloc::Global;
 
@@ -51,33 +55,36 @@ fn settle_edits<R: ReplaceRows<L>, L>(
     settle(alloc, book, graph, worlds, nodes.as_slice(), steps)
 }
 
-/// Applies changes of the book in order, all of them or none, and answers what takes them back.
+/// Applies changes of the book and the tables in order, all of them or none, and answers what takes them back.
 pub(crate) fn apply_held<R: ReplaceRows<L>, L>(
     alloc: Global,
     book: &mut Book,
+    tables: &mut Vec<ProductionTable>,
     graph: &mut R,
     worlds: &mut Worlds,
     changes: &[Change],
     steps: &mut Steps<L>,
 ) -> Result<Vec<Undo>, EntryFault<Refusal>>
     requires kept { IsKept book.old (R.rows graph.old) worlds.old }
+    requires tables { AreSoundTables book.old.game tables.old.items }
     requires entry { IsEntry is_entry changes.now }
     requires held { list_all can_be_held changes.now ≡ true }
     ensures kept { IsKept book.new (R.rows graph.new) worlds.new }
+    ensures tables { AreSoundTables book.new.game tables.new.items }
     ensures milestones { milestones_of worlds.new ≡ milestones_of worlds.old }
-    ensures ok { IfOk result (λ undos. Leads effect_of is_entry LeadsBack (state_of book.old (milestones_of worlds.old)) changes.now undos.items (state_of book.new (milestones_of worlds.new))) }
-    ensures fault { IfErr result (IsFaultOf (apply_edits effect_of (state_of book.old (milestones_of worlds.old)) changes.now)) }
-    ensures err { OnErr result (book.new ≡ book.old) }
-    ensures work { OnOk result (steps.new ≤ steps.old + work_of_book changes.now (state_of book.old (milestones_of worlds.old)) (state_of book.new (milestones_of worlds.new))) }
+    ensures ok { IfOk result (λ undos. Leads effect_of is_entry LeadsBack (state_of book.old (milestones_of worlds.old) tables.old.items) changes.now undos.items (state_of book.new (milestones_of worlds.new) tables.new.items)) }
+    ensures fault { IfErr result (IsFaultOf (apply_edits effect_of (state_of book.old (milestones_of worlds.old) tables.old.items) changes.now)) }
+    ensures err { OnErr result ((book.new ≡ book.old) × (tables.new.items ≡ tables.old.items)) }
+    ensures work { OnOk result (steps.new ≤ steps.old + work_of_book changes.now (state_of book.old (milestones_of worlds.old) tables.old.items) (state_of book.new (milestones_of worlds.new) tables.new.items)) }
     ensures no_work { IfErr result (λ fault. fault ≢ EntryFault.NoMemory → steps.new ≡ steps.old) }
     ensures later { steps.old ≤ steps.new }
 {
-    match apply_changes(alloc, book, changes) {
+    match apply_changes(alloc, book, tables, changes) {
         Ok((edits, undos)) => {
             match settle_edits(alloc, book, graph, worlds, edits.as_slice(), steps) {
                 Ok(()) => Ok(undos),
                 Err(_) => {
-                    take_all_back(alloc, book, undos);
+                    take_all_back(alloc, book, tables, undos);
                     Err(EntryFault::NoMemory)
                 }
             }
@@ -86,45 +93,92 @@ pub(crate) fn apply_held<R: ReplaceRows<L>, L>(
     }
 }
 
-// Puts one part of the book back, and what stood in its place behind the others.
-fn restore_next(
+// Puts a part of the book back, and what stood in its place behind the others.
+fn restore_part(
     alloc: Global,
     book: &mut Book,
-    undo: &Undo,
+    inverse: &Inverse,
     forward: &mut Vec<Undo>,
 ) -> Result<(), NoMemory>
-    ensures ok { OnOk result (RestoresOne undo.now book.old forward.old.items book.new forward.new.items) }
+    ensures ok { OnOk result (RestoresPart (Undo.Part inverse.now) book.old forward.old.items book.new forward.new.items) }
+    ensures tables { OnOk result ((tables : List Table) → RestoresTables (Undo.Part inverse.now) tables forward.old.items tables forward.new.items) }
     ensures err { OnErr result ((book.new ≡ book.old) × (forward.new.items ≡ forward.old.items)) }
 {
-    if let Undo::Part(inverse) = undo {
-        let part = inverse.copy(alloc)?;
-        forward.reserve(1)?;
-        put(forward, Undo::Part(exchange(alloc, book, part)));
-    }
+    let part = inverse.copy(alloc)?;
+    forward.reserve(1)?;
+    put(forward, Undo::Part(exchange(alloc, book, part)));
     Ok(())
 }
 
-// Puts all parts of the book back, the last one first, and answers what takes that back.
-fn restore_parts(alloc: Global, book: &mut Book, undos: &[Undo]) -> Result<Vec<Undo>, NoMemory>
-    ensures ok { OnOk result (book.new ≡ all_restored undos.now book.old) }
-    ensures back { IfOk result (λ forward. all_restored forward.items book.new ≡ book.old) }
-    ensures err { OnErr result (book.new ≡ book.old) }
+// Puts a part of the tables back, and what stood in its place behind the others.
+fn restore_tables(
+    alloc: Global,
+    tables: &mut Vec<ProductionTable>,
+    undo: &TableUndo,
+    forward: &mut Vec<Undo>,
+) -> Result<(), NoMemory>
+    ensures ok { OnOk result (RestoresTables (Undo.OfTables undo.now) tables.old.items forward.old.items tables.new.items forward.new.items) }
+    ensures book { OnOk result ((book : BookOf) → RestoresPart (Undo.OfTables undo.now) book forward.old.items book forward.new.items) }
+    ensures err { OnErr result ((tables.new.items ≡ tables.old.items) × (forward.new.items ≡ forward.old.items)) }
+{
+    let part = undo.copy(alloc)?;
+    forward.reserve(1)?;
+    put(
+        forward,
+        Undo::OfTables(exchange_tables(alloc, tables, part)),
+    );
+    Ok(())
+}
+
+// Puts one part of the book or of the tables back, and what stood in its place behind the others.
+fn restore_next(
+    alloc: Global,
+    book: &mut Book,
+    tables: &mut Vec<ProductionTable>,
+    undo: &Undo,
+    forward: &mut Vec<Undo>,
+) -> Result<(), NoMemory>
+    ensures book { OnOk result (RestoresPart undo.now book.old forward.old.items book.new forward.new.items) }
+    ensures tables { OnOk result (RestoresTables undo.now tables.old.items forward.old.items tables.new.items forward.new.items) }
+    ensures err { OnErr result ((book.new ≡ book.old) × (tables.new.items ≡ tables.old.items) × (forward.new.items ≡ forward.old.items)) }
+{
+    match undo {
+        Undo::Part(inverse) => restore_part(alloc, book, inverse, forward),
+        Undo::OfTables(part) => restore_tables(alloc, tables, part, forward),
+        Undo::Added(_) => Ok(()),
+        Undo::Taken { .. } => Ok(()),
+    }
+}
+
+// Puts all parts back, the last one first, and answers what takes that back.
+fn restore_parts(
+    alloc: Global,
+    book: &mut Book,
+    tables: &mut Vec<ProductionTable>,
+    undos: &[Undo],
+) -> Result<Vec<Undo>, NoMemory>
+    ensures book { OnOk result (book.new ≡ all_restored undos.now book.old) }
+    ensures tables { OnOk result (tables.new.items ≡ all_tables_restored undos.now tables.old.items) }
+    ensures book_back { IfOk result (λ forward. all_restored forward.items book.new ≡ book.old) }
+    ensures tables_back { IfOk result (λ forward. all_tables_restored forward.items tables.new.items ≡ tables.old.items) }
+    ensures err { OnErr result ((book.new ≡ book.old) × (tables.new.items ≡ tables.old.items)) }
 {
     let mut forward = Vec::new(alloc);
     for i in 0..undos.len() {
         let undo = &undos[undos.len() - 1 - i];
-        if restore_next(alloc, book, undo, &mut forward).is_err() {
-            take_all_back(alloc, book, forward);
+        if restore_next(alloc, book, tables, undo, &mut forward).is_err() {
+            take_all_back(alloc, book, tables, forward);
             return Err(NoMemory);
         }
     }
     Ok(forward)
 }
 
-/// Takes changes of the book back, all of them or none.
+/// Takes changes of the book and the tables back, all of them or none.
 pub(crate) fn restore_held<R: ReplaceRows<L>, L>(
     alloc: Global,
     book: &mut Book,
+    tables: &mut Vec<ProductionTable>,
     graph: &mut R,
     worlds: &mut Worlds,
     changes: &[Change],
@@ -132,20 +186,22 @@ pub(crate) fn restore_held<R: ReplaceRows<L>, L>(
     steps: &mut Steps<L>,
 ) -> Result<(), NoMemory>
     requires kept { IsKept book.old (R.rows graph.old) worlds.old }
-    requires leads { (before : BookOf) × TakesBack book.old changes.now undos.now before }
+    requires tables { AreSoundTables book.old.game tables.old.items }
+    requires leads { (before : BookOf) × (stood : List Table) × TakesBack book.old tables.old.items changes.now undos.now before stood }
     ensures kept { IsKept book.new (R.rows graph.new) worlds.new }
+    ensures tables { AreSoundTables book.new.game tables.new.items }
     ensures milestones { milestones_of worlds.new ≡ milestones_of worlds.old }
-    ensures ok { OnOk result (book.new ≡ all_restored undos.now book.old) }
-    ensures err { OnErr result (book.new ≡ book.old) }
-    ensures work { OnOk result (steps.new ≤ steps.old + work_of_book changes.now (state_of book.old (milestones_of worlds.old)) (state_of book.new (milestones_of worlds.new))) }
+    ensures ok { OnOk result ((book.new ≡ all_restored undos.now book.old) × (tables.new.items ≡ all_tables_restored undos.now tables.old.items)) }
+    ensures err { OnErr result ((book.new ≡ book.old) × (tables.new.items ≡ tables.old.items)) }
+    ensures work { OnOk result (steps.new ≤ steps.old + work_of_book changes.now (state_of book.old (milestones_of worlds.old) tables.old.items) (state_of book.new (milestones_of worlds.new) tables.new.items)) }
     ensures later { steps.old ≤ steps.new }
 {
     let edits = edits_named(alloc, &book.game, changes)?;
-    let forward = restore_parts(alloc, book, undos)?;
+    let forward = restore_parts(alloc, book, tables, undos)?;
     match settle_edits(alloc, book, graph, worlds, edits.as_slice(), steps) {
         Ok(()) => Ok(()),
         Err(fault) => {
-            take_all_back(alloc, book, forward);
+            take_all_back(alloc, book, tables, forward);
             Err(fault)
         }
     }

@@ -5,6 +5,7 @@
 mod changes;
 mod entries;
 mod held;
+mod laws;
 mod milestones;
 mod names;
 mod planning;
@@ -13,6 +14,7 @@ mod settling;
 mod undos;
 
 pub use entries::can_be_held;
+pub use laws::tables_take_no_step;
 pub use planning::Planning;
 pub use refusals::{ChangeFault, LoadFault, Refusal};
 pub use undos::Undo;

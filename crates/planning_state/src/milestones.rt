@@ -9,8 +9,10 @@ ghost use Rattle.reach_ranks.specs.Given.{size_of};
 ghost use Rattle.milestone_masks.specs.Worlds.{milestones_of, AddAnswer};
 ghost use Rattle.script_reader.specs.declared.change.Change.TheVariants.{Milestone as MilestoneLine, Unmilestone as UnmilestoneLine};
 ghost use Rattle.edit_undo.specs.Edits.{apply_edits, IsFaultOf, Leads};
+ghost use Rattle.production_table.specs.declared.tables.Table.{Table};
+ghost use Rattle.planner_tables.specs.Effects.{AreSoundTables};
 ghost use Rattle.planning_state.specs.Actions.{node_named};
-ghost use Rattle.planning_state.specs.States.{milestone_place, state_of, IsSoundState};
+ghost use Rattle.planning_state.specs.States.{milestone_place, state_of, AreSoundMilestones};
 ghost use Rattle.planning_state.specs.Effects.{effect_of, is_entry};
 ghost use Rattle.planning_state.specs.Undoing.{removed_at, LeadsBack};
 ghost use Rattle.planning_state.specs.Work.{work_of_milestone};
@@ -71,10 +73,10 @@ pub(crate) fn add_milestone<R: Rows<L>, L>(
 ) -> Result<Vec<Undo>, EntryFault<Refusal>>
     requires kept { IsKept book.now (R.rows graph.now) worlds.old }
     ensures kept { IsKept book.now (R.rows graph.now) worlds.new }
-    ensures ok { IfOk result (λ undos. Leads effect_of is_entry LeadsBack (state_of book.now (milestones_of worlds.old)) (MilestoneLine object.now ∷ []) undos.items (state_of book.now (milestones_of worlds.new))) }
-    ensures fault { IfErr result (IsFaultOf (apply_edits effect_of (state_of book.now (milestones_of worlds.old)) (MilestoneLine object.now ∷ []))) }
+    ensures ok { (tables : List Table) → AreSoundTables book.now.game tables → IfOk result (λ undos. Leads effect_of is_entry LeadsBack (state_of book.now (milestones_of worlds.old) tables) (MilestoneLine object.now ∷ []) undos.items (state_of book.now (milestones_of worlds.new) tables)) }
+    ensures fault { (tables : List Table) → IfErr result (IsFaultOf (apply_edits effect_of (state_of book.now (milestones_of worlds.old) tables) (MilestoneLine object.now ∷ []))) }
     ensures err { OnErr result (milestones_of worlds.new ≡ milestones_of worlds.old) }
-    ensures work { OnOk result (steps.new ≤ steps.old + work_of_milestone (node_named book.now.game object.now) (state_of book.now (milestones_of worlds.old)) (state_of book.now (milestones_of worlds.new))) }
+    ensures work { (tables : List Table) → OnOk result (steps.new ≤ steps.old + work_of_milestone (node_named book.now.game object.now) (state_of book.now (milestones_of worlds.old) tables) (state_of book.now (milestones_of worlds.new) tables)) }
     ensures no_work { IfErr result (λ fault. fault ≢ EntryFault.NoMemory → steps.new ≡ steps.old) }
     ensures later { steps.old ≤ steps.new }
 {
@@ -105,8 +107,8 @@ pub(crate) fn take_milestone(
 ) -> Result<Vec<Undo>, EntryFault<Refusal>>
     requires { (rows : List Row) × IsKept book.now rows worlds.old }
     ensures kept { (rows : List Row) → IsKept book.now rows worlds.old → IsKept book.now rows worlds.new }
-    ensures ok { IfOk result (λ undos. Leads effect_of is_entry LeadsBack (state_of book.now (milestones_of worlds.old)) (UnmilestoneLine object.now ∷ []) undos.items (state_of book.now (milestones_of worlds.new))) }
-    ensures fault { IfErr result (IsFaultOf (apply_edits effect_of (state_of book.now (milestones_of worlds.old)) (UnmilestoneLine object.now ∷ []))) }
+    ensures ok { (tables : List Table) → AreSoundTables book.now.game tables → IfOk result (λ undos. Leads effect_of is_entry LeadsBack (state_of book.now (milestones_of worlds.old) tables) (UnmilestoneLine object.now ∷ []) undos.items (state_of book.now (milestones_of worlds.new) tables)) }
+    ensures fault { (tables : List Table) → IfErr result (IsFaultOf (apply_edits effect_of (state_of book.now (milestones_of worlds.old) tables) (UnmilestoneLine object.now ∷ []))) }
     ensures err { OnErr result (milestones_of worlds.new ≡ milestones_of worlds.old) }
 {
     let node = match node_named(alloc, &book.game, object) {
@@ -151,7 +153,7 @@ pub(crate) fn put_milestone<R: Rows<L>, L>(
     requires kept { IsKept book.now (R.rows graph.now) worlds.old }
     requires node { node.0 < node_count (shape_of book.now.game) }
     requires place { place ≤ length (milestones_of worlds.old) }
-    requires fits { IsSoundState (state_of book.now (insert (milestones_of worlds.old) place node)) }
+    requires fits { AreSoundMilestones book.now (insert (milestones_of worlds.old) place node) }
     ensures kept { IsKept book.now (R.rows graph.now) worlds.new }
     ensures put { OnOk result (milestones_of worlds.new ≡ insert (milestones_of worlds.old) place node) }
     ensures err { OnErr result (milestones_of worlds.new ≡ milestones_of worlds.old) }

@@ -3,14 +3,13 @@ ghost use Rattle.std.specs.Prelude.{◌≡◌, ◌+◌, ◌<◌, ◌≤◌, ◌^
 ghost use Rattle.plan_base.specs.Shape.{count_of, first_of, node_count};
 ghost use Rattle.game_types.specs.Nodes.{shape_of};
 ghost use Rattle.game_types.specs.Sound.{IsSound};
-ghost use Rattle.planning_state.specs.declared.refusals.Refusal.TheVariants.{NoTable as NoTableOf};
-ghost use Rattle.planning_state.specs.Actions.{Gives, IsRefusal, edit_named, good_named, is_fluid, ingredient_edit, node_named, place_named, product_edit, recipe_named, tech_named};
+ghost use Rattle.planning_state.specs.Actions.{Gives, edit_named, good_named, is_fluid, ingredient_edit, node_named, place_named, product_edit, recipe_named, tech_named};
 
 use crate::refusals::{ChangeFault, Refusal};
 use data_edit::Edit;
 use fractions::Ratio;
 use game_types::Game;
-use plan_base::{GoodId, Kind, NodeId, RecipeId, Shape, TechId, Text};
+use plan_base::{GoodId, Kind, NodeId, RecipeId, Shape, TechId};
 use script_reader::{Change, Object};
 use std::alloc::Global;
 
@@ -151,16 +150,6 @@ fn good_named(alloc: Global, game: &Game, object: &Object) -> Result<GoodId, Cha
     }
 }
 
-// The fault of a table that is not there.
-fn no_table(alloc: Global, table: &Text) -> ChangeFault
-    ensures { IsRefusal (NoTableOf table.now) result }
-{
-    match Text::copy(alloc, table.as_str()) {
-        Ok(name) => ChangeFault::Refused(Refusal::NoTable(name)),
-        Err(_) => ChangeFault::NoMemory,
-    }
-}
-
 fn ingredient_edit(recipe: RecipeId, good: GoodId, amount: &Option<Ratio>) -> Edit
     ensures { result ≡ ingredient_edit recipe good amount.now }
 {
@@ -187,32 +176,36 @@ fn product_edit(recipe: RecipeId, good: GoodId, amount: &Option<Ratio>) -> Edit
     }
 }
 
-/// The edit of the book that a change asks for.
+/// The edit of the book that a change asks for, where it asks for one.
 ///
 /// # Errors
 ///
 /// `Unknown` with the first of its names that nothing has. Or `NoMemory`.
 #[tactic(auto, unfolding(crate::specs::Actions::edit_named))]
-pub(crate) fn edit_named(alloc: Global, game: &Game, change: &Change) -> Result<Edit, ChangeFault>
+pub(crate) fn edit_named(
+    alloc: Global,
+    game: &Game,
+    change: &Change,
+) -> Result<Option<Edit>, ChangeFault>
     requires { IsSound game.now }
     ensures { Gives (edit_named game.now change.now) result }
 {
     match change {
         Change::Grant(object) => {
             let node = node_named(alloc, game, object)?;
-            Ok(Edit::Grant(node))
+            Ok(Some(Edit::Grant(node)))
         }
         Change::Revoke(object) => {
             let node = node_named(alloc, game, object)?;
-            Ok(Edit::Revoke(node))
+            Ok(Some(Edit::Revoke(node)))
         }
         Change::Forbid(object) => {
             let node = node_named(alloc, game, object)?;
-            Ok(Edit::Forbid(node))
+            Ok(Some(Edit::Forbid(node)))
         }
         Change::Permit(object) => {
             let node = node_named(alloc, game, object)?;
-            Ok(Edit::Permit(node))
+            Ok(Some(Edit::Permit(node)))
         }
         Change::Ingredient {
             recipe,
@@ -221,7 +214,7 @@ pub(crate) fn edit_named(alloc: Global, game: &Game, change: &Change) -> Result<
         } => {
             let recipe = recipe_named(alloc, game, recipe)?;
             let good = good_named(alloc, game, good)?;
-            Ok(ingredient_edit(recipe, good, amount))
+            Ok(Some(ingredient_edit(recipe, good, amount)))
         }
         Change::Product {
             recipe,
@@ -230,38 +223,28 @@ pub(crate) fn edit_named(alloc: Global, game: &Game, change: &Change) -> Result<
         } => {
             let recipe = recipe_named(alloc, game, recipe)?;
             let good = good_named(alloc, game, good)?;
-            Ok(product_edit(recipe, good, amount))
+            Ok(Some(product_edit(recipe, good, amount)))
         }
         Change::Unlock { tech, recipe, on } => {
             let tech = tech_named(alloc, game, tech)?;
             let recipe = recipe_named(alloc, game, recipe)?;
-            Ok(Edit::SetUnlock {
+            Ok(Some(Edit::SetUnlock {
                 tech,
                 recipe,
                 on: *on,
-            })
+            }))
         }
         Change::Time { recipe, seconds } => {
             let recipe = recipe_named(alloc, game, recipe)?;
-            Ok(Edit::SetTime {
+            Ok(Some(Edit::SetTime {
                 recipe,
                 time: *seconds,
-            })
+            }))
         }
         Change::Enabled { recipe, on } => {
             let recipe = recipe_named(alloc, game, recipe)?;
-            Ok(Edit::SetEnabled { recipe, on: *on })
+            Ok(Some(Edit::SetEnabled { recipe, on: *on }))
         }
-        Change::Milestone(_) => Err(ChangeFault::Refused(Refusal::TooManyTables)),
-        Change::Unmilestone(_) => Err(ChangeFault::Refused(Refusal::TooManyTables)),
-        Change::Table(_) => Err(ChangeFault::Refused(Refusal::TooManyTables)),
-        Change::Untable(table) => Err(no_table(alloc, table)),
-        Change::Row { table, .. } => Err(no_table(alloc, table)),
-        Change::Unrow { table, .. } => Err(no_table(alloc, table)),
-        Change::Price { table, .. } => Err(no_table(alloc, table)),
-        Change::Want { table, .. } => Err(no_table(alloc, table)),
-        Change::Import { table, .. } => Err(no_table(alloc, table)),
-        Change::Surplus { table, .. } => Err(no_table(alloc, table)),
-        Change::Power { table, .. } => Err(no_table(alloc, table)),
+        _ => Ok(None),
     }
 }

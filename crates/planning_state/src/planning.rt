@@ -11,7 +11,8 @@ ghost use Rattle.milestone_masks.specs.Why.{IsWhy};
 ghost use Rattle.milestone_masks.specs.Worlds.{missing_in, AreWorlds};
 ghost use Rattle.planning_state.specs.Actions.{node_named, Gives};
 ghost use Rattle.planning_state.specs.Worlds.{is_reached, mask_in, rank_of, ranks_in, world_of};
-ghost use Rattle.planning_state.specs.States.{first_state, State};
+ghost use Rattle.planner_tables.specs.Effects.{AreSoundTables};
+ghost use Rattle.planning_state.specs.States.{first_state, state_of, State};
 ghost use Rattle.planning_state.specs.Effects.{effect_of, is_entry};
 ghost use Rattle.planning_state.specs.Undoing.{LeadsBack};
 ghost use Rattle.planning_state.specs.Work.{work_of};
@@ -29,17 +30,19 @@ use game_types::Game;
 use graph_store::{Graph, Group, Rows};
 use milestone_masks::Worlds;
 use plan_base::{Kind, NoMemory, NodeId, Steps};
+use production_table::Table;
 use reach_ranks::ranks_afresh;
 use script_reader::{Change, Object};
 use std::alloc::Global;
 use std::marker::Model;
 
-/// A planning state. It is seen as its book and its milestones; the rows of the game and the ranks of every world, which
+/// A planning state. It is seen as its book, its milestones and its tables; the rows of the game and the ranks of every world, which
 /// these determine, are kept beside them.
 #[derive(Drop)]
 pub struct Planning {
     alloc: Global,
     book: Book,
+    tables: Vec<Table>,
     graph: Graph,
     worlds: Worlds,
 }
@@ -48,12 +51,30 @@ impl Model for Planning {
     ghost use Rattle.planning_state.specs.States.{State, state_of};
     ghost use Rattle.milestone_masks.specs.Worlds.{milestones_of};
     ghost use Rattle.planning_state.specs.Worlds.{IsKept};
+    ghost use Rattle.planner_tables.specs.Effects.{AreSoundTables};
 
     ghost Value = { State };
 
-    ghost view = { λ p. state_of p.book (milestones_of p.worlds) };
+    ghost view = { λ p. state_of p.book (milestones_of p.worlds) p.tables.items };
 
-    ghost invariant = { λ p. IsKept p.book p.graph p.worlds };
+    ghost invariant = { λ p. IsKept p.book p.graph p.worlds × AreSoundTables p.book.game p.tables.items };
+}
+
+// A planning state with no milestones and no tables.
+fn assemble(alloc: Global, book: Book, graph: Graph, worlds: Worlds) -> Planning
+    requires sound { IsSoundBook book }
+    requires rows { graph ≡ rows_of book.game }
+    requires none { worlds.milestones ≡ [] }
+    requires worlds { AreWorlds (rows_of book.game) book.barred book.granted worlds }
+    ensures { result ≡ state_of book [] [] }
+{
+    Planning {
+        alloc,
+        book,
+        tables: Vec::new(alloc),
+        graph,
+        worlds,
+    }
 }
 
 impl Planning {
@@ -86,12 +107,7 @@ impl Planning {
             Ok(worlds) => worlds,
             Err(_) => return Err(LoadFault::NoMemory),
         };
-        Ok(Planning {
-            alloc,
-            book,
-            graph,
-            worlds,
-        })
+        Ok(assemble(alloc, book, graph, worlds))
     }
 
     /// The game as it stands.
@@ -100,6 +116,14 @@ impl Planning {
         ensures sound { IsSound result.now }
     {
         &self.book.game
+    }
+
+    /// The tables, in the order in which they were added.
+    pub fn tables(&self) -> &[Table]
+        ensures tables { result.now ≡ self.now.tables }
+        ensures sound { AreSoundTables self.now.book.game result.now }
+    {
+        self.tables.as_slice()
     }
 
     /// The node that an object names.
@@ -308,6 +332,7 @@ impl<L> Editable<L> for Planning {
             Entry::Held => apply_held(
                 self.alloc,
                 &mut self.book,
+                &mut self.tables,
                 &mut self.graph,
                 &mut self.worlds,
                 edits,
@@ -339,6 +364,7 @@ impl<L> Editable<L> for Planning {
             Back::Parts => restore_held(
                 self.alloc,
                 &mut self.book,
+                &mut self.tables,
                 &mut self.graph,
                 &mut self.worlds,
                 edits,

@@ -1,11 +1,11 @@
 //! Why a change is refused.
 ghost use Rattle.std.specs.Prelude.{◌≡◌};
-ghost use Rattle.planning_state.specs.Faults.{edit_fault, entry_fault, milestone_fault};
+ghost use Rattle.planning_state.specs.Faults.{edit_fault, entry_fault, milestone_fault, tables_fault};
 
 use data_edit::EditFault;
 use edit_undo::EntryFault;
 use milestone_masks::MilestoneFault;
-use plan_base::Text;
+use planner_tables::{ChangeFault as TablesFault, TableRefusal};
 use script_reader::Object;
 
 /// Why a change is refused.
@@ -17,10 +17,8 @@ pub enum Refusal {
     OfEdit(EditFault),
     /// M2, M1 or M3: the milestones can't be changed so.
     OfMilestone(MilestoneFault),
-    /// P1: no table has this name.
-    NoTable(Text),
-    /// P3: there are as many tables as there can be.
-    TooManyTables,
+    /// The tables can't be changed so, for the cause and by the code that tables tell.
+    OfTables(TableRefusal),
 }
 
 /// Why a change was not carried out.
@@ -77,5 +75,15 @@ pub(crate) fn milestone_fault(fault: MilestoneFault) -> ChangeFault
             ChangeFault::Refused(Refusal::OfMilestone(MilestoneFault::NotOne))
         }
         MilestoneFault::NoMemory => ChangeFault::NoMemory,
+    }
+}
+
+/// The fault of a change of the tables that could not be made.
+pub(crate) fn tables_fault(fault: TablesFault) -> ChangeFault
+    ensures { result ≡ tables_fault fault }
+{
+    match fault {
+        TablesFault::Refused(refusal) => ChangeFault::Refused(Refusal::OfTables(refusal)),
+        TablesFault::NoMemory => ChangeFault::NoMemory,
     }
 }

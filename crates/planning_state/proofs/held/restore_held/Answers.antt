@@ -6,7 +6,7 @@ use Rattle.planning_state.proofs.held.restore_held.Goals as goal
 
 pub returns-in-Ok-clause-work : goal.returns-in-Ok-clause-work
 returns-in-Ok-clause-work g c =
-    work-held c.args.book.now c.restore_parts.new.book c.args.changes.now c.as_slice.result.now c.args.worlds.now c.settle_edits.new.worlds c.args.steps.now c.settle_edits.new.steps
+    work-held c.args.book.now c.restore_parts.new.book c.args.tables.now.items c.restore_parts.new.tables.items c.args.changes.now c.as_slice.result.now c.args.worlds.now c.settle_edits.new.worlds c.args.steps.now c.settle_edits.new.steps
     c.requires.kept.worlds c.in-Ok.ensures.kept.worlds
-    (subst (λ (b : Book). KeepsNames c.args.book.now.game b.game) (sym (c.in_ok-forward.ensures.ok ∙ c.requires.leads.1.back)) c.requires.leads.1.comes.names)
+    (subst (λ (b : Book). KeepsNames c.args.book.now.game b.game) (sym (c.in_ok-forward.ensures.book ∙ c.requires.leads.2.back)) c.requires.leads.2.comes.names)
     (c.as_slice.ensures.value ∙ c.in_ok-edits.ensures) c.in-Ok.ensures.work

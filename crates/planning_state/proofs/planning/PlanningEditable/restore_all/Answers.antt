@@ -2,7 +2,7 @@ use Rattle.std.proofs.Common.{◌<◌, ◌≤◌, ◌+◌, ℕ, OnOk, sym, subst
 use Rattle.plan_base.specs.Shape.{node_count}
 use Rattle.game_types.specs.Nodes.{shape_of}
 use Rattle.std.specs.Prelude.{insert}
-use Rattle.planning_state.specs.States.{State, state_of, IsSoundState}
+use Rattle.planning_state.specs.States.{State, AreSoundMilestones}
 use Rattle.planning_state.specs.Undoing.{FitsTaken}
 use Rattle.planning_state.specs.Books.{TakesBack}
 use Rattle.planning_state.proofs.HeldLemmas.{held-changes, takes-back}
@@ -16,13 +16,14 @@ put_milestone-requires-clause-node g c =
 
 pub put_milestone-requires-clause-fits : goal.put_milestone-requires-clause-fits
 put_milestone-requires-clause-fits g c =
-    subst (λ (s : State). IsSoundState (state_of s.book (insert s.milestones c.in-Puts.place c.in-Puts.node))) (sym c.self.view_is)
+    subst (λ (s : State). AreSoundMilestones s.book (insert s.milestones c.in-Puts.place c.in-Puts.node)) (sym c.self.view_is)
     (put-sound c.requires.0 c.args.self.now c.args.edits.now c.args.inverses.now c.in-Puts.node c.in-Puts.place c.in-Puts.ensures c.requires.1.back)
 
 pub restore_held-requires-clause-leads : goal.restore_held-requires-clause-leads
 restore_held-requires-clause-leads g c = (
   c.requires.0.book,
-  subst (λ (s : State). TakesBack s.book c.args.edits.now c.args.inverses.now c.requires.0.book) (sym c.self.view_is)
+  c.requires.0.tables,
+  subst (λ (s : State). TakesBack s.book s.tables c.args.edits.now c.args.inverses.now c.requires.0.book c.requires.0.tables) (sym c.self.view_is)
       (takes-back c.requires.0 c.args.self.now c.args.edits.now c.args.inverses.now c.in-Parts.ensures c.requires.1),
 )
 
