@@ -5,8 +5,8 @@ use Rattle.planner_core.specs.Replies.{summary_reply}
 use Rattle.planner_core.specs.Lines.{IsFree, Planned}
 use Rattle.planner_core.proofs.planner.Planner.step_free.Goals as goal
 
-pub returns-clause-reply : goal.returns-clause-reply
-returns-clause-reply g c =
+pub returns-in-Summary-clause-reply : goal.returns-in-Summary-clause-reply
+returns-in-Summary-clause-reply g c =
     let planning = c.self-in-Summary.inside.planning in
     subst (λ (command : Command). IsFree c.args.self.now command c.args.self.now c.summary_reply.result) (sym c.in-Summary.is) (
       refl,
