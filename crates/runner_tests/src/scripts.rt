@@ -59,17 +59,23 @@ fn tells(alloc: Global, script: &[u8], room: usize, end: ScriptEnd, text: &str) 
 }
 
 fn tells_all(alloc: Global, script: &str, end: ScriptEnd, text: &str) -> bool {
-    tells(alloc, script.as_bytes(), 2000, end, text)
+    tells(alloc, script.as_bytes(), 4000, end, text)
 }
 
 const DUMP: &str =
-    "{\"character\":{\"character\":{\"crafting_categories\":[\"crafting\"],\"mining_categories\":[\"basic-solid\"]}},\"item\":{\"ore\":{},\"plate\":{},\"#1\":{}},\"fluid\":{\"water\":{}},\"recipe\":{\"plate\":{\"ingredients\":[[\"ore\",1]],\"result\":\"plate\"},\"later\":{\"enabled\":false,\"ingredients\":[[\"plate\",1]],\"result\":\"#1\"}},\"resource\":{\"ore\":{\"autoplace\":{},\"minable\":{\"mining_time\":1,\"result\":\"ore\"}}},\"furnace\":{\"f\":{\"crafting_speed\":1,\"crafting_categories\":[\"smelting\"],\"energy_usage\":\"90kW\",\"energy_source\":{\"type\":\"electric\"}}},\"technology\":{\"t\":{\"effects\":[{\"type\":\"unlock-recipe\",\"recipe\":\"later\"}],\"unit\":{\"count\":1,\"time\":1,\"ingredients\":[]}}}}";
+    "{\"character\":{\"character\":{\"crafting_categories\":[\"crafting\"],\"mining_categories\":[\"basic-solid\"]}},\"item\":{\"ore\":{},\"plate\":{},\"#1\":{}},\"fluid\":{\"water\":{}},\"recipe\":{\"plate\":{\"ingredients\":[[\"ore\",1]],\"result\":\"plate\"},\"later\":{\"enabled\":false,\"ingredients\":[[\"plate\",1]],\"result\":\"#1\"}},\"resource\":{\"ore\":{\"autoplace\":{},\"minable\":{\"mining_time\":1,\"result\":\"ore\"}}},\"furnace\":{\"f\":{\"crafting_speed\":1,\"crafting_categories\":[\"smelting\",\"crafting\"],\"energy_usage\":\"90kW\",\"energy_source\":{\"type\":\"electric\"}}},\"technology\":{\"t\":{\"effects\":[{\"type\":\"unlock-recipe\",\"recipe\":\"later\"}],\"unit\":{\"count\":1,\"time\":1,\"ingredients\":[]}}}}";
 
 const SCRIPT: &str =
     "# a small factory\nreach item:plate\nwhy item:plate\nreach item:#1\n\nbatch\nreach item:ore\ngrant tech:t\nforbid source:ore\nmilestone tech:t\nend\nreach item:plate\nmissing item:ore\nundo\nmask recipe:later\nmilestone tech:t\nreach item:#1\ngrant tech:t\nmask item:#1\ntime recipe:plate 0\ngrant item:gold\ngrant tech:t\nfrob\nreach \"item:plate\nmilestones\nsummary\nredo\nquiet on\nundo\nreach item:#1\n";
 
 const REPORT: &str =
     "2 reach item:plate rank 5\n3 why item:plate\n  special:character rank 1\n  source:ore rank 2\n  item:ore rank 3\n  recipe:plate rank 4\n  item:plate rank 5\n4 reach item:#1 no\n6 ok\n7 refused H3\n8 held\n9 held\n10 refused H3\n11 ok\n12 reach item:plate no\n13 missing item:ore\n  any source:ore\n14 ok\n15 mask recipe:later unreached\n16 ok\n17 reach item:#1 no\n18 ok\n19 mask item:#1 tech:t\n20 refused X3\n21 refused X1 item:gold\n22 refused X2\n23 refused Q1\n24 refused Q4\n25 milestones 1\n  tech:t\n26 summary reached 8 of 12 milestones 1 bits 3 tables 0 done 2 undone 0\n27 refused H2\n30 reach item:#1 no\n";
+
+const TABLES: &str =
+    "table works\nrow works smelt recipe:plate by machine:f\nrow works fluid recipe:plate by machine:f fuel item:ore\nwant works item:plate 2\nsolve works 100\nimport works item:ore 1/2\nimport works special:electricity 1/1000\nsolve works 100\nrate works smelt\nprice works smelt 3\nsolve works 1\nundo\nbatch\nwant works item:plate 5\nprice works smelt 1\nend\nsolve works 100\npower works on\nsolve works 100\nsurplus works item:ore 0\nwant works item:#1 1\nsolve works 10\nrate works none\nsolve other 1\nuntable works\nsummary\nundo\ntime recipe:plate 2\nrate works smelt\nbatch\nsolve works 10\n";
+
+const PLANS: &str =
+    "1 ok\n2 ok\n3 refused L3\n4 ok\n5 infeasible works\n  price item:ore 1\n  price item:plate 1\n6 ok\n7 ok\n8 plan works cost 1\n  row smelt rate 2 machines 1 count 1 power 90000 drain 3000 beacons 0 pollution 0\n  import item:ore 2\n  import special:electricity 0\n  price item:ore 1/2\n  price item:plate 1/2\n  price special:electricity 0\n  total power 90000 drain 3000 beacons 0 pollution 0\n9 rate works smelt speed 1 productivity 0 consumption 1 pollution 1 machines 1/2 power 45000 drain 3000 fuel 0 emits 0 beacons 0\n10 ok\n11 refused V2 works\n  enter row smelt leave unit item:ore\n12 ok\n13 ok\n14 held\n15 held\n16 ok\n17 plan works cost 15/2\n  row smelt rate 5 machines 5/2 count 3 power 225000 drain 9000 beacons 0 pollution 0\n  import item:ore 5\n  import special:electricity 0\n  price item:ore 1/2\n  price item:plate 3/2\n  price special:electricity 0\n  total power 225000 drain 9000 beacons 0 pollution 0\n18 ok\n19 plan works cost 240\n  row smelt rate 5 machines 5/2 count 3 power 225000 drain 9000 beacons 0 pollution 0\n  import item:ore 5\n  import special:electricity 232500\n  price item:ore 1/2\n  price item:plate 48\n  price special:electricity 1/1000\n  total power 225000 drain 9000 beacons 0 pollution 0\n20 ok\n21 ok\n22 infeasible works\n  price item:ore 0\n  price item:plate 0\n  price item:#1 1\n  price special:electricity 0\n23 refused P1 none\n24 refused P1 other\n25 ok\n26 summary reached 5 of 12 milestones 0 bits 0 tables 0 done 10 undone 0\n27 ok\n28 ok\n29 rate works smelt speed 1 productivity 0 consumption 1 pollution 1 machines 2 power 180000 drain 3000 fuel 0 emits 0 beacons 0\n30 ok\n31 refused H3\n";
 
 #[test]
 fn edits_and_questions_are_answered(rt: HostRuntime) -> Result<(), Fail> {
@@ -79,19 +85,34 @@ fn edits_and_questions_are_answered(rt: HostRuntime) -> Result<(), Fail> {
 
 #[test]
 fn a_report_is_done(rt: HostRuntime) -> Result<(), Fail> {
-    assert!(rt; tells_all(rt.alloc(), "reach item:ore\r\n# so it is", ScriptEnd::Done, "1 reach item:ore rank 3\n"));
+    assert!(rt;
+        tells_all(
+            rt.alloc(),
+            "reach item:ore\r\n# so it is",
+            ScriptEnd::Done,
+            "1 reach item:ore rank 3\n"
+        )
+    );
     Ok(())
 }
 
 #[test]
 fn a_report_is_cut_off(rt: HostRuntime) -> Result<(), Fail> {
-    assert!(rt; tells(rt.alloc(), b"reach item:ore\nmilestones\n", 30, ScriptEnd::WriteFault, "1 reach item:ore rank 3\n2 mil"));
+    assert!(rt;
+        tells(
+            rt.alloc(),
+            b"reach item:ore\nmilestones\n",
+            30,
+            ScriptEnd::WriteFault,
+            "1 reach item:ore rank 3\n2 mile"
+        )
+    );
     Ok(())
 }
 
 #[test]
-fn tables_are_not_answered_yet(rt: HostRuntime) -> Result<(), Fail> {
-    assert!(rt; tells_all(rt.alloc(), "milestones\nwant t item:ore 1", ScriptEnd::NotYet, "not yet\n"));
+fn tables_are_solved(rt: HostRuntime) -> Result<(), Fail> {
+    assert!(rt; tells_all(rt.alloc(), TABLES, ScriptEnd::SomeRefused, PLANS));
     Ok(())
 }
 
@@ -117,6 +138,13 @@ fn the_most_lines_are_answered(rt: HostRuntime) -> Result<(), Fail> {
 
 #[test]
 fn one_line_more_is_too_many(rt: HostRuntime) -> Result<(), Fail> {
-    assert!(rt; tells_of_lines(rt.alloc(), 100_001, ScriptEnd::TooManyLines, "too long script lines\n"));
+    assert!(rt;
+        tells_of_lines(
+            rt.alloc(),
+            100_001,
+            ScriptEnd::TooManyLines,
+            "too long script lines\n"
+        )
+    );
     Ok(())
 }

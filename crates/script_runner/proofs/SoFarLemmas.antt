@@ -1,5 +1,5 @@
 -- What is so while the lines of a script are answered.
-use Rattle.std.proofs.Common.{◌≡◌, ◌<◌, ◌≤◌, ◌+◌, ◌++◌, ◌∷◌, [], ℕ, zero, suc, List, length, take, drop, arith, ap, sym, subst, refl, inl, inr, Bool, true, false, ◌∙◌, append-nil, add-one}
+use Rattle.std.proofs.Common.{◌≡◌, ◌<◌, ◌≤◌, ◌+◌, ◌++◌, ◌∷◌, [], ℕ, zero, suc, List, length, take, drop, arith, ap, sym, subst, refl, inl, Bool, true, false, ◌∙◌, append-nil, add-one}
 use Rattle.std.specs.Prelude.{Option, ◌||◌}
 use Rattle.std.specs.Io.KnownBytes.{Appends}
 use Rattle.std.proofs.lemmas.List.{take-append-drop, length-append}
@@ -8,7 +8,7 @@ use Rattle.script_runner.specs.declared.run.ScriptEnd.TheVariants.{Done, SomeRef
 use Rattle.script_runner.specs.Answers.{Answered, AnswersLine, IsAnswered}
 use Rattle.script_runner.specs.Leaves.{Leaves}
 use Rattle.script_runner.specs.Lines.{lines_of}
-use Rattle.script_runner.specs.Scripts.{EndsScript, HasForm, TellsAll, TellsSome, is_cut}
+use Rattle.script_runner.specs.Scripts.{EndsScript, TellsAll, TellsSome, is_cut}
 use Rattle.script_runner.specs.Sessions.{IsSession, report, some_refused, work}
 use Rattle.script_runner.specs.Writing.{AppendsFront}
 use Rattle.script_runner.proofs.SessionLemmas.{refused_more, report_more, session_first, session_more, work_more}
@@ -98,9 +98,9 @@ all_taken : (lines : List (List ℕ)) (count : ℕ) → drop count lines ≡ [] 
 all_taken lines count none = sym (append-nil (take count lines)) ∙ (ap (λ t. take count lines ++ t) (sym none) ∙ take-append-drop count lines)
 
 tells_all : {first now : Planned} {script rest : List ℕ} {count : ℕ} {refused : Bool} {before after : Option (List ℕ)} {old new : ℕ} → (so : SoFar first now script rest count refused before after old new)
-    → HasForm script → lines_of rest ≡ [] → TellsAll refused first script (report so.answers) (work so.answers)
-tells_all {first} {now} {script} {count = count} so form none = record {
-  form = form;
+    → length (lines_of script) ≤ 100_000 → lines_of rest ≡ [] → TellsAll refused first script (report so.answers) (work so.answers)
+tells_all {first} {now} {script} {count = count} so few none = record {
+  few = few;
   tells = record {
     answers = so.answers;
     last = now;
@@ -112,42 +112,42 @@ tells_all {first} {now} {script} {count = count} so form none = record {
 }
 
 pub ends_refused : {first now : Planned} {script rest : List ℕ} {count : ℕ} {refused : Bool} {before after : Option (List ℕ)} {old new : ℕ} → SoFar first now script rest count refused before after old new
-    → HasForm script → lines_of rest ≡ [] → refused ≡ true → Leaves (EndsScript first script) is_cut before after old new SomeRefused
+    → length (lines_of script) ≤ 100_000 → lines_of rest ≡ [] → refused ≡ true → Leaves (EndsScript first script) is_cut before after old new SomeRefused
 unfolding EndsScript
-ends_refused {first} {script = script} so form none is = record {
+ends_refused {first} {script = script} so few none is = record {
   text = report so.answers;
   work = work so.answers;
-  ends = subst (λ b. TellsAll b first script (report so.answers) (work so.answers)) is (tells_all so form none);
+  ends = subst (λ b. TellsAll b first script (report so.answers) (work so.answers)) is (tells_all so few none);
   adds = so.written;
   steps = so.steps;
   later = so.later;
 }
 
 pub ends_done : {first now : Planned} {script rest : List ℕ} {count : ℕ} {refused : Bool} {before after : Option (List ℕ)} {old new : ℕ} → SoFar first now script rest count refused before after old new
-    → HasForm script → lines_of rest ≡ [] → refused ≡ false → Leaves (EndsScript first script) is_cut before after old new Done
+    → length (lines_of script) ≤ 100_000 → lines_of rest ≡ [] → refused ≡ false → Leaves (EndsScript first script) is_cut before after old new Done
 unfolding EndsScript
-ends_done {first} {script = script} so form none is = record {
+ends_done {first} {script = script} so few none is = record {
   text = report so.answers;
   work = work so.answers;
-  ends = subst (λ b. TellsAll b first script (report so.answers) (work so.answers)) is (tells_all so form none);
+  ends = subst (λ b. TellsAll b first script (report so.answers) (work so.answers)) is (tells_all so few none);
   adds = so.written;
   steps = so.steps;
   later = so.later;
 }
 
 tells_some : {first now : Planned} {script rest : List ℕ} {count : ℕ} {refused : Bool} {before after : Option (List ℕ)} {old new : ℕ} → (so : SoFar first now script rest count refused before after old new)
-    → HasForm script → TellsSome first script (report so.answers) (work so.answers)
-tells_some {first} {now} {script} {count = count} so form =
-    record { form = form; count = count; tells = record { answers = so.answers; last = now; session = so.session; told = refl; takes = refl } }
+    → length (lines_of script) ≤ 100_000 → TellsSome first script (report so.answers) (work so.answers)
+tells_some {first} {now} {script} {count = count} so few =
+    record { few = few; count = count; tells = record { answers = so.answers; last = now; session = so.session; told = refl; takes = refl } }
 
 -- a line wants memory
 pub ends_wanting : {first now : Planned} {script rest : List ℕ} {count : ℕ} {refused : Bool} {before after : Option (List ℕ)} {old new : ℕ} → SoFar first now script rest count refused before after old new
-    → HasForm script → (newer : ℕ) → new ≤ newer → Leaves (EndsScript first script) is_cut before after old newer NoMemory
+    → length (lines_of script) ≤ 100_000 → (newer : ℕ) → new ≤ newer → Leaves (EndsScript first script) is_cut before after old newer NoMemory
 unfolding EndsScript
-ends_wanting {old = old} so form newer later = record {
+ends_wanting {old = old} so few newer later = record {
   text = report so.answers;
   work = newer;
-  ends = record { few = form.few; tells = inr (work so.answers, tells_some so form) };
+  ends = (work so.answers, tells_some so few);
   adds = so.written;
   steps = omega arith;
   later = omega (arith, so.later, later);
@@ -155,15 +155,15 @@ ends_wanting {old = old} so form newer later = record {
 
 -- the reply to a line is cut off
 pub ends_cut : {first now : Planned} {script rest : List ℕ} {count : ℕ} {refused : Bool} {before mid : Option (List ℕ)} {old new : ℕ} → SoFar first now script rest count refused before mid old new
-    → HasForm script → (line more : List ℕ) (next : Planned) (text : List ℕ) (refuses : Bool) (after : Option (List ℕ)) (newer : ℕ) → lines_of rest ≡ line ∷ lines_of more → AnswersLine (count + 1) line now next text refuses new newer
+    → length (lines_of script) ≤ 100_000 → (line more : List ℕ) (next : Planned) (text : List ℕ) (refuses : Bool) (after : Option (List ℕ)) (newer : ℕ) → lines_of rest ≡ line ∷ lines_of more → AnswersLine (count + 1) line now next text refuses new newer
     → new ≤ newer → AppendsFront mid after text → Leaves (EndsScript first script) is_cut before after old newer WriteFault
 unfolding EndsScript
-ends_cut {first} {now} {script} {rest} {count} {refused} {before} {mid} {old} {new} so form line more next text refuses after newer is told later front =
+ends_cut {first} {now} {script} {rest} {count} {refused} {before} {mid} {old} {new} so few line more next text refuses after newer is told later front =
     let one = following so line more next text refuses newer is told in
     record {
       text = report (so.answers ++ told.answer ∷ []);
       work = work (so.answers ++ told.answer ∷ []);
-      ends = inl (record { form = form; count = count + 1; tells = record { answers = so.answers ++ told.answer ∷ []; last = next; session = one.session; told = refl; takes = refl } });
+      ends = inl (record { few = few; count = count + 1; tells = record { answers = so.answers ++ told.answer ∷ []; last = next; session = one.session; told = refl; takes = refl } });
       adds = front_after before mid after (report so.answers) text (report (so.answers ++ told.answer ∷ [])) (ap (λ t. report so.answers ++ t) told.told ∙ sym (report_more so.answers told.answer)) so.written front;
       steps = omega (arith, so.steps, told.steps, work_more so.answers told.answer);
       later = omega (arith, so.later, later);

@@ -1,7 +1,7 @@
 pub mod Answers
 pub mod Leaves
 pub mod Lines
-pub mod NotYet
+pub mod Plans
 pub mod Scripts
 pub mod Sessions
 pub mod Writing

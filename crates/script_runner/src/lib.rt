@@ -4,12 +4,11 @@
 mod answer;
 mod laws;
 mod lines;
-mod not_yet;
 mod output;
 mod reading;
 mod report;
 mod run;
 
-pub use laws::planners_grow_from_the_base;
+pub use laws::{planners_grow_from_the_base, plans_cost_least};
 pub use output::write_all;
 pub use run::{LINE_LIMIT, ScriptEnd, run_script};

@@ -1,10 +1,11 @@
 //! The replies to the lines of a script.
-ghost use Rattle.std.specs.Prelude.{◌≡◌, ◌≤◌};
+ghost use Rattle.std.specs.Prelude.{◌≡◌, ◌≤◌, length};
 ghost use Rattle.plan_io.specs.Causes.{Rose};
 ghost use Rattle.planning_state.specs.States.{State};
 ghost use Rattle.planner_core.specs.Lines.{IsSessionOf};
 ghost use Rattle.script_runner.specs.Leaves.{Leaves};
-ghost use Rattle.script_runner.specs.Scripts.{is_cut, EndsScript, HasForm};
+ghost use Rattle.script_runner.specs.Lines.{lines_of};
+ghost use Rattle.script_runner.specs.Scripts.{is_cut, EndsScript};
 
 use crate::answer::answer_line;
 use crate::lines::{split_line, trim_return};
@@ -24,7 +25,7 @@ pub fn answer_lines<K: Sink, L>(
     steps: &mut Steps<L>,
 ) -> ScriptEnd
     requires session { (base : State) × IsSessionOf base planner.old }
-    requires form { HasForm script.now }
+    requires few { length (lines_of script.now) ≤ 100_000 }
     ensures leaves { Leaves (EndsScript planner.old script.now) is_cut (K.written out.old) (K.written out.new) steps.old steps.new result }
     ensures history { (base : State) → IsSessionOf base planner.old → IsSessionOf base planner.new }
     ensures limit { K.limit out.new ≡ K.limit out.old }

@@ -7,7 +7,6 @@ ghost use Rattle.script_runner.specs.Leaves.{Leaves};
 ghost use Rattle.script_runner.specs.Scripts.{EndsScript, is_cut};
 
 use crate::lines::line_count;
-use crate::not_yet::wants_tables;
 use crate::output::write_all;
 use crate::report::answer_lines;
 use plan_base::Steps;
@@ -27,8 +26,6 @@ pub enum ScriptEnd {
     SomeRefused,
     /// The script has too many lines, and none was answered.
     TooManyLines,
-    /// Some line is a command that this version does not answer, and none was answered.
-    NotYet,
     /// The report could not be written.
     WriteFault,
     /// Memory could not be had.
@@ -56,12 +53,5 @@ pub fn run_script<K: Sink, L>(
             Err(_) => ScriptEnd::WriteFault,
         };
     }
-    match wants_tables(alloc, script) {
-        Ok(false) => answer_lines(alloc, planner, script, out, steps),
-        Ok(true) => match write_all(out, b"not yet\n") {
-            Ok(()) => ScriptEnd::NotYet,
-            Err(_) => ScriptEnd::WriteFault,
-        },
-        Err(_) => ScriptEnd::NoMemory,
-    }
+    answer_lines(alloc, planner, script, out, steps)
 }

@@ -8,7 +8,7 @@ pub answer_line-requires : goal.answer_line-requires
 answer_line-requires g c = record { session = (c.requires.session.0, c.loop-rest.invariant.history c.requires.session.0 c.requires.session.1) }
 
 pub returns-in-Err-clause-leaves : goal.returns-in-Err-clause-leaves
-returns-in-Err-clause-leaves g c = ends_wanting c.loop-rest.invariant.so_far c.requires.form c.answer_line.new.steps c.answer_line.ensures.later
+returns-in-Err-clause-leaves g c = ends_wanting c.loop-rest.invariant.so_far c.requires.few c.answer_line.new.steps c.answer_line.ensures.later
 
 pub returns-in-Err-write_all-clause-leaves : goal.returns-in-Err-write_all-clause-leaves
 returns-in-Err-write_all-clause-leaves g c =
@@ -17,7 +17,7 @@ returns-in-Err-write_all-clause-leaves g c =
     let at = ap (λ t. map without_return t) c.split_line.ensures.lines ∙ ap (λ l. l ∷ lines_of more) (sym c.trim_return.ensures) in
     let text : c.as_bytes.result.now ≡ c.in-Ok.answer.0 = cc (c.as_bytes.ensures.value, c.as_str.ensures) in
     let front = rw text at c.in-Err-write_all.ensures.err in
-    ends_cut c.loop-rest.invariant.so_far c.requires.form line more c.answer_line.new.planner c.in-Ok.answer.0 c.in-Ok.answer.1 (g.K.Sink.written c.write_all.new.out) c.answer_line.new.steps at c.in-Ok.ensures.answer c.answer_line.ensures.later front
+    ends_cut c.loop-rest.invariant.so_far c.requires.few line more c.answer_line.new.planner c.in-Ok.answer.0 c.in-Ok.answer.1 (g.K.Sink.written c.write_all.new.out) c.answer_line.new.steps at c.in-Ok.ensures.answer c.answer_line.ensures.later front
 
 pub loop-rest-preserved : goal.loop-rest-preserved
 loop-rest-preserved g c =
@@ -34,7 +34,7 @@ loop-rest-preserved g c =
     }
 
 pub returns-then-refused-clause-leaves : goal.returns-then-refused-clause-leaves
-returns-then-refused-clause-leaves g c = ends_refused c.loop-rest.invariant.so_far c.requires.form (no_lines c.loop-rest.rest.now c.loop-rest-test.ensures) c.if-refused.true
+returns-then-refused-clause-leaves g c = ends_refused c.loop-rest.invariant.so_far c.requires.few (no_lines c.loop-rest.rest.now c.loop-rest-test.ensures) c.if-refused.true
 
 pub returns-else-refused-clause-leaves : goal.returns-else-refused-clause-leaves
-returns-else-refused-clause-leaves g c = ends_done c.loop-rest.invariant.so_far c.requires.form (no_lines c.loop-rest.rest.now c.loop-rest-test.ensures) c.if-refused.false
+returns-else-refused-clause-leaves g c = ends_done c.loop-rest.invariant.so_far c.requires.few (no_lines c.loop-rest.rest.now c.loop-rest-test.ensures) c.if-refused.false
