@@ -1,4 +1,4 @@
-// The lines of a script.
+//! The lines of a script.
 ghost use Rattle.std.specs.Prelude.{◌≡◌, ◌<◌, ◌∷◌, ◌==◌, length, position};
 ghost use Rattle.script_runner.specs.Lines.{cut_lines, lines_of, without_return};
 
