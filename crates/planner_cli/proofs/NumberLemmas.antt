@@ -1,5 +1,5 @@
 -- The number that a word writes, by the test of its digits.
-use Rattle.std.proofs.Common.{◌≡◌, ◌<◌, ◌≤◌, ◌&&◌, ◌∙◌, ℕ, Bool, true, false, List, [], ◌∷◌, nat_le, nat_lt, refl, sym, subst, arith}
+use Rattle.std.proofs.Common.{◌≡◌, ◌<◌, ◌≤◌, ◌&&◌, ℕ, Bool, true, false, List, [], ◌∷◌, nat_le, nat_lt, refl, subst, arith}
 use Rattle.std.specs.Prelude.{Option, Some, None, IfSome, cond}
 use Rattle.std.specs.Char.{digit_value}
 use Rattle.std.specs.Str.Parse.{AllDigits, digits_value}

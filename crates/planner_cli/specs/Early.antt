@@ -1,5 +1,5 @@
 -- How a run ends before its script is answered.
-use Rattle.std.specs.Prelude.{◌≡◌, ◌⊎◌, ◌≤◌, ℕ, Bool, true, false, IsTrue, ⊤, List, [], Option, None, codes}
+use Rattle.std.specs.Prelude.{◌≡◌, ◌⊎◌, ◌≤◌, ℕ, Bool, true, false, IsTrue, ⊤, List, [], Option, None, Some, codes}
 use Rattle.plan_io.specs.Store.{Shelf}
 use Rattle.game_types.specs.declared.games.Game.{Game}
 use Rattle.craft_reader.specs.declared.fault.DumpFault.{DumpFault}
@@ -12,7 +12,7 @@ use Rattle.planner_cli.specs.declared.status.Long.TheVariants.{DumpBytes, Script
 use Rattle.planner_cli.specs.BadDump.{fault_line}
 use Rattle.planner_cli.specs.Base.{HasManyMembers, load_work, members_fault}
 use Rattle.planner_cli.specs.Inputs.{IsBase, IsDump, IsLong, IsLongDump, IsLongScript}
-use Rattle.planner_cli.specs.Words.{Asked}
+use Rattle.planner_cli.specs.Words.{Asked, Files}
 
 -- Why a dump has no base: the first fault of reading it, or its members. How many steps are taken where those are too many is
 -- not said.
@@ -55,7 +55,8 @@ Stops shelf asked other work = ⊥
 
 -- a file could not be read: the dump, or the script behind a base
 abbrev pub ReadsNot : Shelf → Option Asked → ℕ → Type 0
-ReadsNot shelf asked work = (work ≡ 0) ⊎ ((game : Game) × IsBase shelf asked game × (work ≤ load_work game))
+ReadsNot shelf (Some (Files names)) work = (work ≡ 0) ⊎ ((game : Game) × IsBase shelf (Some (Files names)) game × (work ≤ load_work game))
+ReadsNot shelf other work = ⊥
 
 -- how a run ends before its script is answered, and how many steps it has taken then
 abbrev pub EndsEarly : Shelf → Option Asked → Status → ℕ → Type 0
