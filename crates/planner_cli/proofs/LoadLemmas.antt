@@ -6,10 +6,10 @@ use Rattle.craft_reader.specs.declared.fault.DumpCode.{DumpCode}
 use Rattle.craft_reader.specs.declared.fault.DumpCode.TheVariants as d
 use Rattle.craft_reader.specs.declared.fault.DumpFault.{DumpFault}
 use Rattle.depend_rows.specs.Rows.{rows_of}
-use Rattle.game_reader.specs.Games.{HasFault, HasGame}
+use Rattle.game_reader.specs.Games.{HasGame}
 use Rattle.planner_cli.specs.declared.status.Status.{Status}
 use Rattle.planner_cli.specs.declared.status.Status.TheVariants.{BadDump, NoMemory}
-use Rattle.planner_cli.specs.Base.{HasManyMembers, members_fault}
+use Rattle.planner_cli.specs.Base.{members_fault}
 use Rattle.planner_cli.specs.Early.{EndsLoading, HasBaseFault}
 
 for_fault : (dump : List ℕ) (fault : DumpFault) (status : Status) (work : ℕ) → fault.code ≢ d.NoMemory → (fault.code ≢ d.NoMemory → status ≡ BadDump fault)
