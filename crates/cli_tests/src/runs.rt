@@ -316,3 +316,37 @@ fn unusual_words(rt: HostRuntime) -> Result<(), Fail> {
     assert!(rt; names(alloc, &["--", "run", "d", "s"], "d", "s"));
     Ok(())
 }
+
+#[test]
+fn undefined_words_of_a_sample(rt: HostRuntime) -> Result<(), Fail> {
+    let alloc = rt.alloc();
+    assert!(rt; are_bad_words(alloc, &["p", "sample", "7"]));
+    assert!(rt; are_bad_words(alloc, &["p", "sample", "07", "1"]));
+    assert!(rt; are_bad_words(alloc, &["p", "sample", "+7", "1"]));
+    assert!(rt; are_bad_words(alloc, &["p", "sample", "", "1"]));
+    assert!(rt; are_bad_words(alloc, &["p", "sample", "4294967296", "1"]));
+    assert!(rt; are_bad_words(alloc, &["p", "sample", "7", "01"]));
+    assert!(rt; are_bad_words(alloc, &["p", "sample", "7", "0"]));
+    assert!(rt; are_bad_words(alloc, &["p", "sample", "7", "20001"]));
+    Ok(())
+}
+
+// A sample's script has a table.
+#[test]
+fn samples_are_not_answered_yet(rt: HostRuntime) -> Result<(), Fail> {
+    let alloc = rt.alloc();
+    assert!(rt; fails_so(alloc, &["p", "sample", "7", "1"], &[], 0, 0, 8, "not yet\n"));
+    assert!(rt;
+        fails_so(
+            alloc,
+            &["p", "sample", "0", "20"],
+            &[],
+            0,
+            0,
+            8,
+            "not yet\n"
+        )
+    );
+    assert!(rt; fails_so(alloc, &["p", "sample", "4294967295", "2"], &[], 0, 1, 5, ""));
+    Ok(())
+}

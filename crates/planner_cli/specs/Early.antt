@@ -1,5 +1,5 @@
 -- How a run ends before its script is answered.
-use Rattle.std.specs.Prelude.{◌≡◌, ◌⊎◌, ◌≤◌, ℕ, Bool, true, false, IsTrue, ⊤, List, [], Option, None, codes}
+use Rattle.std.specs.Prelude.{◌≡◌, ◌⊎◌, ◌≤◌, ℕ, Bool, true, false, IsTrue, ⊤, List, [], Option, None, Some, codes}
 use Rattle.plan_io.specs.Store.{Shelf}
 use Rattle.game_types.specs.declared.games.Game.{Game}
 use Rattle.craft_reader.specs.declared.fault.DumpFault.{DumpFault}
@@ -12,7 +12,7 @@ use Rattle.planner_cli.specs.declared.status.Long.TheVariants.{DumpBytes, Script
 use Rattle.planner_cli.specs.BadDump.{fault_line}
 use Rattle.planner_cli.specs.Base.{HasManyMembers, load_work, members_fault}
 use Rattle.planner_cli.specs.Inputs.{IsBase, IsDump, IsLong, IsLongDump, IsLongScript}
-use Rattle.planner_cli.specs.Words.{FileNames}
+use Rattle.planner_cli.specs.Words.{Asked, Files}
 
 -- Why a dump has no base: the first fault of reading it, or its members. How many steps are taken where those are too many is
 -- not said.
@@ -33,20 +33,20 @@ EndsReading shelf name limit long NoMemory = ⊤
 EndsReading shelf name limit long other = ⊥
 
 -- the dump is refused for this fault
-pub record IsRefused (shelf : Shelf) (asked : Option FileNames) (fault : DumpFault) (work : ℕ) : Type 0 where
+pub record IsRefused (shelf : Shelf) (asked : Option Asked) (fault : DumpFault) (work : ℕ) : Type 0 where
   pub dump : List ℕ
   pub given : IsDump shelf asked dump
   pub fault_is : HasBaseFault dump fault work
 
 -- the dump has a base, and the script is too long
-pub record PassesScript (shelf : Shelf) (asked : Option FileNames) (work : ℕ) : Type 0 where
+pub record PassesScript (shelf : Shelf) (asked : Option Asked) (work : ℕ) : Type 0 where
   pub game : Game
   pub base : IsBase shelf asked game
   pub long : IsLongScript shelf asked
   pub takes : work ≤ load_work game
 
 -- the statuses that a line tells, each with its cause
-abbrev pub Stops : Shelf → Option FileNames → Status → ℕ → Type 0
+abbrev pub Stops : Shelf → Option Asked → Status → ℕ → Type 0
 Stops shelf asked BadWords work = (asked ≡ None) × (work ≡ 0)
 Stops shelf asked (TooLong DumpBytes) work = IsLongDump shelf asked × (work ≡ 0)
 Stops shelf asked (TooLong ScriptBytes) work = PassesScript shelf asked work
@@ -54,11 +54,12 @@ Stops shelf asked (BadDump fault) work = IsRefused shelf asked fault work
 Stops shelf asked other work = ⊥
 
 -- a file could not be read: the dump, or the script behind a base
-abbrev pub ReadsNot : Shelf → Option FileNames → ℕ → Type 0
-ReadsNot shelf asked work = (work ≡ 0) ⊎ ((game : Game) × IsBase shelf asked game × (work ≤ load_work game))
+abbrev pub ReadsNot : Shelf → Option Asked → ℕ → Type 0
+ReadsNot shelf (Some (Files names)) work = (work ≡ 0) ⊎ ((game : Game) × IsBase shelf (Some (Files names)) game × (work ≤ load_work game))
+ReadsNot shelf other work = ⊥
 
 -- how a run ends before its script is answered, and how many steps it has taken then
-abbrev pub EndsEarly : Shelf → Option FileNames → Status → ℕ → Type 0
+abbrev pub EndsEarly : Shelf → Option Asked → Status → ℕ → Type 0
 EndsEarly shelf asked ReadFault work = ReadsNot shelf asked work
 EndsEarly shelf asked NoMemory work = ⊤
 EndsEarly shelf asked status work = Stops shelf asked status work

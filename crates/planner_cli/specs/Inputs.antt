@@ -1,10 +1,11 @@
 -- The dump and the script that the words of a run ask for.
-use Rattle.std.specs.Prelude.{◌<◌, ◌≤◌, ℕ, List, length, Option, None, Some}
+use Rattle.std.specs.Prelude.{◌≡◌, ◌<◌, ◌≤◌, ℕ, List, length, Option, None, Some}
 use Rattle.plan_io.specs.Store.{Shelf}
 use Rattle.game_types.specs.declared.games.Game.{Game}
+use Rattle.sample_maker.specs.Texts.{sample_dump, sample_script}
 use Rattle.planner_cli.specs.Base.{HasBase}
 use Rattle.planner_cli.specs.Reading.{IsContent}
-use Rattle.planner_cli.specs.Words.{FileNames}
+use Rattle.planner_cli.specs.Words.{Asked, Files, Sample}
 
 -- a file of that name that is within its limit, and one that is not
 pub record IsInput (shelf : Shelf) (name : List ℕ) (limit : ℕ) (bytes : List ℕ) : Type 0 where
@@ -16,27 +17,29 @@ pub record IsLong (shelf : Shelf) (name : List ℕ) (limit : ℕ) : Type 0 where
   pub content : IsContent shelf name bytes
   pub passes : limit < length bytes
 
--- the bytes of the dump
-abbrev pub IsDump : Shelf → Option FileNames → List ℕ → Type 0
-IsDump shelf (Some names) dump = IsInput shelf names.dump 268_435_456 dump
+-- the bytes of the dump: those of a file within its limit, or those of the sample
+abbrev pub IsDump : Shelf → Option Asked → List ℕ → Type 0
+IsDump shelf (Some (Files names)) dump = IsInput shelf names.dump 268_435_456 dump
+IsDump shelf (Some (Sample number size)) dump = dump ≡ sample_dump number size
 IsDump shelf None dump = ⊥
 
 -- those of the script
-abbrev pub IsScript : Shelf → Option FileNames → List ℕ → Type 0
-IsScript shelf (Some names) script = IsInput shelf names.script 16_777_216 script
+abbrev pub IsScript : Shelf → Option Asked → List ℕ → Type 0
+IsScript shelf (Some (Files names)) script = IsInput shelf names.script 16_777_216 script
+IsScript shelf (Some (Sample number size)) script = script ≡ sample_script number size
 IsScript shelf None script = ⊥
 
 -- the dump is too long, and the script is
-abbrev pub IsLongDump : Shelf → Option FileNames → Type 0
-IsLongDump shelf (Some names) = IsLong shelf names.dump 268_435_456
-IsLongDump shelf None = ⊥
+abbrev pub IsLongDump : Shelf → Option Asked → Type 0
+IsLongDump shelf (Some (Files names)) = IsLong shelf names.dump 268_435_456
+IsLongDump shelf other = ⊥
 
-abbrev pub IsLongScript : Shelf → Option FileNames → Type 0
-IsLongScript shelf (Some names) = IsLong shelf names.script 16_777_216
-IsLongScript shelf None = ⊥
+abbrev pub IsLongScript : Shelf → Option Asked → Type 0
+IsLongScript shelf (Some (Files names)) = IsLong shelf names.script 16_777_216
+IsLongScript shelf other = ⊥
 
 -- the dump has this base
-pub record IsBase (shelf : Shelf) (asked : Option FileNames) (game : Game) : Type 0 where
+pub record IsBase (shelf : Shelf) (asked : Option Asked) (game : Game) : Type 0 where
   pub dump : List ℕ
   pub given : IsDump shelf asked dump
   pub has : HasBase dump game

@@ -1,19 +1,21 @@
 // All that comes before the first line of a script is answered.
-ghost use Rattle.std.specs.Prelude.{◌≡◌, ◌≤◌, ◌-◌, Err, IsErrOf, MatchResult, Ok, Some};
+ghost use Rattle.std.specs.Prelude.{◌≡◌, ◌≤◌, ◌<◌, ◌-◌, Err, IfOk, IsErrOf, MatchResult, Ok, Some};
+ghost use Rattle.plan_io.specs.Store.{Shelf};
+ghost use Rattle.sample_maker.specs.Texts.{sample_dump};
 ghost use Rattle.planner_cli.specs.Begun.{BeginsFiles, status_so_far};
-ghost use Rattle.planner_cli.specs.Early.{EndsEarly};
+ghost use Rattle.planner_cli.specs.Early.{EndsEarly, EndsLoading};
 ghost use Rattle.planner_cli.specs.Ending.{IsReady};
 ghost use Rattle.planner_cli.specs.Keeping.{KeepsStore};
-ghost use Rattle.planner_cli.specs.Words.{names_of};
+ghost use Rattle.planner_cli.specs.Words.{Files, Sample};
 
 use crate::input::read_input;
 use crate::load::load;
 use crate::status::{DUMP_LIMIT, Long, SCRIPT_LIMIT, Status};
-use crate::words::{WordsFault, file_words};
 use plan_base::{Steps, Text};
 use plan_io::Store;
 use planner_core::Planner;
-use std::alloc::Global;
+use sample_maker::make_sample;
+use std::alloc::{AllocError, Global};
 
 /// A planner, and the script that it is to answer.
 #[derive(Drop)]
@@ -34,8 +36,12 @@ fn with_script(planner: Planner, script: Result<Vec<u8>, Status>) -> Result<Read
     }
 }
 
-// Reads the dump, loads its game, and reads the script.
-fn read_files<S: Store, L>(
+/// Reads the dump, loads its game, and reads the script.
+///
+/// # Errors
+///
+/// What ends the run before a line is answered.
+pub fn read_files<S: Store, L>(
     alloc: Global,
     dump: &str,
     script: &str,
@@ -44,9 +50,9 @@ fn read_files<S: Store, L>(
 ) -> Result<Ready, Status>
     requires { (S.begun store.old).calls ≤ 1 }
     ensures ready { MatchResult result
-        (λ ready. IsReady (S.shelf store.old) (Some (record { dump = dump.now; script = script.now })) ready.planner ready.script.items (steps.new - steps.old))
-        (λ status. EndsEarly (S.shelf store.old) (Some (record { dump = dump.now; script = script.now })) status (steps.new - steps.old)) }
-    ensures begins { BeginsFiles (S.shelf store.old) (Some (record { dump = dump.now; script = script.now })) (S.begun store.old) (S.begun store.new) (status_so_far result) }
+        (λ ready. IsReady (S.shelf store.old) (Some (Files (record { dump = dump.now; script = script.now }))) ready.planner ready.script.items (steps.new - steps.old))
+        (λ status. EndsEarly (S.shelf store.old) (Some (Files (record { dump = dump.now; script = script.now }))) status (steps.new - steps.old)) }
+    ensures begins { BeginsFiles (S.shelf store.old) (Some (Files (record { dump = dump.now; script = script.now }))) (S.begun store.old) (S.begun store.new) (status_so_far result) }
     ensures store { KeepsStore (S.shelf store.old) (S.shelf store.new) (S.faults store.old) (S.faults store.new) (IsErrOf result Status.ReadFault) }
     ensures later { steps.old ≤ steps.new }
 {
@@ -56,28 +62,39 @@ fn read_files<S: Store, L>(
     with_script(planner, script)
 }
 
-/// Reads the words, and what they ask for.
+fn bytes_of(alloc: Global, text: &Text) -> Result<Vec<u8>, AllocError>
+    ensures { IfOk result (λ bytes. bytes.items ≡ text.now) }
+{
+    text.as_str().as_bytes().to_vec(alloc)
+}
+
+/// Makes a sample, and loads its game.
 ///
 /// # Errors
 ///
-/// What ends the run before a line is answered.
-pub fn prepare<S: Store, L>(
+/// `BadDump` with the fault of its dump, or `NoMemory`.
+pub fn make_ready<L>(
     alloc: Global,
-    words: &[Text],
-    store: &mut S,
+    number: u32,
+    size: u32,
     steps: &mut Steps<L>,
 ) -> Result<Ready, Status>
-    requires { (S.begun store.old).calls ≤ 1 }
+    requires some { 0 < size }
+    requires few { size ≤ 20_000 }
     ensures ready { MatchResult result
-        (λ ready. IsReady (S.shelf store.old) (names_of words.now) ready.planner ready.script.items (steps.new - steps.old))
-        (λ status. EndsEarly (S.shelf store.old) (names_of words.now) status (steps.new - steps.old)) }
-    ensures begins { BeginsFiles (S.shelf store.old) (names_of words.now) (S.begun store.old) (S.begun store.new) (status_so_far result) }
-    ensures store { KeepsStore (S.shelf store.old) (S.shelf store.new) (S.faults store.old) (S.faults store.new) (IsErrOf result Status.ReadFault) }
+        (λ ready. (shelf : Shelf) → IsReady shelf (Some (Sample number size)) ready.planner ready.script.items (steps.new - steps.old))
+        (λ status. EndsLoading (sample_dump number size) status (steps.new - steps.old)) }
     ensures later { steps.old ≤ steps.new }
 {
-    match file_words(alloc, words) {
-        Ok(names) => read_files(alloc, names.dump, names.script, store, steps),
-        Err(WordsFault::Undefined) => Err(Status::BadWords),
-        Err(WordsFault::NoMemory) => Err(Status::NoMemory),
-    }
+    let Ok(sample) = make_sample(alloc, number, size) else {
+        return Err(Status::NoMemory);
+    };
+    let Ok(dump) = bytes_of(alloc, &sample.dump) else {
+        return Err(Status::NoMemory);
+    };
+    let Ok(script) = bytes_of(alloc, &sample.script) else {
+        return Err(Status::NoMemory);
+    };
+    let planner = load(alloc, dump, steps)?;
+    Ok(Ready { planner, script })
 }

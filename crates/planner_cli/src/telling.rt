@@ -1,13 +1,14 @@
-// What is written where a run ends before its script is answered.
-ghost use Rattle.std.specs.Prelude.{◌≡◌, ◌≢◌};
+// What is written where a run ends before its script is answered, and behind the answers to a sample's.
+ghost use Rattle.std.specs.Prelude.{◌≡◌, ◌≢◌, true};
 ghost use Rattle.planner_cli.specs.Early.{Tells, long_line};
+ghost use Rattle.planner_cli.specs.Ending.{TellsSteps, is_answered};
 ghost use Rattle.planner_cli.specs.Keeping.{KeepsSink};
 
 use crate::bad_dump::fault_line;
-use crate::status::{Long, Status};
+use crate::status::{Long, Status, status_of};
 use craft_reader::DumpFault;
 use plan_io::Sink;
-use script_runner::write_all;
+use script_runner::{ScriptEnd, write_all};
 use std::alloc::Global;
 
 fn long_line(long: Long) -> &'static [u8]
@@ -51,5 +52,31 @@ pub fn tell<K: Sink>(alloc: Global, early: Status, out: &mut K) -> Status
         },
         Status::BadDump(fault) => tell_fault(alloc, fault, out),
         other => other,
+    }
+}
+
+/// Whether every line of a script was answered.
+pub fn is_answered(end: ScriptEnd) -> bool
+    ensures { result ≡ is_answered end }
+{
+    match end {
+        ScriptEnd::Done => true,
+        ScriptEnd::SomeRefused => true,
+        _ => false,
+    }
+}
+
+/// Writes the line of the steps behind the answers to all lines, and answers how the run ends.
+pub fn tell_steps<K: Sink>(alloc: Global, end: ScriptEnd, taken: u64, out: &mut K) -> Status
+    requires { is_answered end ≡ true }
+    ensures tells { TellsSteps end taken (K.written out.old) (K.written out.new) result }
+    ensures sink { KeepsSink (K.limit out.old) (K.limit out.new) (K.faults out.old) (K.faults out.new) (result ≡ Status.WriteFault) }
+{
+    let Ok(line) = format!(in alloc; "steps {taken}\n") else {
+        return Status::NoMemory;
+    };
+    match write_all(out, line.as_bytes()) {
+        Ok(()) => status_of(end),
+        Err(_) => Status::WriteFault,
     }
 }

@@ -1,22 +1,21 @@
-use Rattle.planner_cli.specs.Words.{names_of}
-use Rattle.planner_cli.proofs.EndingLemmas.{begins_told, is_no_cut, leaves_answered, leaves_told}
+use Rattle.std.proofs.Common.{arith}
+use Rattle.planner_cli.specs.Words.{asked_of}
+use Rattle.planner_cli.specs.declared.status.Status.TheVariants.{BadWords, NoMemory}
+use Rattle.planner_cli.proofs.EndingLemmas.{begins_nothing, begins_told, leaves_told}
 use Rattle.planner_cli.proofs.top.status_of_run.Goals as goal
 
-pub tell-requires : goal.tell-requires
-tell-requires g c = is_no_cut _ _ c.in-Err.early _ c.in-Err.ensures.ready
+pub returns-in-Err-Undefined-clause-leaves : goal.returns-in-Err-Undefined-clause-leaves
+returns-in-Err-Undefined-clause-leaves g c =
+    leaves_told (g.S.Store.shelf c.args.store.now) (asked_of c.args.words.now) BadWords _ _ c.args.steps.now c.args.steps.now c.tell.result
+    (c.in-Err-Undefined.ensures.asked c.in-Err-Undefined.field-0-is, omega arith) (omega arith) c.tell.ensures.tells
 
-pub returns-in-Ok-clause-leaves : goal.returns-in-Ok-clause-leaves
-returns-in-Ok-clause-leaves g c =
-    rw c.status_of.ensures
-    (leaves_answered (g.S.Store.shelf c.args.store.now) (names_of c.args.words.now) c.in-Ok.ready.planner c.in-Ok.ready.script.items _ _ c.args.steps.now c.prepare.new.steps c.answer.new.steps
-    c.answer.result c.in-Ok.ensures.ready c.in-Ok.ensures.later c.answer.ensures.leaves)
+pub returns-in-Err-NoMemory-clause-leaves : goal.returns-in-Err-NoMemory-clause-leaves
+returns-in-Err-NoMemory-clause-leaves g c =
+    leaves_told (g.S.Store.shelf c.args.store.now) (asked_of c.args.words.now) NoMemory _ _ c.args.steps.now c.args.steps.now c.tell-in-Err-NoMemory.result
+    tt (omega arith) c.tell-in-Err-NoMemory.ensures.tells
 
-pub returns-in-Err-clause-leaves : goal.returns-in-Err-clause-leaves
-returns-in-Err-clause-leaves g c =
-    leaves_told (g.S.Store.shelf c.args.store.now) (names_of c.args.words.now) c.in-Err.early _ _ c.args.steps.now c.prepare.new.steps c.tell.result c.in-Err.ensures.ready
-    c.in-Err.ensures.later c.tell.ensures.tells
-
-pub returns-in-Err-clause-begins : goal.returns-in-Err-clause-begins
-returns-in-Err-clause-begins g c =
-    begins_told (g.S.Store.shelf c.args.store.now) (names_of c.args.words.now) (g.S.Store.begun c.args.store.now) (g.S.Store.begun c.prepare.new.store) c.in-Err.early c.tell.result
-    c.tell.ensures.tells.text c.tell.ensures.tells.told c.in-Err.ensures.begins
+pub returns-in-Err-NoMemory-clause-begins : goal.returns-in-Err-NoMemory-clause-begins
+returns-in-Err-NoMemory-clause-begins g c =
+    let tells = c.tell-in-Err-NoMemory.ensures.tells in
+    begins_told (g.S.Store.shelf c.args.store.now) (asked_of c.args.words.now) (g.S.Store.begun c.args.store.now) (g.S.Store.begun c.args.store.now) NoMemory
+    c.tell-in-Err-NoMemory.result tells.text tells.told (begins_nothing (g.S.Store.shelf c.args.store.now) (asked_of c.args.words.now) (g.S.Store.begun c.args.store.now))
