@@ -2,7 +2,7 @@
 //! one.
 ghost use Rattle.std.specs.Prelude.{◌≡◌, IfSome};
 
-use crate::texts::{DUMP, EDITS, EDITS_REPORT, REPORT, SCRIPT};
+use crate::texts::{DUMP, EDITS, EDITS_REPORT, REPORT, SCRIPT, TABLES, TABLES_REPORT};
 use plan_base::{NoMemory, Steps, Text};
 use plan_io::{MemSink, MemStore, Store};
 use planner_cli::run;
@@ -134,16 +134,8 @@ fn an_unknown_name_is_refused(rt: HostRuntime) -> Result<(), Fail> {
 }
 
 #[test]
-fn tables_are_not_answered_yet(rt: HostRuntime) -> Result<(), Fail> {
-    assert!(rt;
-        ends_so(
-            rt.alloc(),
-            DUMP,
-            "reach item:ore\ntable t\n",
-            8,
-            "not yet\n"
-        )
-    );
+fn tables_are_solved(rt: HostRuntime) -> Result<(), Fail> {
+    assert!(rt; ends_so(rt.alloc(), DUMP, TABLES, 1, TABLES_REPORT));
     Ok(())
 }
 
@@ -331,22 +323,9 @@ fn undefined_words_of_a_sample(rt: HostRuntime) -> Result<(), Fail> {
     Ok(())
 }
 
-// A sample's script has a table.
 #[test]
-fn samples_are_not_answered_yet(rt: HostRuntime) -> Result<(), Fail> {
+fn samples_read_no_file(rt: HostRuntime) -> Result<(), Fail> {
     let alloc = rt.alloc();
-    assert!(rt; fails_so(alloc, &["p", "sample", "7", "1"], &[], 0, 0, 8, "not yet\n"));
-    assert!(rt;
-        fails_so(
-            alloc,
-            &["p", "sample", "0", "20"],
-            &[],
-            0,
-            0,
-            8,
-            "not yet\n"
-        )
-    );
     assert!(rt; fails_so(alloc, &["p", "sample", "4294967295", "2"], &[], 0, 1, 5, ""));
     Ok(())
 }
