@@ -1,16 +1,16 @@
 //! Reads a dump and a script, and answers each line of the script. What went wrong is said in one line on standard error.
 #![tactic(auto)]
 
-use craft_reader::DumpCode;
+mod telling;
+
+use crate::telling::said;
 use plan_base::{NoMemory, Steps, Text};
 use plan_io::{HostSink, HostStore};
 use planner_cli::{Status, run};
-use run_hints::{dump_name, hint, script_name, unread_hint};
 use std::alloc::Global;
-use std::fs::File;
 use std::process::ExitCode;
 use std::rt::{Env, Files};
-use std::{env, fs, io};
+use std::{env, io};
 
 // Marks the counter of the program.
 #[derive(Drop)]
@@ -40,52 +40,6 @@ fn ended<R: Files + Print>(rt: &R, alloc: Global, words: &[Text]) -> Status {
     let mut out = HostSink::make(rt);
     let mut steps = Steps::new(Program);
     run(alloc, words, &mut store, &mut out, &mut steps).status
-}
-
-// The bytes of a dump whose text is no JSON, to tell the line and the column. What isn't kept, as a pipe, isn't read again.
-fn faulty_dump<R: Files + AllocGlobal>(rt: &R, status: &Status, words: &[Text]) -> Option<Vec<u8>> {
-    let Status::BadDump(fault) = status else {
-        return None;
-    };
-    let DumpCode::Json(_) = fault.code else {
-        return None;
-    };
-    let name = dump_name(words)?;
-    let kept = fs::metadata(rt, name).ok()?.is_file();
-    if kept { fs::read(rt, name).ok() } else { None }
-}
-
-// Why a file can't be read, where that can be told.
-fn read_error<R: Files>(rt: &R, name: &str) -> Option<io::Error> {
-    match File::open(rt, name) {
-        Ok(_) => {
-            let folder = fs::metadata(rt, name).ok()?.is_dir();
-            if folder { Some(io::ErrorKind::IsADirectory.into()) } else { None }
-        }
-        Err(error) => Some(error),
-    }
-}
-
-// What is said of a file that can't be read, or None where it can.
-fn unread<R: Files>(rt: &R, alloc: Global, name: Option<&str>) -> Option<Text> {
-    let name = name?;
-    let error = read_error(rt, name)?;
-    let why = format!(in alloc; "{error}").ok()?;
-    unread_hint(alloc, name, why.as_str()).ok()
-}
-
-// What is said of a run that ended so.
-fn said<R: Files + AllocGlobal>(rt: &R, alloc: Global, status: &Status, words: &[Text]) -> Option<Text> {
-    if let Status::ReadFault = status {
-        if let Some(said) = unread(rt, alloc, dump_name(words)) {
-            return Some(said);
-        }
-        if let Some(said) = unread(rt, alloc, script_name(words)) {
-            return Some(said);
-        }
-    }
-    let dump = faulty_dump(rt, status, words);
-    hint(alloc, status, words, dump.as_deref()).ok()
 }
 
 fn main(rt: HostRuntime) -> ExitCode {

@@ -57,8 +57,13 @@ part name = if length name == 0 then [] else printed_word name ++ codes ": "
 abbrev pub field_text : DumpFault → List ℕ
 field_text fault = part fault.section ++ (part fault.name ++ (part fault.field ++ field_words fault.code))
 
+-- a value of the wrong kind; where it is of no section, the dump itself is no object
+abbrev pub kind_text : DumpFault → List ℕ
+kind_text fault = if length fault.section == 0 then codes "no section of Factorio 1.1 found" else field_text fault
+
 abbrev pub text_by : DumpCode → DumpFault → Option (List ℕ) → List ℕ
 text_by (d.Json json) fault dump = json_text json dump
+text_by d.WrongKind fault dump = kind_text fault
 text_by code fault dump = field_text fault
 
 -- a fault of a dump whose bytes may be told

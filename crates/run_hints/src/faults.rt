@@ -1,6 +1,6 @@
 // What is said of a dump that is refused.
 ghost use Rattle.std.specs.Prelude.{◌≡◌, IfOk, option_copied, string_bytes};
-ghost use Rattle.run_hints.specs.Faults.{fault_text, field_text, field_words, json_text, json_text_at, json_words, known_place, part, words_at};
+ghost use Rattle.run_hints.specs.Faults.{fault_text, field_text, field_words, json_text, json_text_at, json_words, kind_text, known_place, part, words_at};
 
 use crate::place::{Place, place_in};
 use craft_reader::{DumpCode, DumpFault};
@@ -110,6 +110,17 @@ fn field_text(alloc: Global, fault: &DumpFault) -> Result<String, AllocError>
     format!(in alloc; "{section}{name}{field}{what}")
 }
 
+// A value of the wrong kind. Where it is of no section, the dump itself is no object.
+fn kind_text(alloc: Global, fault: &DumpFault) -> Result<String, AllocError>
+    ensures { IfOk result (λ text. string_bytes text ≡ kind_text fault.now) }
+{
+    if fault.section.as_str().is_empty() {
+        String::from_str(alloc, "no section of Factorio 1.1 found")
+    } else {
+        field_text(alloc, fault)
+    }
+}
+
 /// Where a dump is at fault, and how.
 #[tactic(auto, unfolding(crate::specs::Faults::fault_text))]
 pub fn fault_text(
@@ -121,6 +132,7 @@ pub fn fault_text(
 {
     match fault.code {
         DumpCode::Json(json) => json_text(alloc, json, dump),
+        DumpCode::WrongKind => kind_text(alloc, fault),
         _ => field_text(alloc, fault),
     }
 }
