@@ -6,9 +6,11 @@
 
 mod faults;
 mod hints;
+mod laws;
 mod names;
 mod place;
 
 pub use hints::{hint, unread_hint};
+pub use laws::names_are_of_the_run;
 pub use names::{dump_name, script_name};
 pub use place::{Place, place_in};
