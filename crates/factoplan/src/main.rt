@@ -1,12 +1,15 @@
-//! Reads a dump and a script, and answers each line of the script.
+//! Reads a dump and a script, and answers each line of the script. What went wrong is said in one line on standard error.
 #![tactic(auto)]
 
+mod telling;
+
+use crate::telling::said;
 use plan_base::{NoMemory, Steps, Text};
 use plan_io::{HostSink, HostStore};
 use planner_cli::{Status, run};
 use std::alloc::Global;
 use std::process::ExitCode;
-use std::rt::Env;
+use std::rt::{Env, Files};
 use std::{env, io};
 
 // Marks the counter of the program.
@@ -31,16 +34,23 @@ fn program_words<R: Env + AllocGlobal>(rt: &R, alloc: Global) -> Result<Vec<Text
     Ok(words)
 }
 
+// How the run that the words ask for ended.
+fn ended<R: Files + Print>(rt: &R, alloc: Global, words: &[Text]) -> Status {
+    let mut store = HostStore::make(rt);
+    let mut out = HostSink::make(rt);
+    let mut steps = Steps::new(Program);
+    run(alloc, words, &mut store, &mut out, &mut steps).status
+}
+
 fn main(rt: HostRuntime) -> ExitCode {
     let alloc = rt.alloc();
-    let status = match program_words(&rt, alloc) {
-        Ok(words) => {
-            let mut store = HostStore::make(&rt);
-            let mut out = HostSink::make(&rt);
-            let mut steps = Steps::new(Program);
-            run(alloc, &words, &mut store, &mut out, &mut steps).status
-        }
-        Err(NoMemory) => Status::NoMemory,
+    let (status, words) = match program_words(&rt, alloc) {
+        Ok(words) => (ended(&rt, alloc, &words), words),
+        Err(NoMemory) => (Status::NoMemory, Vec::new(alloc)),
     };
+    if let Some(said) = said(&rt, alloc, &status, &words) {
+        // Where nothing can be said, the status still tells.
+        let _ = rt.eprint(said.as_str());
+    }
     ExitCode::from(status.exit())
 }

@@ -1,0 +1,4 @@
+pub mod Faults
+pub mod Hints
+pub mod Names
+pub mod Places
