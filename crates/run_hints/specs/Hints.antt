@@ -1,5 +1,6 @@
 -- What is said on standard error of how a run ended: one line, or nothing where every line of the script was answered.
-use Rattle.std.specs.Prelude.{ℕ, List, [], ◌++◌, Option, None, Some, codes}
+use Rattle.std.specs.Prelude.{◌≡◌, ℕ, List, [], ◌++◌, Bool, not, true, Option, None, Some, codes}
+use Rattle.std.specs.List.{list_all}
 use Rattle.plan_report.specs.Words.{printed_word}
 use Rattle.planner_cli.specs.declared.status.Long.{Long}
 use Rattle.planner_cli.specs.declared.status.Long.TheVariants.{DumpBytes, ScriptBytes, ScriptLines}
@@ -7,6 +8,15 @@ use Rattle.planner_cli.specs.declared.status.Status.{Status}
 use Rattle.planner_cli.specs.declared.status.Status.TheVariants.{Done, SomeRefused, BadWords, BadDump, ReadFault, WriteFault, NoMemory, TooLong}
 use Rattle.run_hints.specs.Faults.{fault_text}
 use Rattle.run_hints.specs.Names.{dump_name, script_name}
+use Rattle.run_hints.specs.Places.{is_newline}
+
+-- no newline is among the bytes
+abbrev pub is_unbroken : List ℕ → Bool
+is_unbroken bytes = list_all (λ byte. not (is_newline byte)) bytes
+
+-- one line, with the newline that ends it
+abbrev pub IsLine : List ℕ → Type 0
+IsLine text = (line : List ℕ) × (text ≡ line ++ codes "\n") × (is_unbroken line ≡ true)
 
 abbrev pub name_part : Option (List ℕ) → List ℕ
 name_part (Some name) = printed_word name ++ codes ": "

@@ -1,9 +1,17 @@
-//! What the hints say of the run.
-ghost use Rattle.std.specs.Prelude.{◌≡◌, ℕ, List, Some};
+//! What the hints say of the run, and how much that is.
+ghost use Rattle.std.specs.Prelude.{◌≡◌, ◌⊎◌, ℕ, List, [], Option, Some, true};
 ghost use Rattle.planner_cli.specs.Words.{ThreeWords, three_of};
+ghost use Rattle.planner_cli.specs.declared.status.Status.{Status};
+ghost use Rattle.run_hints.specs.Hints.{IsLine, hint_line, hint_of, is_unbroken};
 ghost use Rattle.run_hints.specs.Names.{dump_name, script_name};
 
 /// The names of the dump and the script are the second and the third of the three words that a run takes.
 pub fn names_are_of_the_run()
     ensures { (words : List (List ℕ)) (three : ThreeWords) → three_of words ≡ Some three → (dump_name words ≡ Some three.first) × (script_name words ≡ Some three.second) }
+{}
+
+/// Whatever names and texts a dump holds, nothing is said, or one line.
+pub fn hints_are_lines()
+    ensures hint { (status : Status) (words : List (List ℕ)) (dump : Option (List ℕ)) → (hint_of status words dump ≡ []) ⊎ IsLine (hint_of status words dump) }
+    ensures unread { (file : Option (List ℕ)) (why : List ℕ) → is_unbroken why ≡ true → IsLine (hint_line file why) }
 {}

@@ -11,6 +11,6 @@ mod names;
 mod place;
 
 pub use hints::{hint, unread_hint};
-pub use laws::names_are_of_the_run;
+pub use laws::{hints_are_lines, names_are_of_the_run};
 pub use names::{dump_name, script_name};
 pub use place::{Place, place_in};
