@@ -21,7 +21,7 @@ use Rattle.craft_reader.specs.declared.fault.DumpFault.{DumpFault}
 use Rattle.planner_cli.specs.declared.status.Long.{Long}
 use Rattle.planner_cli.specs.declared.status.Long.TheVariants.{DumpBytes, ScriptBytes, ScriptLines}
 use Rattle.planner_cli.specs.declared.status.Status.{Status}
-use Rattle.planner_cli.specs.declared.status.Status.TheVariants.{Done, SomeRefused, BadWords, BadDump, ReadFault, WriteFault, NoMemory, TooLong, NotYet}
+use Rattle.planner_cli.specs.declared.status.Status.TheVariants.{Done, SomeRefused, BadWords, BadDump, ReadFault, WriteFault, NoMemory, TooLong}
 
 pub joined : (xs ys : List ℕ) → is_unbroken xs ≡ true → is_unbroken ys ≡ true → is_unbroken (xs ++ ys) ≡ true
 joined xs ys first second = rw (list_all-append (λ byte. not (is_newline byte)) xs ys, first, second) refl
@@ -174,4 +174,3 @@ hint_is_line ReadFault words dump = inr (is_line None _ refl)
 hint_is_line WriteFault words dump = inr (is_line None _ refl)
 hint_is_line NoMemory words dump = inr (is_line None _ refl)
 hint_is_line (TooLong long) words dump = inr (long_is_line long words)
-hint_is_line NotYet words dump = inr (is_line None _ refl)
