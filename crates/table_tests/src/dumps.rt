@@ -88,7 +88,7 @@ const REAL: &str = r#"{"item":{"coal":{"fuel_category":"chemical","fuel_value":"
 // Numbers as tiny and as huge as a dump may have them.
 const HUGE: &str = r#"{"item":{"light":{"fuel_category":"chemical","fuel_value":"0.000000000000001J"},"dense":{"fuel_category":"chemical","fuel_value":"99999YJ"},"thing":{},"other":{}},
 "tool":{"pack":{}},
-"module":{"million":{"effect":{"speed":{"bonus":1000000}}},"seven":{"effect":{"speed":{"bonus":0.07}}},"yield":{"effect":{"productivity":{"bonus":0.07}}}},
+"module":{"million":{"effect":{"speed":{"bonus":1000000}}},"seven":{"effect":{"speed":{"bonus":0.07}}},"yield-8":{"effect":{"productivity":{"bonus":1000000}}},"yield-4":{"effect":{"productivity":{"bonus":100}}},"yield-0":{"effect":{"productivity":{"bonus":0.01}}}},
 "fluid":{"water":{"heat_capacity":"99999YJ"},"gas":{"heat_capacity":"1J"},"heavy":{"heat_capacity":"99999YJ"},"cooler":{"heat_capacity":"99999YJ","default_temperature":-99999999999999999}},
 "recipe":{"plain":{"energy_required":1,"ingredients":[["thing",1]],"result":"other"},
 "short":{"energy_required":0.000000000000001,"ingredients":[["thing",1]],"result":"other"},
@@ -112,7 +112,8 @@ const HUGE: &str = r#"{"item":{"light":{"fuel_category":"chemical","fuel_value":
 "dirty-boiler":{"mode":"output-to-separate-pipe","target_temperature":165,"energy_consumption":"1W","fluid_box":{},"output_fluid_box":{"filter":"gas"},"energy_source":{"type":"electric","emissions_per_minute":99999999999999999}}},
 "generator":{"engine":{"fluid_usage_per_tick":99999999999999999,"maximum_temperature":165,"fluid_box":{}},"strong-engine":{"fluid_usage_per_tick":1,"maximum_temperature":165,"effectivity":99999999999999999,"fluid_box":{}}},
 "burner-generator":{"little":{"burner":{"fuel_category":"chemical","effectivity":99999999999999999,"emissions_per_minute":7},"max_power_output":"1W"}},
-"beacon":{"small":{"distribution_effectivity":0.000000000000001,"energy_usage":"99999YW","energy_source":{"type":"electric"},"module_specification":{"module_slots":65535},"allowed_effects":["speed"]},
+"beacon":{"fertile":{"distribution_effectivity":0.999999999999999,"energy_usage":"0W","energy_source":{"type":"electric"},"module_specification":{"module_slots":65535},"allowed_effects":["productivity"]},
+"small":{"distribution_effectivity":0.000000000000001,"energy_usage":"99999YW","energy_source":{"type":"electric"},"module_specification":{"module_slots":65535},"allowed_effects":["speed"]},
 "large":{"distribution_effectivity":99999999999999900,"energy_usage":"0W","energy_source":{"type":"electric"},"module_specification":{"module_slots":65535},"allowed_effects":["speed"]},
 "largest":{"distribution_effectivity":999999999999999000,"energy_usage":"0W","energy_source":{"type":"electric"},"module_specification":{"module_slots":65535},"allowed_effects":["speed"]}},
 "lab":{"lab":{"inputs":["pack"],"energy_usage":"1W","energy_source":{"type":"electric"}},

@@ -34,6 +34,7 @@ generate|little|light|-|small:4294967295:1:-|-|-|wide 9|wide 9|wide 9
 research brief|fast-lab|-|-|large:1:1:million 1|-|-|wide 19|wide 19|wide 19
 research long|hungry-lab|-|-|-|-|-|wide 20|wide 20|wide 20
 research long|burner-lab|light|-|-|-|-|wide 6|wide 6|wide 6
+research brief|lab|-|-|fertile:4294967295:1:yield-8 65535;fertile:4294967295:1:yield-8 65535;fertile:4294967295:1:yield-8 65535;fertile:4294967295:1:yield-8 65535;fertile:4294967295:1:yield-8 65535;fertile:4294967295:1:yield-8 65535;fertile:4294967295:1:yield-8 2930,yield-4 8126,yield-0 6355;fertile:2493013144:1:yield-0 1|-|-|wide 21|wide 21|wide 21
 research long|dirty-lab|-|-|-|-|-|wide 22|wide 22|wide 22
 research brief|lab|-|-|small:4294967295:1:-|-|-|wide 9|wide 9|wide 9"#;
 
