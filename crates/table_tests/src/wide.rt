@@ -11,7 +11,8 @@ use std::test::Fail;
 use table_rows::check_setup;
 
 // A set-up, its figures, and its column in a table that balances no power, and in one that does.
-const LINES: &str = r#"craft plain|plain|-|-|largest:4294967295:1:million 65535|-|-|wide 1|wide 1|wide 1
+const LINES: &str =
+    r#"craft plain|plain|-|-|largest:4294967295:1:million 65535|-|-|wide 1|wide 1|wide 1
 craft plain|plain|-|-|large:4294967295:1:million 65535;small:1:1:million 1|-|-|wide 2|wide 2|wide 2
 craft plain|plain|-|seven 1|large:4294967295:1:million 65535|-|-|wide 3|wide 3|wide 3
 craft short|fast|-|-|large:1:1:million 1|-|-|wide 4|wide 4|wide 4
@@ -43,12 +44,7 @@ fn lines() -> &'static str {
     LINES
 }
 
-fn is_setup_so(
-    alloc: Global,
-    game: &Game,
-    setup: &Setup,
-    fields: &[&str],
-) -> Result<bool, NoMemory>
+fn is_setup_so(alloc: Global, game: &Game, setup: &Setup, fields: &[&str]) -> Result<bool, NoMemory>
     requires sound { IsSound game.now }
     requires setup { IsSoundSetup game.now setup.now }
 {
