@@ -1,6 +1,6 @@
 -- A set-up that passes the test is sound.
-use Rattle.std.proofs.Common.{◌≡◌, ◌<◌, ◌≤◌, ◌+◌, ℕ, List, [], ◌∷◌, length, refl, sym, arith}
-use Rattle.std.specs.Prelude.{◌-◌, ◌&&◌, ◌||◌, All, IfSome, IsSome, IsSomeAnd, Bool, true, false, nat_le, nat_lt, Option, Some, None, is_some, slice_get, Result, Ok, Err, if◌then◌else◌}
+use Rattle.std.proofs.Common.{◌≡◌, ◌<◌, ◌≤◌, ℕ, List, [], ◌∷◌, length, refl, sym, arith}
+use Rattle.std.specs.Prelude.{◌-◌, ◌&&◌, ◌||◌, All, IfSome, IsSome, IsSomeAnd, Bool, true, false, nat_le, nat_lt, Option, Some, None, slice_get, Result, Ok, Err, if◌then◌else◌}
 use Rattle.std.specs.Bool.{OnTrue}
 use Rattle.std.specs.List.{list_all}
 use Rattle.std.proofs.lemmas.Bool.Decides.{nat_tests}
@@ -24,7 +24,7 @@ use Rattle.production_table.specs.declared.tables.Table.{Table}
 use Rattle.production_table.specs.Changes.{without_row, HasRoom}
 use Rattle.production_table.specs.Tables.{IsSoundTable}
 use Rattle.production_table.proofs.RowsBack.{room_back}
-use Rattle.table_tests.specs.Setups.{has_module, is_activity, is_beacon, is_beacon_kind, is_beacon_there, is_fluid, is_fuel, is_good, is_group, is_fine, is_fitting, is_fitting_row, is_module, is_sound_setup}
+use Rattle.table_tests.specs.Setups.{has_module, is_activity, is_beacon, is_beacon_kind, is_beacon_there, is_fluid, is_fuel, is_good, is_group, is_fine, is_fitting_row, is_module, is_sound_setup}
 
 left : (b c : Bool) → (b && c) ≡ true → b ≡ true
 left true c h = refl
