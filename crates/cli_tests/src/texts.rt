@@ -23,3 +23,7 @@ pub const TABLES: &str =
 
 pub const TABLES_REPORT: &str =
     "1 ok\n2 ok\n3 infeasible t\n  price item:ore 1\n4 ok\n5 plan t cost 3\n  import item:ore 2\n  price item:ore 3/2\n  total power 0 drain 0 beacons 0 pollution 0\n6 refused P1 a\n7 refused K1\n8 ok\n9 infeasible t\n  price item:ore 1\n";
+
+/// What is told of the lines of the sample of the number 7 and the size 1.
+pub const SAMPLE_REPORT: &str =
+    "19 summary reached 4 of 8 milestones 1 bits 0 tables 0 done 3 undone 0\n36 summary reached 4 of 8 milestones 1 bits 0 tables 0 done 3 undone 0\n53 summary reached 4 of 8 milestones 1 bits 0 tables 0 done 3 undone 0\n70 summary reached 4 of 8 milestones 1 bits 0 tables 0 done 3 undone 0\n87 summary reached 4 of 8 milestones 1 bits 0 tables 0 done 3 undone 0\n104 summary reached 4 of 8 milestones 1 bits 0 tables 0 done 3 undone 0\n121 summary reached 4 of 8 milestones 1 bits 0 tables 0 done 3 undone 0\n138 summary reached 4 of 8 milestones 1 bits 0 tables 0 done 3 undone 0\n144 plan t cost 1\n  row r1 rate 1 machines 1/2 count 1 power 0 drain 0 beacons 0 pollution 0\n  import item:i0 1\n  price item:i0 1\n  price item:i1 1\n  total power 0 drain 0 beacons 0 pollution 0\n145 summary reached 6 of 8 milestones 1 bits 2 tables 1 done 6 undone 0\n";
