@@ -1,5 +1,5 @@
 -- One craft of a launch takes one of its item and the parts that its silo needs.
-use Rattle.std.proofs.Common.{◌≡◌, ◌∙◌, List, [], ◌∷◌, refl, ap}
+use Rattle.std.proofs.Common.{◌≡◌, ◌∙◌, List, [], ◌∷◌, ap}
 use Rattle.std.specs.Prelude.{◌≢◌, map, Bool, true, false, ◌==◌, Option, Some, None, Ok, pos, if◌then◌else◌}
 use Rattle.std.proofs.Common.{arith}
 use Rattle.fractions.specs.Fraction.{Fraction, zero_fraction, one_fraction, whole_fraction, negated, ◌+ʳ◌}
@@ -35,14 +35,14 @@ part_of g setup silo = or_good silo.part (choice_of g setup.at silo.part.0 None 
 
 parts_taken : (g : Game) (setup : Setup) (silo : Silo) (cargo good : GoodId) → choice_of g setup.at cargo.0 None None ≡ Some cargo
     → share_of (map (taken g setup) (one_part cargo one_fraction ∷ one_part silo.part (whole_fraction (pos silo.parts)) ∷ [])) good
-        ≡ negated (where_same cargo good one_fraction +ʳ where_same (part_of g setup silo) good (whole_fraction (pos silo.parts)))
+    ≡ negated (where_same cargo good one_fraction +ʳ where_same (part_of g setup silo) good (whole_fraction (pos silo.parts)))
 parts_taken g setup silo cargo good h =
     ap (λ (o : Option GoodId). where_same (or_good cargo o) good (negated one_fraction) +ʳ (where_same (part_of g setup silo) good (negated (whole_fraction (pos silo.parts))) +ʳ zero_fraction)) h
     ∙ two_taken (cargo.0 == good.0) ((part_of g setup silo).0 == good.0) one_fraction (whole_fraction (pos silo.parts))
 
 with_recipe : (g : Game) (setup : Setup) (silo : Silo) (cargo good : GoodId) (item : Item) (productivity rest : Fraction) → choice_of g setup.at cargo.0 None None ≡ Some cargo
     → share_of (map (given productivity) (recipe_with silo cargo item).products) good +ʳ share_of (map (taken g setup) (recipe_with silo cargo item).ingredients) good +ʳ rest
-        ≡ share_of (map (given productivity) (map as_catalyst item.launch)) good +ʳ negated (where_same cargo good one_fraction +ʳ where_same (part_of g setup silo) good (whole_fraction (pos silo.parts))) +ʳ rest
+    ≡ share_of (map (given productivity) (map as_catalyst item.launch)) good +ʳ negated (where_same cargo good one_fraction +ʳ where_same (part_of g setup silo) good (whole_fraction (pos silo.parts))) +ʳ rest
 unfolding recipe_with
 with_recipe g setup silo cargo good item productivity rest h =
     ap (λ (x : Fraction). share_of (map (given productivity) (map as_catalyst item.launch)) good +ʳ x +ʳ rest) (parts_taken g setup silo cargo good h)
@@ -51,9 +51,9 @@ pub launch_takes : (g : Game) (power : Bool) (setup : Setup) (recipe : RecipeId)
     → IsSound g → IsSoundSetup g setup → setup.activity ≡ Craft recipe → recipe_at g recipe ≡ recipe_with silo cargo item → IsItem g cargo.0
     → row_rates_of g setup ≡ Ok row → column_of g power setup ≡ Ok column → (electricity g).0 ≢ good.0
     → amount_in column good
-        ≡ share_of (map (given row.effects.productivity) (map as_catalyst item.launch)) good
-        +ʳ negated (where_same cargo good one_fraction +ʳ where_same (or_good silo.part (choice_of g setup.at silo.part.0 None None)) good (whole_fraction (pos silo.parts)))
-        +ʳ share_of (fuel_parts g setup.fuel row.rates.fuel) good
+    ≡ share_of (map (given row.effects.productivity) (map as_catalyst item.launch)) good
+    +ʳ negated (where_same cargo good one_fraction +ʳ where_same (or_good silo.part (choice_of g setup.at silo.part.0 None None)) good (whole_fraction (pos silo.parts)))
+    +ʳ share_of (fuel_parts g setup.fuel row.rates.fuel) good
 launch_takes g power setup recipe silo cargo item row column good sound s is launch there rates e dark =
     craft_gives_and_takes g power setup recipe row column good is rates e dark
     ∙ ap (λ (r : Recipe). share_of (map (given row.effects.productivity) r.products) good +ʳ share_of (map (taken g setup) r.ingredients) good +ʳ share_of (fuel_parts g setup.fuel row.rates.fuel) good) launch

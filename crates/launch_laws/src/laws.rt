@@ -25,8 +25,8 @@ pub fn launches_take_item_and_parts()
         → IsSound g → IsSoundSetup g setup → setup.activity ≡ Craft recipe → recipe_at g recipe ≡ recipe_with silo cargo item → IsItem g cargo.0
         → row_rates_of g setup ≡ Ok row → column_of g power setup ≡ Ok column → (electricity g).0 ≢ good.0
         → amount_in column good ≡ share_of (map (given row.effects.productivity) (map as_catalyst item.launch)) good
-            +ʳ negated (where_same cargo good one_fraction +ʳ where_same (or_good silo.part (choice_of g setup.at silo.part.0 None None)) good (whole_fraction (pos silo.parts)))
-            +ʳ share_of (fuel_parts g setup.fuel row.rates.fuel) good }
+        +ʳ negated (where_same cargo good one_fraction +ʳ where_same (or_good silo.part (choice_of g setup.at silo.part.0 None None)) good (whole_fraction (pos silo.parts)))
+        +ʳ share_of (fuel_parts g setup.fuel row.rates.fuel) good }
 {}
 
 /// Law: of an item, a row's choice is the item itself.

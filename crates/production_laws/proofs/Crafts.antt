@@ -52,10 +52,10 @@ lab_takes g power setup tech row column x is rates e dark apart =
 pub craft_gives_and_takes : (g : Game) (power : Bool) (setup : Setup) (recipe : RecipeId) (row : RowRates) (column : List (GoodId × Fraction)) (x : GoodId) → setup.activity ≡ Craft recipe → row_rates_of g setup ≡ Ok row
     → column_of g power setup ≡ Ok column → (electricity g).0 ≢ x.0
     → amount_in column x
-        ≡ share_of (map (given row.effects.productivity) (recipe_at g recipe).products) x +ʳ share_of (map (taken g setup) (recipe_at g recipe).ingredients) x +ʳ share_of (fuel_parts g setup.fuel row.rates.fuel) x
+    ≡ share_of (map (given row.effects.productivity) (recipe_at g recipe).products) x +ʳ share_of (map (taken g setup) (recipe_at g recipe).ingredients) x +ʳ share_of (fuel_parts g setup.fuel row.rates.fuel) x
 craft_gives_and_takes g power setup recipe row column x is rates e dark =
     other_amounts g power setup row column x rates e dark
     ∙ ap (λ (a : Activity). share_of (activity_parts g setup row a ++ fuel_parts g setup.fuel row.rates.fuel) x) is
     ∙ share_append (activity_parts g setup row (Craft recipe)) (fuel_parts g setup.fuel row.rates.fuel) x
     ∙ ap (λ (y : Fraction). y +ʳ share_of (fuel_parts g setup.fuel row.rates.fuel) x)
-        (share_append (map (given row.effects.productivity) (recipe_at g recipe).products) (map (taken g setup) (recipe_at g recipe).ingredients) x)
+    (share_append (map (given row.effects.productivity) (recipe_at g recipe).products) (map (taken g setup) (recipe_at g recipe).ingredients) x)

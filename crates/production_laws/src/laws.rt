@@ -66,5 +66,5 @@ pub fn crafts_give_and_take()
     ensures { (g : Game) (power : Bool) (setup : Setup) (recipe : RecipeId) (row : RowRates) (column : List (GoodId × Fraction)) (good : GoodId)
         → setup.activity ≡ Craft recipe → row_rates_of g setup ≡ Ok row → column_of g power setup ≡ Ok column → (electricity g).0 ≢ good.0
         → amount_in column good ≡ share_of (map (given row.effects.productivity) (recipe_at g recipe).products) good
-            +ʳ share_of (map (taken g setup) (recipe_at g recipe).ingredients) good +ʳ share_of (fuel_parts g setup.fuel row.rates.fuel) good }
+        +ʳ share_of (map (taken g setup) (recipe_at g recipe).ingredients) good +ʳ share_of (fuel_parts g setup.fuel row.rates.fuel) good }
 {}

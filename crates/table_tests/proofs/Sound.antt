@@ -8,7 +8,6 @@ use Rattle.std.proofs.lemmas.List.Elements.{All-nil, All-cons}
 use Rattle.plan_base.specs.declared.ids.EntityId.{EntityId}
 use Rattle.plan_base.specs.declared.ids.GoodId.{GoodId}
 use Rattle.game_types.specs.declared.goods.Item.{Item}
-use Rattle.game_types.specs.declared.goods.Module.{Module}
 use Rattle.game_types.specs.declared.machinery.Machine.{Machine}
 use Rattle.game_types.specs.declared.machinery.MachineKind.{MachineKind}
 use Rattle.game_types.specs.declared.machinery.MachineKind.TheVariants.{Crafter, Drill, Pump as PumpKind, Boiler, Generator, BurnerGenerator, Solar, Reactor, Lab, Beacon}
@@ -21,6 +20,10 @@ use Rattle.game_types.specs.Sound.{IsBeacon, IsBeaconKind, IsFluid, IsGood, IsIt
 use Rattle.production_table.specs.declared.tables.TableRow.{TableRow}
 use Rattle.table_rows.specs.declared.faults.SetupFault.{SetupFault}
 use Rattle.table_rows.specs.Setups.{checked_setup, IsFitting}
+use Rattle.production_table.specs.declared.tables.Table.{Table}
+use Rattle.production_table.specs.Changes.{without_row, HasRoom}
+use Rattle.production_table.specs.Tables.{IsSoundTable}
+use Rattle.production_table.proofs.RowsBack.{room_back}
 use Rattle.table_tests.specs.Setups.{has_module, is_activity, is_beacon, is_beacon_kind, is_beacon_there, is_fluid, is_fuel, is_good, is_group, is_fine, is_fitting, is_fitting_row, is_module, is_sound_setup}
 
 left : (b c : Bool) → (b && c) ≡ true → b ≡ true
@@ -63,12 +66,8 @@ fuel_there : (g : Game) (fuel : Option GoodId) → is_fuel g fuel ≡ true → I
 fuel_there g None h = tt
 fuel_there g (Some good) h = grind (arith, nat_tests)
 
-some_module : (o : Option Module) → is_some o ≡ true → IsSome o
-some_module (Some module_) h = tt
-some_module None h = absurd (cc)
-
 item_module : (o : Option Item) → has_module o ≡ true → IsSomeAnd o (λ item. IsSome item.«module»)
-item_module (Some item) h = some_module item.«module» h
+item_module (Some item) h = h
 item_module None h = absurd (cc)
 
 module_there : (g : Game) (pair : GoodId × ℕ) → is_module g pair ≡ true → IsModule g pair.0
@@ -134,3 +133,7 @@ row_fits g row h = fits_by g row.setup (is_sound_setup g row.setup) refl h
 pub fitting_when : (g : Game) (rows : List TableRow) (b : Bool) → b ≡ list_all (is_fitting_row g) rows → OnTrue b (All (λ row. IsFitting g row.setup) rows)
 fitting_when g rows true h = all_by_test (λ (row : TableRow). IsFitting g row.setup) (is_fitting_row g) rows (row_fits g) (sym h)
 fitting_when g rows false h = tt
+
+-- there is room for a row that was dropped
+pub room : (label : List ℕ) (place : ℕ) (row : TableRow) (old new : Table) → IsSoundTable old → without_row label old ≡ Ok ((place, row), new) → HasRoom new place row
+room label place row old new sound h = room_back label (place, row) old new sound h

@@ -86,9 +86,10 @@ const REAL: &str = r#"{"item":{"coal":{"fuel_category":"chemical","fuel_value":"
 "character":{"character":{"crafting_categories":["crafting"],"mining_categories":["basic-solid"]}}}"#;
 
 // Numbers as tiny and as huge as a dump may have them.
-const HUGE: &str = r#"{"item":{"light":{"fuel_category":"chemical","fuel_value":"0.000000000000001J"},"dense":{"fuel_category":"chemical","fuel_value":"99999YJ"},"thing":{},"other":{}},
+const HUGE: &str =
+    r#"{"item":{"light":{"fuel_category":"chemical","fuel_value":"0.000000000000001J"},"dense":{"fuel_category":"chemical","fuel_value":"99999YJ"},"thing":{},"other":{}},
 "tool":{"pack":{}},
-"module":{"million":{"effect":{"speed":{"bonus":1000000}}},"seven":{"effect":{"speed":{"bonus":0.07}}},"yield":{"effect":{"productivity":{"bonus":0.07}}}},
+"module":{"million":{"effect":{"speed":{"bonus":1000000}}},"seven":{"effect":{"speed":{"bonus":0.07}}},"yield-8":{"effect":{"productivity":{"bonus":1000000}}},"yield-4":{"effect":{"productivity":{"bonus":100}}},"yield-0":{"effect":{"productivity":{"bonus":0.01}}}},
 "fluid":{"water":{"heat_capacity":"99999YJ"},"gas":{"heat_capacity":"1J"},"heavy":{"heat_capacity":"99999YJ"},"cooler":{"heat_capacity":"99999YJ","default_temperature":-99999999999999999}},
 "recipe":{"plain":{"energy_required":1,"ingredients":[["thing",1]],"result":"other"},
 "short":{"energy_required":0.000000000000001,"ingredients":[["thing",1]],"result":"other"},
@@ -112,7 +113,8 @@ const HUGE: &str = r#"{"item":{"light":{"fuel_category":"chemical","fuel_value":
 "dirty-boiler":{"mode":"output-to-separate-pipe","target_temperature":165,"energy_consumption":"1W","fluid_box":{},"output_fluid_box":{"filter":"gas"},"energy_source":{"type":"electric","emissions_per_minute":99999999999999999}}},
 "generator":{"engine":{"fluid_usage_per_tick":99999999999999999,"maximum_temperature":165,"fluid_box":{}},"strong-engine":{"fluid_usage_per_tick":1,"maximum_temperature":165,"effectivity":99999999999999999,"fluid_box":{}}},
 "burner-generator":{"little":{"burner":{"fuel_category":"chemical","effectivity":99999999999999999,"emissions_per_minute":7},"max_power_output":"1W"}},
-"beacon":{"small":{"distribution_effectivity":0.000000000000001,"energy_usage":"99999YW","energy_source":{"type":"electric"},"module_specification":{"module_slots":65535},"allowed_effects":["speed"]},
+"beacon":{"fertile":{"distribution_effectivity":0.999999999999999,"energy_usage":"0W","energy_source":{"type":"electric"},"module_specification":{"module_slots":65535},"allowed_effects":["productivity"]},
+"small":{"distribution_effectivity":0.000000000000001,"energy_usage":"99999YW","energy_source":{"type":"electric"},"module_specification":{"module_slots":65535},"allowed_effects":["speed"]},
 "large":{"distribution_effectivity":99999999999999900,"energy_usage":"0W","energy_source":{"type":"electric"},"module_specification":{"module_slots":65535},"allowed_effects":["speed"]},
 "largest":{"distribution_effectivity":999999999999999000,"energy_usage":"0W","energy_source":{"type":"electric"},"module_specification":{"module_slots":65535},"allowed_effects":["speed"]}},
 "lab":{"lab":{"inputs":["pack"],"energy_usage":"1W","energy_source":{"type":"electric"}},
@@ -123,7 +125,8 @@ const HUGE: &str = r#"{"item":{"light":{"fuel_category":"chemical","fuel_value":
 "technology":{"brief":{"unit":{"count":1,"time":0.000000000000001,"ingredients":[["pack",1]]}},"long":{"unit":{"count":1,"time":99999999999999999,"ingredients":[["pack",1]]}}}}"#;
 
 // More items than a table may have goods.
-const MANY: &str = r#"{"item":{"a0":{},"a1":{},"a2":{},"a3":{},"a4":{},"a5":{},"a6":{},"a7":{},"a8":{},"a9":{},"a10":{},"a11":{},"a12":{},"a13":{},"a14":{},"a15":{},
+const MANY: &str =
+    r#"{"item":{"a0":{},"a1":{},"a2":{},"a3":{},"a4":{},"a5":{},"a6":{},"a7":{},"a8":{},"a9":{},"a10":{},"a11":{},"a12":{},"a13":{},"a14":{},"a15":{},
 "a16":{},"a17":{},"a18":{},"a19":{},"a20":{},"a21":{},"a22":{},"a23":{},"a24":{},"a25":{},"a26":{},"a27":{},"a28":{},"a29":{},"a30":{},"a31":{},
 "a32":{},"a33":{},"a34":{},"a35":{},"a36":{},"a37":{},"a38":{},"a39":{},"a40":{},"a41":{},"a42":{},"a43":{},"a44":{},"a45":{},"a46":{},"a47":{},
 "a48":{},"a49":{},"a50":{},"a51":{},"a52":{},"a53":{},"a54":{},"a55":{},"a56":{},"a57":{},"a58":{},"a59":{},"a60":{},"a61":{},"a62":{},"a63":{},

@@ -24,7 +24,8 @@ use table_rows::{RowFault, check_setup, column_of, row_rates};
 // A set-up. The hundredths of its modules, and what its beacons add, of speed, productivity, consumption and pollution. Its four
 // effects; the machines for one craft a second, their power, the drain of each, fuel, pollution, and the power of the beacons
 // of each. Its column in a table that balances no power, and in one that does.
-const LINES: &str = r#"craft iron-plate|stone-furnace|coal|-|-|-|0 0 0 0 0 0 0 0|1 0 1 1 16/5 0 0 9/125 32/5 0|coal -9/125 iron-ore -1 iron-plate 1|coal -9/125 iron-ore -1 iron-plate 1 electricity 0
+const LINES: &str =
+    r#"craft iron-plate|stone-furnace|coal|-|-|-|0 0 0 0 0 0 0 0|1 0 1 1 16/5 0 0 9/125 32/5 0|coal -9/125 iron-ore -1 iron-plate 1|coal -9/125 iron-ore -1 iron-plate 1 electricity 0
 craft iron-plate|stone-furnace|solid-fuel|-|-|-|0 0 0 0 0 0 0 0|1 0 1 1 16/5 0 0 3/125 16/5 0|solid-fuel -3/125 iron-ore -1 iron-plate 1|solid-fuel -3/125 iron-ore -1 iron-plate 1 electricity 0
 craft iron-plate|electric-furnace|-|speed-module 2|beacon:4:1:speed-module-3 2|-|40 0 100 0 2 0 14/5 0|17/5 0 24/5 1 8/17 6912000/17 6000 0 192/85 1920000|iron-ore -1 iron-plate 1|iron-ore -1 iron-plate 1 electricity -22320000/17
 craft iron-gear-wheel|assembling-machine-1|-|-|-|-|0 0 0 0 0 0 0 0|1 0 1 1 1 75000 2500 0 4 0|iron-plate -2 iron-gear-wheel 1|iron-plate -2 iron-gear-wheel 1 electricity -77500
@@ -327,17 +328,14 @@ pub fn are_columns_so(
     let figures: Vec<&str> = field(fields, 7).split(' ').collect(alloc)?;
     let plain: Vec<&str> = field(fields, 8).split(' ').collect(alloc)?;
     let balanced: Vec<&str> = field(fields, 9).split(' ').collect(alloc)?;
-    Ok(are_figures(game, setup, figures.as_slice())
-        && is_column_so(alloc, game, false, setup, plain.as_slice())
-        && is_column_so(alloc, game, true, setup, balanced.as_slice()))
+    Ok(
+        are_figures(game, setup, figures.as_slice())
+            && is_column_so(alloc, game, false, setup, plain.as_slice())
+            && is_column_so(alloc, game, true, setup, balanced.as_slice()),
+    )
 }
 
-fn is_setup_so(
-    alloc: Global,
-    game: &Game,
-    setup: &Setup,
-    fields: &[&str],
-) -> Result<bool, NoMemory>
+fn is_setup_so(alloc: Global, game: &Game, setup: &Setup, fields: &[&str]) -> Result<bool, NoMemory>
     requires sound { IsSound game.now }
     requires setup { IsSoundSetup game.now setup.now }
 {

@@ -178,12 +178,7 @@ fn are_fields_so(alloc: Global, game: &Game, fields: &[&str]) -> Result<bool, No
     let fault: Vec<&str> = field(fields, 6).split(' ').collect(alloc)?;
     let answers: Vec<&str> = field(fields, 7).split(' ').collect(alloc)?;
     match setup(alloc, game, fields) {
-        Some(setup) => Ok(is_setup_so(
-            game,
-            &setup,
-            fault.as_slice(),
-            answers.as_slice(),
-        )),
+        Some(setup) => Ok(is_setup_so(game, &setup, fault.as_slice(), answers.as_slice())),
         None => Ok(false),
     }
 }

@@ -171,10 +171,10 @@ fn is_fuel(game: &Game, fuel: Option<GoodId>) -> bool
     }
 }
 
-fn is_module(game: &Game, module: (GoodId, u32)) -> bool
-    ensures { result ≡ is_module game.now module }
+fn is_module(game: &Game, pair: (GoodId, u32)) -> bool
+    ensures { result ≡ is_module game.now pair }
 {
-    match game.items.as_slice().get(module.0.0 as usize) {
+    match game.items.as_slice().get(pair.0.0 as usize) {
         Some(item) => item.module.is_some(),
         None => false,
     }
@@ -183,7 +183,7 @@ fn is_module(game: &Game, module: (GoodId, u32)) -> bool
 fn are_modules(game: &Game, modules: &[(GoodId, u32)]) -> bool
     ensures { result ≡ list_all (is_module game.now) modules.now }
 {
-    modules.iter().all(|module| is_module(game, *module))
+    modules.iter().all(|pair| is_module(game, *pair))
 }
 
 fn is_beacon_kind(kind: &MachineKind) -> bool
@@ -248,5 +248,9 @@ pub fn setup(alloc: Global, game: &Game, fields: &[&str]) -> Option<Setup>
     ensures { IfSome result (IsSoundSetup game.now) }
 {
     let setup = read_setup(alloc, game, fields)?;
-    if is_sound(game, &setup) { Some(setup) } else { None }
+    if is_sound(game, &setup) {
+        Some(setup)
+    } else {
+        None
+    }
 }

@@ -41,7 +41,8 @@ research automation|lab|-|productivity-module-3 1,speed-module 1|beacon:1:1:spee
 research coking|burner-lab|coal|-|-|-|0|18"#;
 
 // The goods that are mentioned, what is wanted of each, and each column with its price and its parts, by places of goods.
-const BALANCED: &str = r#"coal wood uranium-fuel-cell used-up-uranium-fuel-cell uranium-ore uranium-235 uranium-238 iron-ore stone iron-plate copper-plate iron-gear-wheel rocket-part rocket-fuel satellite automation-science-pack space-science-pack water steam@165 steam@500 crude-oil heavy-oil light-oil petroleum-gas sulfuric-acid electricity unit:automation unit:coking
+const BALANCED: &str =
+    r#"coal wood uranium-fuel-cell used-up-uranium-fuel-cell uranium-ore uranium-235 uranium-238 iron-ore stone iron-plate copper-plate iron-gear-wheel rocket-part rocket-fuel satellite automation-science-pack space-science-pack water steam@165 steam@500 crude-oil heavy-oil light-oil petroleum-gas sulfuric-acid electricity unit:automation unit:coking
 0 0 0 0 0 0 0 0 0 0 0 0 0 0 0 0 1 0 0 0 0 0 0 0 0 1000 1/2 0
 row 0 0 17 1
 row 1 0 0 -3/400 17 -1 18 1
@@ -72,7 +73,8 @@ surplus stone 0 8 -1
 surplus electricity 0 25 -1"#;
 
 // The same where electric power isn't balanced.
-const PLAIN: &str = r#"coal wood uranium-fuel-cell used-up-uranium-fuel-cell uranium-ore uranium-235 uranium-238 iron-ore stone iron-plate copper-plate iron-gear-wheel rocket-part rocket-fuel satellite automation-science-pack space-science-pack water steam@165 steam@500 crude-oil heavy-oil light-oil petroleum-gas sulfuric-acid electricity unit:automation unit:coking
+const PLAIN: &str =
+    r#"coal wood uranium-fuel-cell used-up-uranium-fuel-cell uranium-ore uranium-235 uranium-238 iron-ore stone iron-plate copper-plate iron-gear-wheel rocket-part rocket-fuel satellite automation-science-pack space-science-pack water steam@165 steam@500 crude-oil heavy-oil light-oil petroleum-gas sulfuric-acid electricity unit:automation unit:coking
 0 0 0 0 0 0 0 0 0 0 0 0 0 0 0 0 1 0 0 0 0 0 0 0 0 1000 1/2 0
 row 0 0 17 1
 row 1 0 0 -3/400 17 -1 18 1
@@ -157,7 +159,9 @@ fn add_line(alloc: Global, game: &Game, table: &mut Table, line: &str) -> bool
     };
     let fields = fields.as_slice();
     let label = field(fields, 7);
-    add_row(alloc, game, table, label, fields) && price_row(alloc, table, label, field(fields, 6))
+    let added = add_row(alloc, game, table, label, fields);
+    let priced = price_row(alloc, table, label, field(fields, 6));
+    added && priced
 }
 
 pub fn add_lines(alloc: Global, game: &Game, table: &mut Table, lines: &str) -> bool
@@ -211,9 +215,10 @@ fn add_wants(alloc: Global, game: &Game, table: &mut Table) -> bool
     requires table { IsSoundTable table.old }
     ensures { IsSoundTable table.new }
 {
-    want(alloc, game, table, "space-science-pack", &Ratio::one())
-        && want(alloc, game, table, "unit:automation", &Ratio::part(1, 2))
-        && want(alloc, game, table, "electricity", &Ratio::whole(1000))
+    let packs = want(alloc, game, table, "space-science-pack", &Ratio::one());
+    let units = want(alloc, game, table, "unit:automation", &Ratio::part(1, 2));
+    let power = want(alloc, game, table, "electricity", &Ratio::whole(1000));
+    packs && units && power
 }
 
 fn add_imports(alloc: Global, game: &Game, table: &mut Table) -> bool
@@ -221,11 +226,18 @@ fn add_imports(alloc: Global, game: &Game, table: &mut Table) -> bool
     requires table { IsSoundTable table.old }
     ensures { IsSoundTable table.new }
 {
-    import(alloc, game, table, "coal", &Ratio::one())
-        && import(alloc, game, table, "electricity", &Ratio::part(1, 1_000_000))
-        && import(alloc, game, table, "unit:coking", &Ratio::whole(7))
-        && import(alloc, game, table, "satellite", &Ratio::whole(50))
-        && import(alloc, game, table, "crude-oil", &Ratio::zero())
+    let coal = import(alloc, game, table, "coal", &Ratio::one());
+    let power = import(
+        alloc,
+        game,
+        table,
+        "electricity",
+        &Ratio::part(1, 1_000_000),
+    );
+    let units = import(alloc, game, table, "unit:coking", &Ratio::whole(7));
+    let satellites = import(alloc, game, table, "satellite", &Ratio::whole(50));
+    let oil = import(alloc, game, table, "crude-oil", &Ratio::zero());
+    coal && power && units && satellites && oil
 }
 
 fn add_surpluses(alloc: Global, game: &Game, table: &mut Table) -> bool
@@ -233,9 +245,10 @@ fn add_surpluses(alloc: Global, game: &Game, table: &mut Table) -> bool
     requires table { IsSoundTable table.old }
     ensures { IsSoundTable table.new }
 {
-    surplus(alloc, game, table, "stone", &Ratio::zero())
-        && surplus(alloc, game, table, "uranium-235", &Ratio::part(1, 3))
-        && surplus(alloc, game, table, "electricity", &Ratio::zero())
+    let stone = surplus(alloc, game, table, "stone", &Ratio::zero());
+    let uranium = surplus(alloc, game, table, "uranium-235", &Ratio::part(1, 3));
+    let power = surplus(alloc, game, table, "electricity", &Ratio::zero());
+    stone && uranium && power
 }
 
 pub fn real_table(alloc: Global, game: &Game) -> Option<Table>
@@ -243,11 +256,11 @@ pub fn real_table(alloc: Global, game: &Game) -> Option<Table>
     ensures { IfSome result IsSoundTable }
 {
     let mut table = table(alloc)?;
-    if add_lines(alloc, game, &mut table, rows())
-        && add_wants(alloc, game, &mut table)
-        && add_imports(alloc, game, &mut table)
-        && add_surpluses(alloc, game, &mut table)
-    {
+    let rows = add_lines(alloc, game, &mut table, rows());
+    let wants = add_wants(alloc, game, &mut table);
+    let imports = add_imports(alloc, game, &mut table);
+    let surpluses = add_surpluses(alloc, game, &mut table);
+    if rows && wants && imports && surpluses {
         Some(table)
     } else {
         None
@@ -279,7 +292,6 @@ fn are_tested(game: &Game, rows: &[TableRow]) -> bool
     rows.iter().all(|row| is_fitting_row(game, row))
 }
 
-#[tactic(auto, using(crate::proofs::Sound::fitting_when))]
 fn are_fitting(game: &Game, rows: &[TableRow]) -> bool
     requires { IsSound game.now }
     ensures { OnTrue result (All (λ row. IsFitting game.now row.setup) rows.now) }

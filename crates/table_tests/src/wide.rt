@@ -11,7 +11,8 @@ use std::test::Fail;
 use table_rows::check_setup;
 
 // A set-up, its figures, and its column in a table that balances no power, and in one that does.
-const LINES: &str = r#"craft plain|plain|-|-|largest:4294967295:1:million 65535|-|-|wide 1|wide 1|wide 1
+const LINES: &str =
+    r#"craft plain|plain|-|-|largest:4294967295:1:million 65535|-|-|wide 1|wide 1|wide 1
 craft plain|plain|-|-|large:4294967295:1:million 65535;small:1:1:million 1|-|-|wide 2|wide 2|wide 2
 craft plain|plain|-|seven 1|large:4294967295:1:million 65535|-|-|wide 3|wide 3|wide 3
 craft short|fast|-|-|large:1:1:million 1|-|-|wide 4|wide 4|wide 4
@@ -34,6 +35,7 @@ generate|little|light|-|small:4294967295:1:-|-|-|wide 9|wide 9|wide 9
 research brief|fast-lab|-|-|large:1:1:million 1|-|-|wide 19|wide 19|wide 19
 research long|hungry-lab|-|-|-|-|-|wide 20|wide 20|wide 20
 research long|burner-lab|light|-|-|-|-|wide 6|wide 6|wide 6
+research brief|lab|-|-|fertile:4294967295:1:yield-8 65535;fertile:4294967295:1:yield-8 65535;fertile:4294967295:1:yield-8 65535;fertile:4294967295:1:yield-8 65535;fertile:4294967295:1:yield-8 65535;fertile:4294967295:1:yield-8 65535;fertile:4294967295:1:yield-8 2930,yield-4 8126,yield-0 6355;fertile:2493013144:1:yield-0 1|-|-|wide 21|wide 21|wide 21
 research long|dirty-lab|-|-|-|-|-|wide 22|wide 22|wide 22
 research brief|lab|-|-|small:4294967295:1:-|-|-|wide 9|wide 9|wide 9"#;
 
@@ -42,12 +44,7 @@ fn lines() -> &'static str {
     LINES
 }
 
-fn is_setup_so(
-    alloc: Global,
-    game: &Game,
-    setup: &Setup,
-    fields: &[&str],
-) -> Result<bool, NoMemory>
+fn is_setup_so(alloc: Global, game: &Game, setup: &Setup, fields: &[&str]) -> Result<bool, NoMemory>
     requires sound { IsSound game.now }
     requires setup { IsSoundSetup game.now setup.now }
 {
