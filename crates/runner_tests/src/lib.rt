@@ -1,5 +1,0 @@
-//! Tests of whole scripts over a small game.
-#![tactic(auto)]
-
-#[cfg(test)]
-mod scripts;
