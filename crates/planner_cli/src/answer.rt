@@ -1,5 +1,5 @@
 // The answers to a script.
-ghost use Rattle.std.specs.Prelude.{◌≡◌};
+ghost use Rattle.std.specs.Prelude.{◌≡◌, []};
 ghost use Rattle.game_types.specs.declared.games.Game.{Game};
 ghost use Rattle.planner_core.specs.Lines.{first_planned};
 ghost use Rattle.script_runner.specs.Leaves.{Leaves};
@@ -7,21 +7,24 @@ ghost use Rattle.script_runner.specs.Scripts.{EndsScript, is_cut};
 ghost use Rattle.planner_cli.specs.Keeping.{KeepsSink};
 
 use crate::prepare::Ready;
+use linear_table::SolveAnswer;
 use plan_base::Steps;
 use plan_io::Sink;
 use planner_core::state_is_of_the_active_edits;
 use script_runner::{ScriptEnd, run_script};
 use std::alloc::Global;
 
-/// Answers each line of the script before the next.
+/// Answers each line of the script before the next, and keeps what the solver answers.
 pub fn answer<K: Sink, L>(
     alloc: Global,
     ready: Ready,
     out: &mut K,
+    solved: &mut Vec<SolveAnswer>,
     steps: &mut Steps<L>,
 ) -> ScriptEnd
-    requires { (game : Game) × (ready.planner ≡ first_planned game) }
-    ensures leaves { Leaves (EndsScript ready.planner ready.script.items) is_cut (K.written out.old) (K.written out.new) steps.old steps.new result }
+    requires none_yet { solved.old.items ≡ [] }
+    requires loaded { (game : Game) × (ready.planner ≡ first_planned game) }
+    ensures leaves { Leaves (EndsScript ready.planner ready.script.items solved.new.items) is_cut (K.written out.old) (K.written out.new) steps.old steps.new result }
     ensures sink { KeepsSink (K.limit out.old) (K.limit out.new) (K.faults out.old) (K.faults out.new) (result ≡ ScriptEnd.WriteFault) }
 {
     // A planner that was just loaded has a history.
@@ -30,5 +33,5 @@ pub fn answer<K: Sink, L>(
         mut planner,
         script,
     } = ready;
-    run_script(alloc, &mut planner, &script, out, steps)
+    run_script(alloc, &mut planner, &script, out, solved, steps)
 }

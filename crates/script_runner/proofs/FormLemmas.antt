@@ -1,7 +1,8 @@
 -- A line that is read, and a script of too many lines.
-use Rattle.std.proofs.Common.{◌≡◌, ◌<◌, ℕ, List, length, arith, refl, inr, false}
+use Rattle.std.proofs.Common.{◌≡◌, ◌<◌, ℕ, List, length, arith, refl, inr, false, []}
 use Rattle.std.specs.Prelude.{Option, Result, Ok, Err, codes}
 use Rattle.std.specs.Io.KnownBytes.{Appends}
+use Rattle.linear_table.specs.declared.SolveAnswer.{SolveAnswer}
 use Rattle.planner_core.specs.Lines.{Planned}
 use Rattle.script_reader.specs.declared.command.ScriptFault.{ScriptFault}
 use Rattle.script_reader.specs.declared.command.ScriptFault.TheVariants as fault
@@ -28,14 +29,14 @@ unfolding Answers
 value_read reading value read = read
 
 -- ---- endings
-pub ends_long : (first : Planned) (script : List ℕ) (before after : Option (List ℕ)) (steps : ℕ) → 100_000 < length (lines_of script) → Appends before after (codes "too long script lines\n")
-    → Leaves (EndsScript first script) is_cut before after steps steps TooManyLines
+pub ends_long : (first : Planned) (script : List ℕ) (solved : List SolveAnswer) (before after : Option (List ℕ)) (steps : ℕ) → solved ≡ [] → 100_000 < length (lines_of script) → Appends before after (codes "too long script lines\n")
+    → Leaves (EndsScript first script solved) is_cut before after steps steps TooManyLines
 unfolding EndsScript
-ends_long first script before after steps many appends =
-    record { text = codes "too long script lines\n"; work = 0; ends = record { many = many; told = refl; takes = refl }; adds = appends; steps = omega arith; later = omega arith }
+ends_long first script solved before after steps none many appends =
+    record { text = codes "too long script lines\n"; work = 0; ends = record { many = many; none = none; told = refl; takes = refl }; adds = appends; steps = omega arith; later = omega arith }
 
-pub cuts_long : (first : Planned) (script : List ℕ) (before after : Option (List ℕ)) (steps : ℕ) → 100_000 < length (lines_of script) → AppendsFront before after (codes "too long script lines\n")
-    → Leaves (EndsScript first script) is_cut before after steps steps WriteFault
+pub cuts_long : (first : Planned) (script : List ℕ) (solved : List SolveAnswer) (before after : Option (List ℕ)) (steps : ℕ) → solved ≡ [] → 100_000 < length (lines_of script) → AppendsFront before after (codes "too long script lines\n")
+    → Leaves (EndsScript first script solved) is_cut before after steps steps WriteFault
 unfolding EndsScript
-cuts_long first script before after steps many front =
-    record { text = codes "too long script lines\n"; work = 0; ends = inr (record { many = many; told = refl; takes = refl }); adds = front; steps = omega arith; later = omega arith }
+cuts_long first script solved before after steps none many front =
+    record { text = codes "too long script lines\n"; work = 0; ends = inr (record { many = many; none = none; told = refl; takes = refl }); adds = front; steps = omega arith; later = omega arith }

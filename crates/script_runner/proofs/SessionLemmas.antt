@@ -1,9 +1,9 @@
 -- A session grows by one line.
 use Rattle.std.proofs.Common.{◌≡◌, ◌+◌, ◌++◌, ◌∷◌, [], ℕ, zero, suc, List, length, map, arith, ap, sym, subst, refl, ◌∙◌, append-nil}
-use Rattle.std.specs.Prelude.{All, Bool, true, false, ◌||◌, Ok}
-use Rattle.std.specs.List.{range_with_len}
+use Rattle.std.specs.Prelude.{All, Bool, true, false, ◌||◌, Ok, Option, Some, None, option_to_list}
+use Rattle.std.specs.List.{cons_option, range_with_len}
 use Rattle.std.proofs.lemmas.List.{map-append, length-append}
-use Rattle.std.proofs.lemmas.List.Elements.{All-append, All-cons, All-nil}
+use Rattle.std.proofs.lemmas.List.Elements.{All-append, All-cons, All-nil, filter_map-append}
 use Rattle.std.proofs.lemmas.List.Concat.{flat_map-append}
 use Rattle.std.proofs.lemmas.List.Folds.{list_any-append}
 use Rattle.std.proofs.lemmas.List.Sums.{sum_by-append}
@@ -15,8 +15,8 @@ use Rattle.planning_state.specs.Effects.{effect_of, is_entry}
 use Rattle.planning_state.specs.States.{State}
 use Rattle.planning_state.specs.Undoing.{LeadsBack}
 use Rattle.planner_core.specs.Lines.{IsSessionOf, Planned}
-use Rattle.script_runner.specs.Answers.{Answered, IsAnswered, is_refusal, text_of, work_of}
-use Rattle.script_runner.specs.Sessions.{IsSession, report, some_refused, work}
+use Rattle.script_runner.specs.Answers.{Answered, IsAnswered, is_refusal, solved_in, text_of, work_of}
+use Rattle.script_runner.specs.Sessions.{IsSession, report, solutions, some_refused, work}
 
 range_more : (a n : ℕ) → range_with_len a (suc n) ≡ range_with_len a n ++ (a + n) ∷ []
 range_more a zero = let same : a ≡ a + 0 = omega arith in ap (λ m. m ∷ []) same
@@ -53,6 +53,13 @@ any_one false = refl
 
 pub refused_more : (answers : List Answered) (a : Answered) → some_refused (answers ++ a ∷ []) ≡ (some_refused answers || is_refusal a)
 refused_more answers a = list_any-append is_refusal answers (a ∷ []) ∙ ap (λ b. some_refused answers || b) (any_one (is_refusal a))
+
+one_kept : {X : Type 0} (o : Option X) → cons_option o [] ≡ option_to_list o
+one_kept None = refl
+one_kept (Some x) = refl
+
+pub solved_more : (answers : List Answered) (a : Answered) → solutions (answers ++ a ∷ []) ≡ solutions answers ++ option_to_list (solved_in a.reply)
+solved_more answers a = filter_map-append (λ b. solved_in b.reply) answers (a ∷ []) ∙ ap (λ l. solutions answers ++ l) (one_kept (solved_in a.reply))
 
 pub work_more : (answers : List Answered) (a : Answered) → work (answers ++ a ∷ []) ≡ work answers + work_of a
 work_more answers a = let same : work answers + (0 + work_of a) ≡ work answers + work_of a = omega arith in sum_by-append work_of answers (a ∷ []) ∙ same

@@ -80,11 +80,17 @@ is_refusal_reply other = false
 abbrev pub is_refusal : Answered → Bool
 is_refusal a = is_refusal_reply a.reply
 
+-- what the solver answered, where the reply tells it
+abbrev pub solved_in : Reply → Option SolveAnswer
+solved_in (reply.Solved table labels goods columns rows total answer) = Some answer
+solved_in other = None
+
 abbrev pub work_of : Answered → ℕ
 work_of a = reading_work a.reading a.before a.after a.reply
 
--- A line of this number is answered by this text, and refused or not, from one planner to another and within so many steps.
-pub record AnswersLine (number : ℕ) (line : List ℕ) (before after : Planned) (text : List ℕ) (refused : Bool) (old new : ℕ) : Type 0 where
+-- A line of this number is answered by this text, refused or not, with what the solver answered, from one planner to another
+-- and within so many steps.
+pub record AnswersLine (number : ℕ) (line : List ℕ) (before after : Planned) (text : List ℕ) (refused : Bool) (solved : Option SolveAnswer) (old new : ℕ) : Type 0 where
   pub answer : Answered
   pub is_answered : IsAnswered answer
   pub of_number : answer.number ≡ number
@@ -93,4 +99,5 @@ pub record AnswersLine (number : ℕ) (line : List ℕ) (before after : Planned)
   pub to : answer.after ≡ after
   pub told : text ≡ text_of answer
   pub refuses : refused ≡ is_refusal answer
+  pub solves : solved ≡ solved_in answer.reply
   pub steps : new ≤ old + work_of answer

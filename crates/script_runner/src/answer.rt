@@ -2,7 +2,7 @@
 ghost use Rattle.std.specs.Prelude.{◌≡◌, ◌≤◌, ◌+◌, IfOk};
 ghost use Rattle.planning_state.specs.States.{State};
 ghost use Rattle.planner_core.specs.Lines.{IsSessionOf};
-ghost use Rattle.script_runner.specs.Answers.{gives_up, is_refusal_reply, reading_work, AnswersLine, IsReply};
+ghost use Rattle.script_runner.specs.Answers.{gives_up, is_refusal_reply, reading_work, solved_in, AnswersLine, IsReply};
 
 use crate::reading::{Reading, reading_of, refused_for};
 use linear_table::SolveAnswer;
@@ -10,6 +10,17 @@ use plan_base::{NoMemory, Steps, Text};
 use plan_report::{Reply, print_reply};
 use planner_core::Planner;
 use std::alloc::Global;
+
+/// What a line was answered.
+#[derive(Drop)]
+pub struct Told {
+    /// The reply as it is printed.
+    pub text: Text,
+    /// Whether it is a refusal.
+    pub refused: bool,
+    /// What the solver answered, where the reply tells it.
+    pub solved: Option<SolveAnswer>,
+}
 
 // Carries out what a line is read as.
 fn reply_to<L>(
@@ -51,7 +62,17 @@ fn is_refusal(reply: &Reply) -> bool
     }
 }
 
-/// Answers the line with this number: its text, and whether it is a refusal.
+// What the solver answered, where the reply tells it.
+fn solved_in(reply: Reply) -> Option<SolveAnswer>
+    ensures { result ≡ solved_in reply }
+{
+    match reply {
+        Reply::Solved { answer, .. } => Some(answer),
+        _ => None,
+    }
+}
+
+/// Answers the line with this number.
 ///
 /// # Errors
 ///
@@ -62,14 +83,19 @@ pub fn answer_line<L>(
     number: u32,
     line: &[u8],
     steps: &mut Steps<L>,
-) -> Result<(Text, bool), NoMemory>
+) -> Result<Told, NoMemory>
     requires session { (base : State) × IsSessionOf base planner.old }
-    ensures answer { IfOk result (λ answer. AnswersLine number line.now planner.old planner.new answer.0 answer.1 steps.old steps.new) }
+    ensures answer { IfOk result (λ answer. AnswersLine number line.now planner.old planner.new answer.text answer.refused answer.solved steps.old steps.new) }
     ensures history { (base : State) → IsSessionOf base planner.old → IsSessionOf base planner.new }
     ensures later { steps.old ≤ steps.new }
 {
     let reading = reading_of(alloc, line)?;
     let reply = reply_to(planner, number, reading, steps)?;
     let text = print_reply(alloc, number, &reply, planner.game())?;
-    Ok((text, is_refusal(&reply)))
+    let refused = is_refusal(&reply);
+    Ok(Told {
+        text,
+        refused,
+        solved: solved_in(reply),
+    })
 }

@@ -8,6 +8,7 @@ mod output;
 mod reading;
 mod report;
 mod run;
+mod solutions;
 
 pub use laws::{planners_grow_from_the_base, plans_cost_least};
 pub use output::write_all;

@@ -1,5 +1,5 @@
 //! The replies to the lines of a script.
-ghost use Rattle.std.specs.Prelude.{◌≡◌, ◌≤◌, length};
+ghost use Rattle.std.specs.Prelude.{◌≡◌, ◌≤◌, [], length};
 ghost use Rattle.plan_io.specs.Causes.{Rose};
 ghost use Rattle.planning_state.specs.States.{State};
 ghost use Rattle.planner_core.specs.Lines.{IsSessionOf};
@@ -11,6 +11,8 @@ use crate::answer::answer_line;
 use crate::lines::{split_line, trim_return};
 use crate::output::write_all;
 use crate::run::ScriptEnd;
+use crate::solutions::keep;
+use linear_table::SolveAnswer;
 use plan_base::Steps;
 use plan_io::Sink;
 use planner_core::Planner;
@@ -22,11 +24,13 @@ pub fn answer_lines<K: Sink, L>(
     planner: &mut Planner,
     script: &[u8],
     out: &mut K,
+    solved: &mut Vec<SolveAnswer>,
     steps: &mut Steps<L>,
 ) -> ScriptEnd
     requires session { (base : State) × IsSessionOf base planner.old }
+    requires none_yet { solved.old.items ≡ [] }
     requires few { length (lines_of script.now) ≤ 100_000 }
-    ensures leaves { Leaves (EndsScript planner.old script.now) is_cut (K.written out.old) (K.written out.new) steps.old steps.new result }
+    ensures leaves { Leaves (EndsScript planner.old script.now solved.new.items) is_cut (K.written out.old) (K.written out.new) steps.old steps.new result }
     ensures history { (base : State) → IsSessionOf base planner.old → IsSessionOf base planner.new }
     ensures limit { K.limit out.new ≡ K.limit out.old }
     ensures later { K.faults out.old ≤ K.faults out.new }
@@ -37,23 +41,21 @@ pub fn answer_lines<K: Sink, L>(
     let mut refused = false;
     while !rest.is_empty() {
         let (line, more) = split_line(rest);
-        let (reply, refuses) = match answer_line(
-            alloc,
-            planner,
-            count + 1,
-            trim_return(line),
-            steps,
-        ) {
-            Ok(answer) => answer,
+        let told = match answer_line(alloc, planner, count + 1, trim_return(line), steps) {
+            Ok(told) => told,
             Err(_) => return ScriptEnd::NoMemory,
         };
-        match write_all(out, reply.as_str().as_bytes()) {
+        match keep(solved, told.solved) {
+            Ok(()) => {}
+            Err(_) => return ScriptEnd::NoMemory,
+        }
+        match write_all(out, told.text.as_str().as_bytes()) {
             Ok(()) => {}
             Err(_) => return ScriptEnd::WriteFault,
         }
         rest = more;
         count += 1;
-        refused |= refuses;
+        refused |= told.refused;
     }
     if refused {
         ScriptEnd::SomeRefused

@@ -1,5 +1,5 @@
 //! The run of a script.
-ghost use Rattle.std.specs.Prelude.{◌≡◌, ◌≤◌};
+ghost use Rattle.std.specs.Prelude.{◌≡◌, ◌≤◌, []};
 ghost use Rattle.plan_io.specs.Causes.{Rose};
 ghost use Rattle.planning_state.specs.States.{State};
 ghost use Rattle.planner_core.specs.Lines.{IsSessionOf};
@@ -9,6 +9,7 @@ ghost use Rattle.script_runner.specs.Scripts.{EndsScript, is_cut};
 use crate::lines::line_count;
 use crate::output::write_all;
 use crate::report::answer_lines;
+use linear_table::SolveAnswer;
 use plan_base::Steps;
 use plan_io::Sink;
 use planner_core::Planner;
@@ -32,16 +33,19 @@ pub enum ScriptEnd {
     NoMemory,
 }
 
-/// Answers each line of a script by the planner, and writes its reply before the next line is answered.
+/// Answers each line of a script by the planner, and writes its reply before the next line is answered. What the solver answered
+/// is kept in `solved`, in the order of the lines.
 pub fn run_script<K: Sink, L>(
     alloc: Global,
     planner: &mut Planner,
     script: &[u8],
     out: &mut K,
+    solved: &mut Vec<SolveAnswer>,
     steps: &mut Steps<L>,
 ) -> ScriptEnd
     requires session { (base : State) × IsSessionOf base planner.old }
-    ensures leaves { Leaves (EndsScript planner.old script.now) is_cut (K.written out.old) (K.written out.new) steps.old steps.new result }
+    requires none_yet { solved.old.items ≡ [] }
+    ensures leaves { Leaves (EndsScript planner.old script.now solved.new.items) is_cut (K.written out.old) (K.written out.new) steps.old steps.new result }
     ensures history { (base : State) → IsSessionOf base planner.old → IsSessionOf base planner.new }
     ensures limit { K.limit out.new ≡ K.limit out.old }
     ensures later { K.faults out.old ≤ K.faults out.new }
@@ -53,5 +57,5 @@ pub fn run_script<K: Sink, L>(
             Err(_) => ScriptEnd::WriteFault,
         };
     }
-    answer_lines(alloc, planner, script, out, steps)
+    answer_lines(alloc, planner, script, out, solved, steps)
 }

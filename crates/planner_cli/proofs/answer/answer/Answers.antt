@@ -5,5 +5,5 @@ use Rattle.planner_cli.proofs.answer.answer.Goals as goal
 
 pub run_script-requires : goal.run_script-requires
 run_script-requires g c =
-    let game = c.requires.0 in
-    record { session = (first_state game, subst (IsSessionOf (first_state game)) (sym c.requires.1) (c.state_is_of_the_active_edits.ensures.first game)) }
+    let game = c.requires.loaded.0 in
+    record { none_yet = c.requires.none_yet; session = (first_state game, subst (IsSessionOf (first_state game)) (sym c.requires.loaded.1) (c.state_is_of_the_active_edits.ensures.first game)) }

@@ -9,12 +9,12 @@ tell-requires g c = is_no_cut _ _ c.in-Err.early _ c.in-Err.ensures.ready
 pub returns-in-Ok-clause-leaves : goal.returns-in-Ok-clause-leaves
 returns-in-Ok-clause-leaves g c =
     rw c.status_of.ensures
-    (leaves_files (g.S.Store.shelf c.args.store.now) (record { dump = c.args.dump.now; script = c.args.script.now }) c.in-Ok.ready.planner c.in-Ok.ready.script.items _ _ c.args.steps.now c.read_files.new.steps c.answer.new.steps
+    (leaves_files (g.S.Store.shelf c.args.store.now) (record { dump = c.args.dump.now; script = c.args.script.now }) c.answer.new.solved.items c.in-Ok.ready.planner c.in-Ok.ready.script.items _ _ c.args.steps.now c.read_files.new.steps c.answer.new.steps
     c.answer.result c.in-Ok.ensures.ready c.in-Ok.ensures.later c.answer.ensures.leaves)
 
 pub returns-in-Err-clause-leaves : goal.returns-in-Err-clause-leaves
 returns-in-Err-clause-leaves g c =
-    leaves_told (g.S.Store.shelf c.args.store.now) (Some (Files (record { dump = c.args.dump.now; script = c.args.script.now }))) c.in-Err.early _ _ c.args.steps.now c.read_files.new.steps c.tell.result c.in-Err.ensures.ready
+    leaves_told (g.S.Store.shelf c.args.store.now) (Some (Files (record { dump = c.args.dump.now; script = c.args.script.now }))) c.args.solved.now.items c.in-Err.early _ _ c.args.steps.now c.read_files.new.steps c.tell.result c.requires.none_yet c.in-Err.ensures.ready
     c.in-Err.ensures.later c.tell.ensures.tells
 
 pub returns-in-Err-clause-begins : goal.returns-in-Err-clause-begins

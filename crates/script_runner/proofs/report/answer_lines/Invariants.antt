@@ -6,7 +6,7 @@ use Rattle.script_runner.proofs.report.answer_lines.Given as goal
 
 abbrev pub invariant-loop-rest : goal.invariant-loop-rest
 invariant-loop-rest g l = record {
-  so_far : SoFar l.initial.planner l.planner l.script l.rest l.count l.refused (g.K.Sink.written l.initial.out) (g.K.Sink.written l.out) l.initial.steps l.steps;
+  so_far : SoFar l.initial.planner l.planner l.script l.rest l.count l.refused l.solved.items (g.K.Sink.written l.initial.out) (g.K.Sink.written l.out) l.initial.steps l.steps;
   history : (base : State) → IsSessionOf base l.initial.planner → IsSessionOf base l.planner;
   limit : g.K.Sink.limit l.out ≡ g.K.Sink.limit l.initial.out;
   faults : g.K.Sink.faults l.initial.out ≤ g.K.Sink.faults l.out;
