@@ -15,6 +15,7 @@ use Rattle.data_edit.specs.declared.parts.Inverse.{Inverse}
 use Rattle.data_edit.specs.Books.{IsSoundBook}
 use Rattle.data_edit.specs.Edits.{effect}
 use Rattle.data_edit.specs.Names.{KeepsNames}
+use Rattle.data_edit.proofs.EffectLaw.{effect_law}
 use Rattle.data_edit.proofs.NamesKept.{edit_keeps}
 use Rattle.depend_rows.specs.Touched.{touched_by, StaysAs}
 use Rattle.depend_rows.proofs.TouchLemmas.{touches_all}
@@ -37,7 +38,7 @@ use Rattle.planning_state.specs.States.{State, state_of}
 use Rattle.planning_state.specs.Effects.{book_effect, edited, effect_of, table_effect, with_book, with_tables}
 use Rattle.planning_state.specs.Undoing.{all_restored, all_tables_restored, part_restored, table_part_restored}
 use Rattle.planning_state.specs.Work.{edit_and, edits_named}
-use Rattle.planning_state.specs.Books.{Applies, AppliesNext, AppliesOne, RestoresPart, RestoresTables, is_part_undo, is_touched}
+use Rattle.planning_state.specs.Books.{Applies, AppliesNext, AppliesOne, RestoresPart, RestoresTables, is_of_mark, is_part_undo, is_touched}
 use Rattle.planning_state.proofs.NameLemmas.{edits-same}
 
 -- ---- one change
@@ -234,6 +235,39 @@ all-at test (x ∷ xs) (suc i) d inside a = all-at test xs i d (omega (arith, in
     both true b e = e
     both false b e = absurd cc
 
+-- ---- marks leave the game as it was
+pub marks-game : (edit : Edit) (old new : Book) → effect edit old ≡ Ok new → is_of_mark edit ≡ true → new.game ≡ old.game
+marks-game (edit.SetIngredient recipe good amount) old new e h = absurd cc
+marks-game (edit.DropIngredient recipe good) old new e h = absurd cc
+marks-game (edit.SetProduct recipe good amount) old new e h = absurd cc
+marks-game (edit.DropProduct recipe good) old new e h = absurd cc
+marks-game (edit.SetUnlock tech recipe on) old new e h = absurd cc
+marks-game (edit.SetTime recipe time) old new e h = absurd cc
+marks-game (edit.SetEnabled recipe on) old new e h = absurd cc
+marks-game (edit.Forbid node) old new e h = ap (λ (b : Book). b.game) ((effect_law (edit.Forbid node) old).0 new e).0
+marks-game (edit.Permit node) old new e h = ap (λ (b : Book). b.game) ((effect_law (edit.Permit node) old).0 new e).0
+marks-game (edit.Grant node) old new e h = ap (λ (b : Book). b.game) ((effect_law (edit.Grant node) old).0 new e).0
+marks-game (edit.Revoke node) old new e h = ap (λ (b : Book). b.game) ((effect_law (edit.Revoke node) old).0 new e).0
+
+pub all-parts : {A : Type 0} (test : A → Bool) (xs ys : List A) → list_all test (xs ++ ys) ≡ true → (list_all test xs ≡ true) × (list_all test ys ≡ true)
+all-parts test [] ys e = (refl, e)
+all-parts test (x ∷ xs) ys e =
+    let parts : (test x ≡ true) × (list_all test (xs ++ ys) ≡ true) = both (test x) (list_all test (xs ++ ys)) e in
+    let rest : (list_all test xs ≡ true) × (list_all test ys ≡ true) = all-parts test xs ys parts.1 in
+    (ap (λ c. c && list_all test xs) parts.0 ∙ rest.0, rest.1)
+  where
+    both : (a b : Bool) → (a && b) ≡ true → (a ≡ true) × (b ≡ true)
+    both true true e = (refl, refl)
+    both true false e = absurd cc
+    both false b e = absurd cc
+
+pub one-mark : (old : Book) (change : Change) (edit : Edit) → edit_named old.game change ≡ Ok (Some edit) → list_all is_of_mark (edits_named old.game (change ∷ [])) ≡ true → is_of_mark edit ≡ true
+one-mark old change edit named e = first (is_of_mark edit) (ap (λ (o : Outcome (Option Edit)). list_all is_of_mark (edit_and o [])) (sym named) ∙ e)
+  where
+    first : (b : Bool) → (b && true) ≡ true → b ≡ true
+    first true e = refl
+    first false e = absurd cc
+
 -- ---- parts put back
 pub restored-push : (undos : List Undo) (undo : Undo) (book : Book) → all_restored (undos ++ undo ∷ []) book ≡ all_restored undos (part_restored undo book)
 restored-push [] undo book = refl
@@ -273,6 +307,7 @@ next-book old new tables change edits more_edits undos more_undos edit part held
   back = ap (λ l. all_restored l new) f ∙ (restored-push undos (Part part) new ∙ ap (all_restored undos) one.back);
   tables_back = ap (λ l. all_tables_restored l tables) f ∙ tables-push undos (Part part) tables;
   stays = λ n untouched. touches_all edit old new one.effect_is n (untouched-one old change edit n one.named untouched);
+  game = λ marks. marks-game edit old new one.effect_is (one-mark old change edit one.named marks);
 }
 
 pub next-tables : (book : Book) (tables left : List ProductionTable) (change : Change) (edits : List Edit) (undos more_undos : List Undo) (undo : TableUndo)
@@ -288,6 +323,7 @@ next-tables book tables left change edits undos more_undos undo sound of_tables 
   back = ap (λ l. all_restored l book) f ∙ restored-push undos (TablesUndo undo) book;
   tables_back = ap (λ l. all_tables_restored l left) f ∙ (tables-push undos (TablesUndo undo) left ∙ ap (all_tables_restored undos) back);
   stays = λ n untouched. stays-refl book n;
+  game = λ marks. refl;
 }
 
 -- ---- several changes
@@ -319,6 +355,7 @@ pub record SoFar (old : Book) (stood : List ProductionTable) (changes : List Cha
   pub back : all_restored undos book ≡ old
   pub tables_back : all_tables_restored undos tables ≡ stood
   pub stays : (n : ℕ) → is_touched old edits n ≡ false → StaysAs old book n
+  pub game : list_all is_of_mark edits ≡ true → book.game ≡ old.game
 
 pub so_far-first : (old : Book) (stood : List ProductionTable) (changes : List Change) → IsSoundBook old → AreSoundTables old.game stood → SoFar old stood changes 0 [] [] old stood
 so_far-first old stood changes sound fit = record {
@@ -331,6 +368,7 @@ so_far-first old stood changes sound fit = record {
   back = refl;
   tables_back = refl;
   stays = λ n untouched. stays-refl old n;
+  game = λ marks. refl;
 }
 
 pub so_far-more : (old book new : Book) (stood tables left : List ProductionTable) (changes : List Change) (i : ℕ) (d : Change) (edits more_edits : List Edit) (undos more_undos : List Undo)
@@ -350,6 +388,9 @@ so_far-more old book new stood tables left changes i d edits more_edits undos mo
       stays-trans old book new n (s.stays n apart.0) (next.stays n
       (ap (λ (h : Shape). list_any (λ edit. has_node (touched_by h edit) n) (edits_named book.game (get_or changes i d ∷ []))) s.names.shape
       ∙ (ap (λ es. is_touched old es n) (edits-same old.game book.game s.names (get_or changes i d ∷ [])) ∙ apart.1)));
+  game = λ marks.
+      let apart : (list_all is_of_mark edits ≡ true) × (list_all is_of_mark one ≡ true) = all-parts is_of_mark edits one (ap (list_all is_of_mark) (sym own) ∙ marks) in
+      next.game (ap (list_all is_of_mark) (edits-same old.game book.game s.names (get_or changes i d ∷ [])) ∙ apart.1) ∙ s.game apart.0;
 }
   where
     one : List Edit
@@ -377,6 +418,7 @@ so_far-last old book stood tables changes i edits undos past s =
       back = s.back;
       tables_back = s.tables_back;
       stays = s.stays;
+      game = s.game;
     }
 
 -- ---- a part put back, and what takes that back

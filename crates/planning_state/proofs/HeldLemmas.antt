@@ -30,10 +30,10 @@ use Rattle.planning_state.specs.Effects.{edited, effect_of, is_entry, with_book,
 use Rattle.planning_state.specs.Undoing.{Fits, LeadsBack, all_restored, all_tables_restored, is_of_milestone, taken_back}
 use Rattle.planning_state.specs.Work.{edits_named, touched_in, work_of_book}
 use Rattle.planning_state.specs.Worlds.{worlds_of, IsKept}
-use Rattle.planning_state.specs.Books.{Applies, TakesBack, is_part_undo, is_touched}
+use Rattle.planning_state.specs.Books.{Applies, TakesBack, is_of_mark, is_part_undo, is_touched}
 use Rattle.planning_state.proofs.Kept.{kept-is}
 use Rattle.planning_state.proofs.NameLemmas.{edits-same}
-use Rattle.planning_state.proofs.Changing.{edits-split, effect-book, effect-tables, names-refl, names-sym, names-trans, stays-refl, stays-sym, stays-trans, untouched-more, untouched-one}
+use Rattle.planning_state.proofs.Changing.{all-parts, edits-split, effect-book, effect-tables, names-refl, names-sym, names-trans, marks-game, one-mark, stays-refl, stays-sym, stays-trans, untouched-more, untouched-one}
 
 -- ---- the work of an entry
 pub work-held : (before after : Book) (tables left : List ProductionTable) (changes : List Change) (edits : List Edit) (old_kept new_kept : Kept) (old new : ℕ) → AreWorlds (rows_of before.game) before.barred before.granted old_kept → AreWorlds (rows_of after.game) after.barred after.granted new_kept
@@ -88,11 +88,13 @@ held-leads before after tables left rows old_kept nodes changes edits undos kept
 pub record Held (s : State) (changes : List Change) (t : State) : Type 0 where
   pub names : KeepsNames s.book.game t.book.game
   pub stays : (n : ℕ) → is_touched s.book (edits_named s.book.game changes) n ≡ false → StaysAs s.book t.book n
+  pub game : list_all is_of_mark (edits_named s.book.game changes) ≡ true → t.book.game ≡ s.book.game
 
 held-none : (s t : State) (changes : List Change) → s.book ≡ t.book → Held s changes t
 held-none s t changes same = record {
   names = subst (λ (b : Book). KeepsNames s.book.game b.game) same (names-refl s.book.game);
   stays = λ n untouched. subst (λ (b : Book). StaysAs s.book b n) same (stays-refl s.book n);
+  game = λ marks. ap (λ (b : Book). b.game) (sym same);
 }
 
 pub ok-same : (s t : State) → (let o : Outcome State = Ok s in o) ≡ Ok t → s ≡ t
@@ -105,6 +107,7 @@ held-edit s t change edit named (Ok book) e f =
     record {
       names = edit_keeps edit s.book t.book effect_is;
       stays = λ n untouched. touches_all edit s.book t.book effect_is n (untouched-one s.book change edit n named untouched);
+      game = λ marks. marks-game edit s.book t.book effect_is (one-mark s.book change edit named marks);
     }
 held-edit s t change edit named (Err fault) e f = absurd cc
 
@@ -145,12 +148,17 @@ held-more s u t change changes one rest = record {
       ap (λ (h : Shape). list_any (λ edit. has_node (touched_by h edit) n) (edits_named u.book.game changes)) one.names.shape
       ∙ (ap (λ es. is_touched s.book es n) (edits-same s.book.game u.book.game one.names changes) ∙ split.1) in
       stays-trans s.book u.book t.book n (one.stays n split.0) (rest.stays n later);
+  game = λ marks.
+      let split : (list_all is_of_mark (edits_named s.book.game (change ∷ [])) ≡ true) × (list_all is_of_mark (edits_named s.book.game changes) ≡ true) =
+      all-parts is_of_mark (edits_named s.book.game (change ∷ [])) (edits_named s.book.game changes)
+      (ap (list_all is_of_mark) (sym (edits-split (edit_named s.book.game change) (edits_named s.book.game changes))) ∙ marks) in
+      rest.game (ap (list_all is_of_mark) (edits-same s.book.game u.book.game one.names changes) ∙ split.1) ∙ one.game split.0;
 }
 
 pub held-all : (s t : State) (place : ℕ) (changes : List Change) → list_all can_be_held changes ≡ true → apply_from effect_of place s changes ≡ Ok t → Held s changes t
 held-all s t place [] held e =
     let same : s ≡ t = cc in
-    subst (Held s []) same (record { names = names-refl s.book.game; stays = λ n untouched. stays-refl s.book n })
+    subst (Held s []) same (record { names = names-refl s.book.game; stays = λ n untouched. stays-refl s.book n; game = λ marks. refl })
 held-all s t place (change ∷ changes) held e =
     let apart : (can_be_held change ≡ true) × (list_all can_be_held changes ≡ true) = both (can_be_held change) (list_all can_be_held changes) held in
     let found : (u : State) × (effect_of s change ≡ Ok u) × (apply_from effect_of (place + 1) u changes ≡ Ok t) = then-ok (effect_of s change) place _ t e in
@@ -194,6 +202,7 @@ takes-back s t changes undos is_no leads =
         stays = λ n untouched. stays-sym s.book t.book n (held.stays n
             (ap (λ (h : Shape). list_any (λ edit. has_node (touched_by h edit) n) (edits_named s.book.game changes)) (sym held.names.shape)
             ∙ (ap (λ es. is_touched t.book es n) (sym (edits-same s.book.game t.book.game held.names changes)) ∙ untouched)));
+        game = λ marks. sym (held.game (ap (list_all is_of_mark) (sym (edits-same s.book.game t.book.game held.names changes)) ∙ marks));
       };
       back = ap (λ (u : State). u.book) stood;
       tables_back = ap (λ (u : State). u.tables) stood;

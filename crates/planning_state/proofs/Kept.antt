@@ -1,7 +1,7 @@
 -- The rows and the ranks that are kept are determined by the state.
 use Rattle.std.proofs.Common.{◌≡◌, ◌∙◌, ℕ, ◌<◌, ◌≤◌, Bool, false, true, List, [], ◌∷◌, Option, None, Some, Result, Ok, Err, OnOk, length, map, get_or, refl, sym, ap, subst, arith}
-use Rattle.std.specs.Prelude.{All, nat_lt, slice_get, unwrap_or}
-use Rattle.std.specs.List.{list_any, range_with_len}
+use Rattle.std.specs.Prelude.{All, AllPairs, ◌≢◌, if◌then◌else◌, nat_lt, slice_get, unwrap_or}
+use Rattle.std.specs.List.{list_all, list_any, range_with_len}
 use Rattle.std.proofs.lemmas.Grind.{same_number_lists}
 use Rattle.std.proofs.lemmas.Bool.Decides.{nat_tests}
 use Rattle.std.proofs.lemmas.List.{get_or_past}
@@ -31,7 +31,7 @@ use Rattle.milestone_masks.proofs.ChangeLemmas.{SameAt, agree-in_worlds}
 use Rattle.production_table.specs.declared.tables.Table.{Table}
 use Rattle.planning_state.specs.States.{state_of, AreSoundMilestones}
 use Rattle.planning_state.specs.Worlds.{milestone_in, ranks_in, world_of, worlds_of, IsKept}
-use Rattle.planning_state.specs.Books.{AreRowsBut, ComesFrom, is_touched}
+use Rattle.planning_state.specs.Books.{AreRowsBut, ComesFrom, is_of_mark, is_touched, with_rows}
 
 -- ---- the list of ranks
 pub ranks_in-are : (w : World) → AreRanks w (ranks_in w)
@@ -101,6 +101,26 @@ rows-but before after edits comes = record {
       row-at before.game n within
       ∙ ap Some (sym (comes.stays n (untouched before after edits n comes.names after_within outside)).row);
 }
+
+-- where each of the edits sets a mark, no row is another
+pub rows-with : (before after : Book) (edits : List Edit) → ComesFrom before edits after → AreRowsBut (with_rows edits (touched_by_all (shape_of after.game) edits)) after (rows_of before.game)
+rows-with before after edits comes = of_marks (list_all is_of_mark edits) refl
+  where
+    of_marks : (b : Bool) → list_all is_of_mark edits ≡ b → AreRowsBut (if b then [] else touched_by_all (shape_of after.game) edits) after (rows_of before.game)
+    of_marks true is = record {
+      others = λ n inside outside.
+          row-at before.game n (subst (λ (k : ℕ). n < k) (length-rows_of before.game) inside) ∙ ap (λ (g : Game). Some (row_of g n)) (sym (comes.game is));
+    }
+    of_marks false is = rows-but before after edits comes
+
+pub with-nodes : (P : NodeId → Type 0) (edits : List Edit) (nodes : List NodeId) → All P nodes → All P (with_rows edits nodes)
+with-nodes P edits nodes all = elim (list_all is_of_mark edits) as (λ b. All P (if b then [] else nodes)) [ true ↦ λ k d inside. absurd (omega (arith, inside)) | false ↦ all ]
+
+pub with-once : (edits : List Edit) (nodes : List NodeId) → AllPairs (λ (m n : NodeId). m.0 ≢ n.0) nodes → AllPairs (λ (m n : NodeId). m.0 ≢ n.0) (with_rows edits nodes)
+with-once edits nodes once = elim (list_all is_of_mark edits) as (λ b. AllPairs (λ (m n : NodeId). m.0 ≢ n.0) (if b then [] else nodes)) [ true ↦ λ i j d less inside. absurd (omega (arith, inside)) | false ↦ once ]
+
+pub with-fewer : (edits : List Edit) (nodes : List NodeId) → length (with_rows edits nodes) ≤ length nodes
+with-fewer edits nodes = elim (list_all is_of_mark edits) as (λ b. length (if b then [] else nodes) ≤ length nodes) [ true ↦ omega arith | false ↦ omega arith ]
 
 get_or-same : {A : Type 0} (xs ys : List A) (n : ℕ) (d : A) → slice_get xs n ≡ slice_get ys n → get_or xs n d ≡ get_or ys n d
 get_or-same xs ys n d e = sym (unwrap_or-slice_get xs n d) ∙ (ap (λ (o : Option _). unwrap_or o d) e ∙ unwrap_or-slice_get ys n d)

@@ -89,6 +89,10 @@ rows-settled book nodes changes old new long f but puts =
         chosen true is = at-node book.game new nodes k put is
         chosen false is = puts.others k (ap (λ cs. has_change cs k) f ∙ (same-change book.game nodes k ∙ is)) ∙ but.others k inside is
 
+pub rows-same : (book : Book) (nodes : List NodeId) (rows : List Row) → length nodes ≡ 0 → length rows ≡ node_count (shape_of book.game) → AreRowsBut nodes book rows → rows ≡ rows_of book.game
+rows-same book [] rows none long but = rows-settled book [] [] rows rows long refl but (record { as_long = refl; put = λ k d inside. absurd (omega (arith, inside)); others = λ n outside. refl })
+rows-same book (m ∷ nodes) rows none long but = absurd (omega (arith, none))
+
 -- ---- what the nodes amount to
 longest : (rows : List Row) (nodes : List NodeId) → length nodes ≤ sum_by (λ (node : NodeId). 1 + user_count rows node.0) nodes
 longest rows [] = omega arith
@@ -100,12 +104,12 @@ length-size rows nodes before after = omega (arith, longest rows nodes)
 pub length-all : (rows : List Row) (nodes : List NodeId) (before after : Kept) → length nodes ≤ size_of_all rows nodes before after
 length-all rows nodes before after = omega (arith, length-size rows nodes before.base after.base)
 
-pub work-settled : {E : Type 0} (result : Result (Unit {0}) E) (rows : List Row) (nodes own : List NodeId) (before after : Kept) (old new : ℕ) → nodes ≡ own → OnOk result (new ≤ old + length nodes + 6 * size_of_all rows nodes before after) → OnOk result (new ≤ old + 8 * size_of_all rows own before after)
-work-settled (Ok u) rows nodes own before after old new e h =
+pub work-settled : {E : Type 0} (result : Result (Unit {0}) E) (rows : List Row) (others nodes own : List NodeId) (before after : Kept) (old new : ℕ) → nodes ≡ own → length others ≤ length nodes → OnOk result (new ≤ old + length others + 6 * size_of_all rows nodes before after) → OnOk result (new ≤ old + 8 * size_of_all rows own before after)
+work-settled (Ok u) rows others nodes own before after old new e few h =
     let size : ℕ = size_of_all rows nodes before after in
     let same : size ≡ size_of_all rows own before after = ap (λ ns. size_of_all rows ns before after) e in
-    more (length nodes) size (size_of_all rows own before after) same (length-all rows nodes before after) h
+    more (length others) (length nodes) size (size_of_all rows own before after) same few (length-all rows nodes before after) h
   where
-    more : (l a b : ℕ) → a ≡ b → l ≤ a → new ≤ old + l + 6 * a → new ≤ old + 8 * b
-    more l a b e f h = omega (arith, e, f, h)
-work-settled (Err fault) rows nodes own before after old new e h = tt
+    more : (m l a b : ℕ) → a ≡ b → m ≤ l → l ≤ a → new ≤ old + m + 6 * a → new ≤ old + 8 * b
+    more m l a b e f g h = omega (arith, e, f, g, h)
+work-settled (Err fault) rows others nodes own before after old new e few h = tt

@@ -1,5 +1,5 @@
 -- Books and tables that changes lead from and to.
-use Rattle.std.specs.Prelude.{◌≡◌, ℕ, ◌<◌, ◌++◌, ◌∷◌, [], Bool, false, true, List, Ok, Some, length, slice_get}
+use Rattle.std.specs.Prelude.{◌≡◌, ℕ, ◌<◌, ◌++◌, ◌∷◌, [], Bool, false, true, List, Ok, Some, if◌then◌else◌, length, slice_get}
 use Rattle.std.specs.List.{list_all, list_any}
 use Rattle.plan_base.specs.declared.ids.NodeId.{NodeId}
 use Rattle.graph_store.specs.declared.Row.{Row}
@@ -7,6 +7,7 @@ use Rattle.graph_store.specs.Rows.{has_node}
 use Rattle.game_types.specs.Nodes.{shape_of}
 use Rattle.data_edit.specs.declared.books.Book.{Book}
 use Rattle.data_edit.specs.declared.edits.Edit.{Edit}
+use Rattle.data_edit.specs.declared.edits.Edit.TheVariants.{SetIngredient, DropIngredient, SetProduct, DropProduct, SetUnlock, SetTime, SetEnabled, Forbid, Permit, Grant, Revoke}
 use Rattle.data_edit.specs.declared.parts.Inverse.{Inverse}
 use Rattle.data_edit.specs.Books.{IsSoundBook}
 use Rattle.data_edit.specs.Edits.{effect, restored}
@@ -36,6 +37,24 @@ pub record AppliesOne (before : Book) (change : Change) (edit : Edit) (part : In
 abbrev pub is_touched : Book → List Edit → ℕ → Bool
 is_touched book edits n = list_any (λ edit. has_node (touched_by (shape_of book.game) edit) n) edits
 
+-- whether an edit sets a mark: it forbids a node or permits it, grants it or revokes it
+abbrev pub is_of_mark : Edit → Bool
+is_of_mark (SetIngredient recipe good amount) = false
+is_of_mark (DropIngredient recipe good) = false
+is_of_mark (SetProduct recipe good amount) = false
+is_of_mark (DropProduct recipe good) = false
+is_of_mark (SetUnlock tech recipe on) = false
+is_of_mark (SetTime recipe time) = false
+is_of_mark (SetEnabled recipe on) = false
+is_of_mark (Forbid node) = true
+is_of_mark (Permit node) = true
+is_of_mark (Grant node) = true
+is_of_mark (Revoke node) = true
+
+-- of the nodes that edits touch, those whose rows may be others: none where each of the edits sets a mark
+abbrev pub with_rows : List Edit → List NodeId → List NodeId
+with_rows edits nodes = if list_all is_of_mark edits then [] else nodes
+
 -- whether what takes a change back is a part of the book or of the tables
 abbrev pub is_part_undo : Undo → Bool
 is_part_undo (Part part) = true
@@ -55,6 +74,7 @@ pub record AppliesNext (before : Book) (tables : List Table) (change : Change) (
   pub back : all_restored more_undos after ≡ all_restored undos before
   pub tables_back : all_tables_restored more_undos left ≡ all_tables_restored undos tables
   pub stays : (n : ℕ) → is_touched before (edits_named before.game (change ∷ [])) n ≡ false → StaysAs before after n
+  pub game : list_all is_of_mark (edits_named before.game (change ∷ [])) ≡ true → after.game ≡ before.game
 
 -- changes of a book and its tables, all of them: the edits that they ask for, and what takes them back
 pub record Applies (before : Book) (tables : List Table) (changes : List Change) (edits : List Edit) (undos : List Undo) (after : Book) (left : List Table) : Type 0 where
@@ -67,16 +87,19 @@ pub record Applies (before : Book) (tables : List Table) (changes : List Change)
   pub back : all_restored undos after ≡ before
   pub tables_back : all_tables_restored undos left ≡ tables
   pub stays : (n : ℕ) → is_touched before edits n ≡ false → StaysAs before after n
+  pub game : list_all is_of_mark edits ≡ true → after.game ≡ before.game
 
 -- the rows are those of the book, but for these nodes
 pub record AreRowsBut (nodes : List NodeId) (book : Book) (rows : List Row) : Type 0 where
   pub others : (n : ℕ) → n < length rows → has_node nodes n ≡ false → slice_get rows n ≡ Some (row_of book.game n)
 
 -- The book comes from another by these edits, or by what takes them back: its things are named as before, and each node
--- that none of the edits touches has the row and the marks that it had.
+-- that none of the edits touches has the row and the marks that it had. Where each of the edits sets a mark, the game is
+-- as it was.
 pub record ComesFrom (before : Book) (edits : List Edit) (after : Book) : Type 0 where
   pub names : KeepsNames before.game after.game
   pub stays : (n : ℕ) → is_touched before edits n ≡ false → StaysAs before after n
+  pub game : list_all is_of_mark edits ≡ true → after.game ≡ before.game
 
 -- From the book and the tables after changes these lead back to sound ones.
 pub record TakesBack (after : Book) (left : List Table) (changes : List Change) (undos : List Undo) (before : Book) (tables : List Table) : Type 0 where

@@ -16,7 +16,7 @@ ghost use Rattle.planning_state.specs.Effects.{effect_of, is_entry};
 ghost use Rattle.planning_state.specs.Undoing.{all_restored, all_tables_restored, LeadsBack};
 ghost use Rattle.planning_state.specs.Work.{edits_named, work_of_book};
 ghost use Rattle.planning_state.specs.Worlds.{IsKept};
-ghost use Rattle.planning_state.specs.Books.{ComesFrom, RestoresPart, RestoresTables, TakesBack};
+ghost use Rattle.planning_state.specs.Books.{is_of_mark, with_rows, ComesFrom, RestoresPart, RestoresTables, TakesBack};
 
 use crate::changes::{apply_changes, edits_named, put, take_all_back};
 use crate::refusals::Refusal;
@@ -27,11 +27,39 @@ use depend_rows::touched_all;
 use edit_undo::EntryFault;
 use graph_store::ReplaceRows;
 use milestone_masks::Worlds;
-use plan_base::{NoMemory, Steps};
+use plan_base::{NoMemory, NodeId, Steps};
 use planner_tables::{TableUndo, exchange_tables};
 use production_table::Table as ProductionTable;
 use script_reader::Change;
 use std::alloc::Global;
+
+// Whether the edit sets a mark.
+fn is_of_mark(edit: &Edit) -> bool
+    ensures { result ≡ is_of_mark edit.now }
+{
+    match edit {
+        Edit::Forbid(_) | Edit::Permit(_) | Edit::Grant(_) | Edit::Revoke(_) => true,
+        _ => false,
+    }
+}
+
+// Whether each of the edits sets a mark.
+fn are_of_marks(edits: &[Edit]) -> bool
+    ensures { result ≡ list_all is_of_mark edits.now }
+{
+    edits.iter().all(|edit| is_of_mark(edit))
+}
+
+// Of the nodes that edits touch, those whose rows may be others: none where each of the edits sets a mark.
+fn with_rows<'a>(edits: &[Edit], nodes: &'a [NodeId]) -> &'a [NodeId]
+    ensures { result.now ≡ with_rows edits.now nodes.now }
+{
+    if are_of_marks(edits) {
+        &nodes[..0]
+    } else {
+        nodes
+    }
+}
 
 // Leaves the rows and the ranks as the book is now, where they are those of a book from which these edits, or what takes
 // them back, lead to it.
@@ -52,7 +80,9 @@ fn settle_edits<R: ReplaceRows<L>, L>(
     ensures later { steps.old ≤ steps.new }
 {
     let nodes = touched_all(alloc, edits, &book.game.shape())?;
-    settle(alloc, book, graph, worlds, nodes.as_slice(), steps)
+    let touched = nodes.as_slice();
+    let others = with_rows(edits, touched);
+    settle(alloc, book, graph, worlds, others, touched, steps)
 }
 
 /// Applies changes of the book and the tables in order, all of them or none, and answers what takes them back.

@@ -14,7 +14,7 @@ use milestone_masks::Worlds;
 use plan_base::{NoMemory, NodeId, Steps};
 use std::alloc::Global;
 
-// Puts the rows of the book in the place of those of these nodes.
+// Puts the rows of the book in the place of those of these nodes. Where there are none it takes no time.
 fn settle_rows<R: ReplaceRows<L>, L>(
     alloc: Global,
     book: &Book,
@@ -32,34 +32,40 @@ fn settle_rows<R: ReplaceRows<L>, L>(
     ensures steps { OnOk result (steps.new ≤ steps.old + length nodes.now) }
     ensures later { steps.old ≤ steps.new }
 {
+    if nodes.is_empty() {
+        return Ok(());
+    }
     let changes = rows_for(alloc, book, nodes, steps)?;
     graph.replace(changes)?;
     Ok(())
 }
 
-/// Leaves the rows and the ranks of all worlds as the book is now, where they are so but for these nodes.
+/// Leaves the rows and the ranks of all worlds as the book is now, where the rows are so but for the first of these nodes, and
+/// the ranks but for the second.
 pub(crate) fn settle<R: ReplaceRows<L>, L>(
     alloc: Global,
     book: &Book,
     graph: &mut R,
     worlds: &mut Worlds,
+    others: &[NodeId],
     nodes: &[NodeId],
     steps: &mut Steps<L>,
 ) -> Result<(), NoMemory>
     requires sound { IsSoundBook book.now }
     requires as_long { length (R.rows graph.old) ≡ node_count (shape_of book.now.game) }
     requires nodes { All (λ n. n.0 < node_count (shape_of book.now.game)) nodes.now }
-    requires once { AllPairs (λ m n. m.0 ≢ n.0) nodes.now }
-    requires rows { AreRowsBut nodes.now book.now (R.rows graph.old) }
+    requires others { All (λ n. n.0 < node_count (shape_of book.now.game)) others.now }
+    requires once { AllPairs (λ m n. m.0 ≢ n.0) others.now }
+    requires rows { AreRowsBut others.now book.now (R.rows graph.old) }
     requires agree { AgreeInWorlds (rows_of book.now.game) book.now.barred book.now.granted nodes.now worlds.old }
     ensures rows { OnOk result (R.rows graph.new ≡ rows_of book.now.game) }
     ensures worlds { OnOk result (AreWorlds (rows_of book.now.game) book.now.barred book.now.granted worlds.new) }
     ensures milestones { milestones_of worlds.new ≡ milestones_of worlds.old }
     ensures err { OnErr result ((R.rows graph.new ≡ R.rows graph.old) × (worlds.new ≡ worlds.old)) }
-    ensures steps { OnOk result (steps.new ≤ steps.old + length nodes.now + 6 * size_of_all (rows_of book.now.game) nodes.now worlds.old worlds.new) }
+    ensures steps { OnOk result (steps.new ≤ steps.old + length others.now + 6 * size_of_all (rows_of book.now.game) nodes.now worlds.old worlds.new) }
     ensures later { steps.old ≤ steps.new }
 {
-    settle_rows(alloc, book, graph, nodes, steps)?;
+    settle_rows(alloc, book, graph, others, steps)?;
     worlds.repair_all(
         graph,
         book.barred.as_slice(),
