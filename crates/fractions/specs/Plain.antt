@@ -1,6 +1,6 @@
 -- Which of the texts that the readers take are printed of a fraction. What is printed stands in `Print`;
 -- proofs/Printed.antt ties the two.
-use Rattle.std.specs.Prelude.{◌≡◌, ◌≢◌, ℕ, ◌<◌, ◌^◌, true, []}
+use Rattle.std.specs.Prelude.{◌≡◌, ◌≢◌, ◌<◌, ◌^◌, true, []}
 use Rattle.std.specs.Str.Parse.{digits_value}
 use Rattle.fractions.specs.Gcd.{gcd}
 use Rattle.fractions.specs.Numeral.{Numeral}

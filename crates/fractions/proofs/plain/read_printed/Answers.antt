@@ -1,47 +1,31 @@
-use Rattle.std.proofs.Common.{rules, ◌≡◌, ℕ, ◌<◌, ◌^◌, pos, IfSome, Some, false, true, ◌+◌, ◌-◌, ◌*◌, ◌≤◌, length, ◌/◌, ◌%◌, Bool, nat_eq, nat_lt, List, [], ◌∷◌, ◌++◌, slice_index_or, slice_set, bit_and, bit_or, Fits, w8, w32, w64, Bor, MutBor}
-use Rattle.std.specs.Option.{SomeIff}
-use Rattle.std.specs.Str.Parse.{AllDigits, digits_value}
-use Rattle.fractions.specs.Fraction.{Fraction, frac}
-use Rattle.fractions.specs.Limits.{IsNarrow}
-use Rattle.fractions.specs.Numeral.{signed}
-use Rattle.fractions.specs.Plain.{IsPlainQuotient, IsPlainWhole}
-use Rattle.fractions.specs.Print.{printed}
-use Rattle.fractions.specs.Quotient.{quotient_value}
-use Rattle.fractions.specs.Stored.{IsStored}
+use Rattle.std.proofs.Common.{sym}
+use Rattle.fractions.proofs.Grammar.{quotient_sound, numeral_sound}
+use Rattle.fractions.proofs.Printed.{found_quotient, found_whole, every_quotient, every_whole, every_none}
 use Rattle.fractions.proofs.plain.read_printed.Goals as goal
 
--- src/plain.rt:96:26
 pub plain_quotient-requires-clause-top : goal.plain_quotient-requires-clause-top
-plain_quotient-requires-clause-top c = ?
+plain_quotient-requires-clause-top c = (quotient_sound c.args.text.now c.in-Some.written (sym c.in-Some.ensures)).top_is.digits
 
--- src/plain.rt:96:26
 pub plain_quotient-requires-clause-bottom : goal.plain_quotient-requires-clause-bottom
-plain_quotient-requires-clause-bottom c = ?
+plain_quotient-requires-clause-bottom c = (quotient_sound c.args.text.now c.in-Some.written (sym c.in-Some.ensures)).bottom_is.digits
 
--- src/plain.rt:96:26
 pub plain_quotient-requires-clause-nonzero : goal.plain_quotient-requires-clause-nonzero
-plain_quotient-requires-clause-nonzero c = ?
+plain_quotient-requires-clause-nonzero c = (quotient_sound c.args.text.now c.in-Some.written (sym c.in-Some.ensures)).nonzero
 
--- src/plain.rt:98:30
 pub plain_whole-requires : goal.plain_whole-requires
-plain_whole-requires c = ?
+plain_whole-requires c = (numeral_sound c.args.text.now c.in-Some-numeral_parts.written (sym c.in-Some-numeral_parts.ensures)).whole_is.digits
 
--- src/plain.rt:91:1
 pub returns-in-Some-clause-found : goal.returns-in-Some-clause-found
-returns-in-Some-clause-found c = ?
+returns-in-Some-clause-found c = found_quotient c.args.text.now c.in-Some.written c.plain_quotient.result (sym c.in-Some.ensures) c.plain_quotient.ensures
 
--- src/plain.rt:91:1
 pub returns-in-Some-clause-every : goal.returns-in-Some-clause-every
-returns-in-Some-clause-every c = ?
+returns-in-Some-clause-every c = every_quotient c.args.text.now c.in-Some.written c.plain_quotient.result (sym c.in-Some.ensures) c.plain_quotient.ensures
 
--- src/plain.rt:91:1
 pub returns-in-Some-numeral_parts-clause-found : goal.returns-in-Some-numeral_parts-clause-found
-returns-in-Some-numeral_parts-clause-found c = ?
+returns-in-Some-numeral_parts-clause-found c = found_whole c.args.text.now c.in-Some-numeral_parts.written c.plain_whole.result (sym c.in-Some-numeral_parts.ensures) c.plain_whole.ensures
 
--- src/plain.rt:91:1
 pub returns-in-Some-numeral_parts-clause-every : goal.returns-in-Some-numeral_parts-clause-every
-returns-in-Some-numeral_parts-clause-every c = ?
+returns-in-Some-numeral_parts-clause-every c = every_whole c.args.text.now c.in-Some-numeral_parts.written c.plain_whole.result (sym c.in-None.ensures) (sym c.in-Some-numeral_parts.ensures) c.plain_whole.ensures
 
--- src/plain.rt:91:1
 pub returns-in-None-numeral_parts-clause-every : goal.returns-in-None-numeral_parts-clause-every
-returns-in-None-numeral_parts-clause-every c = ?
+returns-in-None-numeral_parts-clause-every c x w t = absurd (every_none c.args.text.now (sym c.in-None.ensures) (sym c.in-None-numeral_parts.ensures) x w t)
