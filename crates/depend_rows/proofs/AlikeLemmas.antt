@@ -1,11 +1,16 @@
 -- What edits leave of a game, and that an index of it, with what the edits name noted, is an index after them.
 use Rattle.std.proofs.Common.{◌≡◌, ◌≢◌, ◌∙◌, ◌<◌, ◌≤◌, ◌+◌, ◌-◌, ℕ, zero, suc, Bool, true, false, List, [], ◌∷◌, ◌++◌, Vec, length, map, refl, ap, sym, subst, arith, ⊎_elim}
-use Rattle.std.specs.Prelude.{◌==◌, ◌||◌, ◌&&◌, Option, Some, None, option_map, slice_get, nat_lt, is_none}
+use Rattle.std.specs.Prelude.{◌==◌, ◌||◌, ◌&&◌, Option, Some, None, option_map, slice_get, nat_lt, is_none, Result, Ok, Err, OnOk}
 use Rattle.std.specs.Global.{Global}
 use Rattle.std.specs.List.{list_any}
 use Rattle.std.proofs.lemmas.List.Folds.{list_any-append}
+use Rattle.plan_base.specs.Shape.{first_of}
 use Rattle.plan_base.specs.declared.ids.NodeId.{NodeId}
-use Rattle.std.proofs.lemmas.List.{length-map}
+use Rattle.plan_base.specs.declared.shape.Shape.{Shape}
+use Rattle.plan_base.specs.declared.shape.Kind.TheVariants.{Recipe as RecipeKind, Tech as TechKind}
+use Rattle.game_types.specs.Nodes.{shape_of}
+use Rattle.std.specs.Vec.{with_items}
+use Rattle.std.proofs.lemmas.List.{length-map, with_items_is}
 use Rattle.std.proofs.lemmas.Bool.Decides.{nat_tests}
 use Rattle.game_types.specs.Making.{gives, holds, is_positive}
 use Rattle.game_types.specs.Temperatures.{is_good}
@@ -285,14 +290,41 @@ index_widened g index recipe_makers unlockers is first second =
     (widen_hold (λ (tech : Tech) number. list_any (λ r. r.0 == number) tech.unlocks) (first_tech g) (length g.recipes) g.techs index.exact index.unlockers.items unlockers.items is.unlockers second)
 
 -- and with what edits name noted it is that of a game that they lead to
-pub index_noted : (old new : Game) (edits : List Edit) (index : Index) (recipe_makers unlockers : Vec (Vec NodeId Global) Global) → IsIndex old index → AlikeBut edits old new
-    → Widen index.recipe_makers.items recipe_makers.items → Widen index.unlockers.items unlockers.items
-    → ((r x : ℕ) → list_any (is_of_product r x) edits ≡ true → r < length old.recipes → x < length index.recipe_makers.items → has_node (list_at recipe_makers.items x) (first_recipe old + r) ≡ true)
-    → ((t r : ℕ) → list_any (is_of_unlock t r) edits ≡ true → t < length old.techs → r < length index.unlockers.items → has_node (list_at unlockers.items r) (first_tech old + t) ≡ true)
+pub index_noted : (old new : Game) (shape : Shape) (edits : List Edit) (index : Index) (makers_before unlockers_before : List (Vec NodeId Global)) (recipe_makers unlockers : Vec (Vec NodeId Global) Global)
+    → makers_before ≡ index.recipe_makers.items → unlockers_before ≡ index.unlockers.items → shape_of old ≡ shape → IsIndex old index → AlikeBut edits old new
+    → Widen makers_before recipe_makers.items → Widen unlockers_before unlockers.items
+    → ((r x : ℕ) → list_any (is_of_product r x) edits ≡ true → r < shape.recipes → x < length makers_before → has_node (list_at recipe_makers.items x) (first_of shape RecipeKind + r) ≡ true)
+    → ((t r : ℕ) → list_any (is_of_unlock t r) edits ≡ true → t < shape.techs → r < length unlockers_before → has_node (list_at unlockers.items r) (first_of shape TechKind + t) ≡ true)
     → IsIndex new (record index { recipe_makers = recipe_makers; unlockers = unlockers; exact = false })
-index_noted old new edits index recipe_makers unlockers is alike first second makers_noted unlockers_noted =
+index_noted old new shape edits index makers_before unlockers_before recipe_makers unlockers makers_are unlockers_are at is alike first second makers_noted unlockers_noted =
     index_after old new alike.kept index recipe_makers unlockers is
-    (hold_alike (λ (recipe : Recipe) good. gives recipe.products good) (λ r x. list_any (is_of_product r x) edits) (first_recipe old) (good_count old) old.recipes new.recipes index.exact index.recipe_makers.items recipe_makers.items is.recipe_makers first
-    (recipes_as_long old new alike.kept) alike.products makers_noted)
-    (hold_alike (λ (tech : Tech) number. list_any (λ r. r.0 == number) tech.unlocks) (λ t r. list_any (is_of_unlock t r) edits) (first_tech old) (length old.recipes) old.techs new.techs index.exact index.unlockers.items unlockers.items is.unlockers second
-    alike.kept.techs alike.unlocks unlockers_noted)
+    (hold_alike (λ (recipe : Recipe) good. gives recipe.products good) (λ r x. list_any (is_of_product r x) edits) (first_recipe old) (good_count old) old.recipes new.recipes index.exact index.recipe_makers.items recipe_makers.items is.recipe_makers
+    (subst (λ (l : List (Vec NodeId Global)). Widen l recipe_makers.items) makers_are first) (recipes_as_long old new alike.kept) alike.products
+    (λ r x named few small. subst (λ (s : Shape). has_node (list_at recipe_makers.items x) (first_of s RecipeKind + r) ≡ true) (sym at)
+    (makers_noted r x named (subst (λ (s : Shape). r < s.recipes) at few) (subst (λ (l : List (Vec NodeId Global)). x < length l) (sym makers_are) small))))
+    (hold_alike (λ (tech : Tech) number. list_any (λ r. r.0 == number) tech.unlocks) (λ t r. list_any (is_of_unlock t r) edits) (first_tech old) (length old.recipes) old.techs new.techs index.exact index.unlockers.items unlockers.items is.unlockers
+    (subst (λ (l : List (Vec NodeId Global)). Widen l unlockers.items) unlockers_are second) alike.kept.techs alike.unlocks
+    (λ t r named few small. subst (λ (s : Shape). has_node (list_at unlockers.items r) (first_of s TechKind + t) ≡ true) (sym at)
+    (unlockers_noted t r named (subst (λ (s : Shape). t < s.techs) at few) (subst (λ (l : List (Vec NodeId Global)). r < length l) (sym unlockers_are) small))))
+
+-- lists written into a vector of as many
+pub written : (before now : List (Vec NodeId Global)) (lists : Vec (Vec NodeId Global) Global) → before ≡ lists.items → Widen before now → (with_items lists now).items ≡ now
+written before now lists are widen = with_items_is lists now (widen.as_long ∙ ap length are ∙ sym lists.ok.0)
+
+pub index_written : (old new : Game) (shape : Shape) (edits : List Edit) (index : Index) (makers_before makers_now unlockers_before unlockers_now : List (Vec NodeId Global))
+    → makers_before ≡ index.recipe_makers.items → unlockers_before ≡ index.unlockers.items → shape_of old ≡ shape → IsIndex old index → AlikeBut edits old new
+    → Widen makers_before makers_now → Widen unlockers_before unlockers_now
+    → ((r x : ℕ) → list_any (is_of_product r x) edits ≡ true → r < shape.recipes → x < length makers_before → has_node (list_at makers_now x) (first_of shape RecipeKind + r) ≡ true)
+    → ((t r : ℕ) → list_any (is_of_unlock t r) edits ≡ true → t < shape.techs → r < length unlockers_before → has_node (list_at unlockers_now r) (first_of shape TechKind + t) ≡ true)
+    → IsIndex new (record index { recipe_makers = with_items index.recipe_makers makers_now; unlockers = with_items index.unlockers unlockers_now; exact = false })
+index_written old new shape edits index makers_before makers_now unlockers_before unlockers_now makers_are unlockers_are at is alike first second makers_noted unlockers_noted =
+    let makers_is = written makers_before makers_now index.recipe_makers makers_are first in
+    let unlockers_is = written unlockers_before unlockers_now index.unlockers unlockers_are second in
+    index_noted old new shape edits index makers_before unlockers_before (with_items index.recipe_makers makers_now) (with_items index.unlockers unlockers_now) makers_are unlockers_are at is alike
+    (subst (Widen makers_before) (sym makers_is) first) (subst (Widen unlockers_before) (sym unlockers_is) second)
+    (λ r x named few small. ap (λ l. has_node (list_at l x) (first_of shape RecipeKind + r)) makers_is ∙ makers_noted r x named few small)
+    (λ t r named few small. ap (λ l. has_node (list_at l r) (first_of shape TechKind + t)) unlockers_is ∙ unlockers_noted t r named few small)
+
+pub on_ok : {T E : Type 0} {P Q : Type 0} (r : Result T E) → (P → Q) → OnOk r P → OnOk r Q
+on_ok (Ok value) f holds = f holds
+on_ok (Err fault) f holds = tt

@@ -27,7 +27,7 @@ unfolding Rising
 put_rising [] zero low n within rise least below above = (least, tt)
 put_rising (m ∷ nodes) zero low n within rise least below above =
     let first : n.0 < m.0 = above 0 (omega arith) (omega arith) in
-    (least, omega (arith, first), rise.1)
+    (least, (omega (arith, first), rise.1))
 put_rising [] (suc place) low n within rise least below above = absurd (omega (arith, within))
 put_rising (m ∷ nodes) (suc place) low n within rise least below above =
     let first : m.0 < n.0 = below 0 (omega arith) in

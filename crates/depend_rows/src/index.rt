@@ -414,17 +414,24 @@ fn putters(alloc: Global, game: &Game) -> Result<Vec<Vec<NodeId>>, NoMemory>
     )
 }
 
-fn recipe_makers(alloc: Global, game: &Game) -> Result<Vec<Vec<NodeId>>, NoMemory>
+fn recipes_by_good(alloc: Global, game: &Game) -> Result<Vec<Vec<NodeId>>, NoMemory>
     requires { IsSound game.now }
-    ensures { IfOk result (λ lists. HoldThose true (λ recipe good. gives recipe.products good) (first_recipe game.now) game.now.recipes (good_count game.now) lists.items) }
+    ensures { IfOk result (λ lists. AreLists (λ good. those (λ recipe. gives recipe.products good) (first_recipe game.now) game.now.recipes) (good_count game.now) lists.items) }
 {
-    let lists = lists_of(
+    lists_of(
         alloc,
         good_count(game),
         first_recipe(game),
         game.recipes.as_slice(),
         &Given,
-    )?;
+    )
+}
+
+fn recipe_makers(alloc: Global, game: &Game) -> Result<Vec<Vec<NodeId>>, NoMemory>
+    requires { IsSound game.now }
+    ensures { IfOk result (λ lists. HoldThose true (λ recipe good. gives recipe.products good) (first_recipe game.now) game.now.recipes (good_count game.now) lists.items) }
+{
+    let lists = recipes_by_good(alloc, game)?;
     Ok(lists)
 }
 
@@ -441,18 +448,25 @@ fn source_makers(alloc: Global, game: &Game) -> Result<Vec<Vec<NodeId>>, NoMemor
     )
 }
 
-fn unlockers(alloc: Global, game: &Game) -> Result<Vec<Vec<NodeId>>, NoMemory>
+fn techs_by_recipe(alloc: Global, game: &Game) -> Result<Vec<Vec<NodeId>>, NoMemory>
     requires { IsSound game.now }
-    ensures { IfOk result (λ lists. HoldThose true (λ tech number. list_any (λ r. r.0 == number) tech.unlocks) (first_tech game.now) game.now.techs (length game.now.recipes) lists.items) }
+    ensures { IfOk result (λ lists. AreLists (λ number. those (λ tech. list_any (λ r. r.0 == number) tech.unlocks) (first_tech game.now) game.now.techs) (length game.now.recipes) lists.items) }
 {
     let count = game.shape().recipes;
-    let lists = lists_of(
+    lists_of(
         alloc,
         count,
         first_tech(game),
         game.techs.as_slice(),
         &Unlocked,
-    )?;
+    )
+}
+
+fn unlockers(alloc: Global, game: &Game) -> Result<Vec<Vec<NodeId>>, NoMemory>
+    requires { IsSound game.now }
+    ensures { IfOk result (λ lists. HoldThose true (λ tech number. list_any (λ r. r.0 == number) tech.unlocks) (first_tech game.now) game.now.techs (length game.now.recipes) lists.items) }
+{
+    let lists = techs_by_recipe(alloc, game)?;
     Ok(lists)
 }
 

@@ -1,20 +1,15 @@
-use Rattle.std.proofs.Common.{◌≡◌, ◌∙◌, Bool, List, true, false, ap, refl, sym, subst}
+use Rattle.std.proofs.Common.{◌∙◌, List, ap, sym, subst}
 use Rattle.plan_base.specs.declared.ids.NodeId.{NodeId}
-use Rattle.std.specs.Prelude.{not}
 use Rattle.depend_rows.specs.Lists.{has_node, IsPlaceOf, Rise}
 use Rattle.depend_rows.proofs.PutLemmas.{put_keeps, put_rises}
 use Rattle.depend_rows.proofs.noting.put_node.Goals as goal
-
-turned : (b : Bool) → not b ≡ true → b ≡ false
-turned true is = absurd cc
-turned false is = refl
 
 pub returns-in_ok-insert-clause-rise : goal.returns-in_ok-insert-clause-rise
 returns-in_ok-insert-clause-rise c =
     subst Rise (sym c.in_ok-insert.ensures.items)
     (put_rises c.args.list.now.items c.place_of-place.result c.args.node c.requires
     (subst (λ (l : List NodeId). IsPlaceOf c.args.node.0 l c.place_of-place.result) c.as_slice.ensures.value c.place_of-place.ensures)
-    (ap (λ l. has_node l c.args.node.0) (sym c.as_slice-2.ensures.value) ∙ sym c.is_there.ensures ∙ turned c.is_there.result c.if-not-is_there.true))
+    (ap (λ l. has_node l c.args.node.0) (sym c.as_slice-2.ensures.value) ∙ sym c.is_there.ensures ∙ c.if-not-is_there.true))
 
 pub returns-in_ok-insert-clause-kept : goal.returns-in_ok-insert-clause-kept
 returns-in_ok-insert-clause-kept c = λ n there.

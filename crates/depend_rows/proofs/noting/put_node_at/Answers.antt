@@ -1,11 +1,14 @@
-use Rattle.std.proofs.Common.{◌≡◌, List, OnOk, sym, subst, true}
+use Rattle.std.proofs.Common.{◌≡◌, ◌∙◌, List, Vec, OnOk, ap, sym, subst, true}
+use Rattle.std.specs.Global.{Global}
 use Rattle.plan_base.specs.declared.ids.NodeId.{NodeId}
 use Rattle.depend_rows.specs.Lists.{has_node, Rise}
 use Rattle.depend_rows.proofs.PutLemmas.{list_put, widen_put}
 use Rattle.depend_rows.proofs.noting.put_node_at.Goals as goal
 
 pub returns-clause-widen : goal.returns-clause-widen
-returns-clause-widen c = widen_put c.args.lists.now c.args.number c.index-lists-number.result c.put_node.new.list c.requires.number c.index-lists-number.is c.put_node.ensures.rise c.put_node.ensures.kept
+returns-clause-widen c =
+    widen_put c.args.lists.now c.args.number c.index-lists-number.result c.put_node.new.list c.requires.number c.index-lists-number.is c.put_node.ensures.rise
+    (λ k there. c.put_node.ensures.kept k (ap (λ (l : Vec NodeId Global). has_node l.items k) (sym c.index-lists-number.is) ∙ there))
 
 pub returns-clause-put : goal.returns-clause-put
 returns-clause-put c =
