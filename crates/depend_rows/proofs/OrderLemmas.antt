@@ -57,7 +57,7 @@ unfolding Rising
 those_rise test [] first = tt
 those_rise test (x ∷ xs) first = rise_where (test x) first (those test (first + 1) xs) (those_rise test xs (first + 1))
 
-increasing : (low : ℕ) → (ks : List ℕ) → Rising low ks → (i : ℕ) → i + 1 < length ks → slice_index ks i < slice_index ks (i + 1)
+pub increasing : (low : ℕ) → (ks : List ℕ) → Rising low ks → (i : ℕ) → i + 1 < length ks → slice_index ks i < slice_index ks (i + 1)
 unfolding Rising
 increasing low [] rise i within = absurd (omega (arith, within))
 increasing low (k ∷ []) rise i within = absurd (omega (arith, within))

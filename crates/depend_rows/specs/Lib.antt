@@ -4,5 +4,6 @@ pub mod Doing
 pub mod Lists
 pub mod Kinds
 pub mod Indexed
+pub mod Alike
 pub mod Rows
 pub mod Touched
