@@ -1,8 +1,8 @@
 //! From the bytes of a dump to the typed game.
-ghost use Rattle.std.specs.Prelude.{◌≡◌, ◌≢◌, IfOk, MatchResult};
+ghost use Rattle.std.specs.Prelude.{◌≡◌, ◌≢◌, IfErr, IfOk, MatchResult};
 ghost use Rattle.dump_reader.specs.Draft.{draft_seen};
 ghost use Rattle.dump_reader.specs.Sound.{IsSoundDraft};
-ghost use Rattle.craft_reader.specs.Faults.{GivesDump};
+ghost use Rattle.craft_reader.specs.Faults.{GivesDump, IsBare};
 ghost use Rattle.game_types.specs.Sound.{ArePlain, IsSound};
 ghost use Rattle.game_reader.specs.Games.{HasDraft, HasFault, HasGame, finished, json_fault, resolved};
 
@@ -20,6 +20,7 @@ use std::alloc::Global;
 fn no_json(alloc: Global, fault: JsonFault) -> DumpFault
     ensures json { result.code ≢ DumpCode.NoMemory → result ≡ json_fault fault }
     ensures memory { fault.code ≡ JsonCode.NoMemory → result.code ≡ DumpCode.NoMemory }
+    ensures bare { IsBare result }
 {
     match fault.code {
         JsonCode::NoMemory => DumpFault::of_code(alloc, DumpCode::NoMemory),
@@ -31,6 +32,7 @@ fn no_json(alloc: Global, fault: JsonFault) -> DumpFault
 fn read_draft(alloc: Global, bytes: &[u8]) -> Result<Draft, DumpFault>
     ensures draft { MatchResult result (λ draft. HasDraft bytes.now (draft_seen draft)) (λ fault. fault.code ≢ DumpCode.NoMemory → HasFault bytes.now fault) }
     ensures sound { IfOk result (λ draft. IsSoundDraft (draft_seen draft)) }
+    ensures bare { IfErr result IsBare }
 {
     let Ok(wanted) = dump_wanted(alloc) else {
         return Err(DumpFault::of_code(alloc, DumpCode::NoMemory));
@@ -74,12 +76,17 @@ fn resolve(alloc: Global, draft: Draft) -> Result<Game, DumpFault>
 /// # Errors
 ///
 /// The first fault of the dump: of its JSON with its place, or else of a prototype with its section, name and field.
+/// `NoMemory` alone where memory could not be had.
 pub fn read_dump(alloc: Global, bytes: &[u8]) -> Result<Game, DumpFault>
     ensures sound { IfOk result IsSound }
     ensures game { MatchResult result (HasGame bytes.now) (λ fault. fault.code ≢ DumpCode.NoMemory → HasFault bytes.now fault) }
+    ensures bare { IfErr result IsBare }
 {
     match read_draft(alloc, bytes) {
-        Ok(draft) => resolve(alloc, draft),
+        Ok(draft) => match resolve(alloc, draft) {
+            Ok(game) => Ok(game),
+            Err(fault) => Err(fault.settled(alloc)),
+        },
         Err(fault) => Err(fault),
     }
 }
