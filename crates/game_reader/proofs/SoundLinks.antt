@@ -24,6 +24,7 @@ use Rattle.craft_reader.specs.declared.goods.RawProduct.{RawProduct}
 use Rattle.craft_reader.specs.declared.recipes.RawRecipe.{RawRecipe}
 use Rattle.craft_reader.specs.declared.technologies.RawTech.{RawTech}
 use Rattle.craft_reader.specs.Faults.{GivesDump, in_prototype}
+use Rattle.game_types.specs.Nodes.{node_limit}
 use Rattle.game_types.specs.declared.games.Game.{Game}
 use Rattle.game_types.specs.declared.goods.Fluid.{Fluid}
 use Rattle.game_types.specs.declared.goods.Item.{Item}
