@@ -195,7 +195,7 @@ fn add_sections(
 ///
 /// The first fault of the first pass, with its section and the name of its prototype.
 #[tactic(auto, unfolding(crate::specs::Dump::raw_game))]
-pub fn read_game(alloc: Global, tree: &SpanTree<'_>) -> Result<Draft, DumpFault>
+pub fn read_draft(alloc: Global, tree: &SpanTree<'_>) -> Result<Draft, DumpFault>
     ensures gives { GivesDump (raw_game (span_seen tree.now)) (seen_as draft_seen result) }
     ensures sound { IfOk result (λ draft. IsSoundDraft (draft_seen draft)) }
     ensures bare { IfErr result IsBare }

@@ -9,7 +9,7 @@ ghost use Rattle.game_reader.specs.Games.{HasDraft, HasFault, HasGame, finished,
 use crate::keys::dump_wanted;
 use crate::links::link;
 use craft_reader::{DumpCode, DumpFault};
-use dump_reader::{Draft, read_game};
+use dump_reader::{Draft, read_draft};
 use fluid_variants::split_fluids;
 use game_types::Game;
 use json_text::{JsonCode, JsonFault, read_spans};
@@ -29,7 +29,7 @@ fn no_json(alloc: Global, fault: JsonFault) -> DumpFault
 }
 
 // What the first pass makes of a dump.
-fn read_draft(alloc: Global, bytes: &[u8]) -> Result<Draft, DumpFault>
+fn draft_of_bytes(alloc: Global, bytes: &[u8]) -> Result<Draft, DumpFault>
     ensures draft { MatchResult result (λ draft. HasDraft bytes.now (draft_seen draft)) (λ fault. fault.code ≢ DumpCode.NoMemory → HasFault bytes.now fault) }
     ensures sound { IfOk result (λ draft. IsSoundDraft (draft_seen draft)) }
     ensures bare { IfErr result IsBare }
@@ -41,7 +41,7 @@ fn read_draft(alloc: Global, bytes: &[u8]) -> Result<Draft, DumpFault>
         Ok(tree) => tree,
         Err(fault) => return Err(no_json(alloc, fault)),
     };
-    read_game(alloc, &tree)
+    read_draft(alloc, &tree)
 }
 
 // A game with its launches, and with its fluids by temperature.
@@ -82,7 +82,7 @@ pub fn read_dump(alloc: Global, bytes: &[u8]) -> Result<Game, DumpFault>
     ensures game { MatchResult result (HasGame bytes.now) (λ fault. fault.code ≢ DumpCode.NoMemory → HasFault bytes.now fault) }
     ensures bare { IfErr result IsBare }
 {
-    match read_draft(alloc, bytes) {
+    match draft_of_bytes(alloc, bytes) {
         Ok(draft) => match resolve(alloc, draft) {
             Ok(game) => Ok(game),
             Err(fault) => Err(fault.settled(alloc)),
