@@ -1,0 +1,5 @@
+pub mod Loops
+pub mod Once
+pub mod Printed
+pub mod ReadingLemmas
+pub mod TreeLemmas
