@@ -1,8 +1,7 @@
 -- Loops that read an array or write one, value by value.
-use Rattle.std.proofs.Common.{◌≡◌, ◌∙◌, ◌<◌, ◌≤◌, ◌+◌, ℕ, List, [], ◌∷◌, ◌++◌, length, drop, get_or, refl, sym, ap, ap₂, subst, append_assoc, append-nil, arith, drop-cons, add-one}
-use Rattle.std.specs.Prelude.{map}
+use Rattle.std.proofs.Common.{◌≡◌, ◌∙◌, ◌<◌, ◌≤◌, ◌+◌, ℕ, List, [], ◌∷◌, ◌++◌, length, drop, get_or, sym, ap, ap₂, subst, append_assoc, append-nil, arith, drop-cons, add-one}
 use Rattle.std.proofs.lemmas.Grind.{common_steps}
-use Rattle.serde_json.specs.Data.{Data, Items, no_items, item}
+use Rattle.serde_json.specs.Data.{Data, Items, item}
 use Rattle.serde_json.specs.View.{items_view, view}
 use Rattle.serde_json.specs.declared.value.Value.{Value}
 use Rattle.certificate_file.specs.Said.{EachSays}

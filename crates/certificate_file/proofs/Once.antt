@@ -3,13 +3,13 @@ use Rattle.std.proofs.Common.{◌≡◌, ◌∙◌, ℕ, List, [], ◌∷◌, re
 use Rattle.std.specs.Prelude.{Option, Some, None}
 use Rattle.fractions.specs.Fraction.{Fraction}
 use Rattle.linear_table.specs.declared.Plan.{Plan}
-use Rattle.serde_json.specs.Data.{Data, Items, no_items, item, array, string, number, unsigned}
+use Rattle.serde_json.specs.Data.{Data, Items, no_items, item}
 use Rattle.serde_json.specs.Find.{get}
-use Rattle.certificate_file.specs.Said.{EachSays, Has, IsCertificate, IsLineOf, SaysCertificate, SaysClaim, SaysEntry, SaysFraction, SaysList, SaysPlan}
+use Rattle.certificate_file.specs.Said.{EachSays, Has, IsCertificate, SaysCertificate, SaysClaim, SaysEntry, SaysFraction, SaysList, SaysPlan}
 use Rattle.certificate_file.specs.declared.Claim.{Claim}
-use Rattle.certificate_file.specs.declared.Claim.TheVariants.{Planned, Infeasible, Unsettled}
+use Rattle.certificate_file.specs.declared.Claim.TheVariants.{Planned, Infeasible}
 use Rattle.certificate_file.specs.declared.CertEntry.{CertEntry}
-use Rattle.certificate_file.proofs.Printed.{printed_once}
+use Rattle.fractions.proofs.Printed.{printed_once}
 
 abbrev Once : {A : Type 0} → (Data → A → Type 0) → Type 0
 Once {A} Says = (d : Data) (x y : A) → Says d x → Says d y → x ≡ y

@@ -1,5 +1,5 @@
 -- What a member says is what its object says of it.
-use Rattle.std.proofs.Common.{◌≡◌, ◌∙◌, ℕ, List, refl, sym, ap, subst, codes}
+use Rattle.std.proofs.Common.{◌≡◌, ◌∙◌, ℕ, List, refl, sym, subst, codes}
 use Rattle.std.specs.Prelude.{Result, Ok, Err, MatchResult, Some}
 use Rattle.serde_json.specs.Data.{Data, number, unsigned}
 use Rattle.serde_json.specs.Find.{get}

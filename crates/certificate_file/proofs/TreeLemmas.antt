@@ -1,5 +1,5 @@
 -- The tree that is written says the entries, has no float and nests few levels.
-use Rattle.std.proofs.Common.{◌≡◌, ◌∙◌, ◌≤◌, ◌+◌, ℕ, List, [], ◌∷◌, refl, sym, subst, ap, ap₂, arith, false, codes, true}
+use Rattle.std.proofs.Common.{◌≡◌, ◌∙◌, ◌≤◌, ℕ, List, [], ◌∷◌, refl, sym, subst, ap, arith, false}
 use Rattle.std.specs.Prelude.{max, Result, Ok, Err, IfOk, Some}
 use Rattle.std.specs.Str.{IsUtf8}
 use Rattle.std.proofs.lemmas.Result.{IfOk-weaker}
@@ -8,11 +8,11 @@ use Rattle.serde_json.specs.Read.{read}
 use Rattle.fractions.specs.Fraction.{Fraction}
 use Rattle.fractions.specs.Print.{printed}
 use Rattle.linear_table.specs.declared.Plan.{Plan}
-use Rattle.serde_json.specs.Data.{Data, Items, array, object, string, number, unsigned, boolean, depth, items_depth}
+use Rattle.serde_json.specs.Data.{Data, array, object, string, depth, items_depth}
 use Rattle.serde_json.specs.Written.{compact_text, has_float, items_have_float}
 use Rattle.certificate_file.specs.Narrow.{AreNarrow, AreNarrowEntries, IsNarrowClaim, IsNarrowPlan}
-use Rattle.certificate_file.specs.Said.{EachSays, HaveLines, IsCertificate, IsLine, SaysCertificate, SaysClaim, SaysEntry, SaysFraction, SaysPlan}
-use Rattle.certificate_file.specs.Tree.{certificate_tree, entries_tree, entry_members, entry_tree, fractions_tree, plan_tree}
+use Rattle.certificate_file.specs.Said.{EachSays, HaveLines, IsCertificate, IsLine, SaysCertificate, SaysEntry, SaysFraction, SaysPlan}
+use Rattle.certificate_file.specs.Tree.{certificate_tree, entries_tree, entry_members, fractions_tree, plan_tree}
 use Rattle.certificate_file.specs.declared.Claim.{Claim}
 use Rattle.certificate_file.specs.declared.Claim.TheVariants.{Planned, Infeasible, Unsettled}
 use Rattle.certificate_file.specs.declared.CertEntry.{CertEntry}

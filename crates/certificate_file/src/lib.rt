@@ -2,17 +2,15 @@
 #![tactic(auto)]
 
 mod laws;
-mod stand_in;
 mod reading;
 mod writing;
 
-pub use laws::{read_back, certificates_say_one_list};
-pub use reading::read_cert;
-pub use writing::write_cert;
-
 use fractions::Ratio;
+pub use laws::{certificates_say_one_list, read_back};
 use linear_table::Plan;
 use plan_base::Items;
+pub use reading::read_cert;
+pub use writing::write_cert;
 
 /// The most that a line may be.
 pub const LAST_LINE: u64 = 100_000;

@@ -7,9 +7,8 @@ ghost use Rattle.serde_json.specs.View.{items_view, view};
 ghost use Rattle.certificate_file.specs.Reading.{Gives};
 ghost use Rattle.certificate_file.specs.Said.{EachSays, Has, IsCertificate, IsCertFault, SaysCertificate, SaysClaim, SaysEntry, SaysFraction, SaysList, SaysPlan, IsLineOf, IsJson};
 
-use crate::stand_in::read_printed;
 use crate::{CertEntry, CertFault, Claim, LAST_LINE};
-use fractions::Ratio;
+use fractions::{Ratio, read_printed};
 use linear_table::Plan;
 use plan_base::{Items, NoMemory};
 use serde_json::Value;

@@ -50,12 +50,7 @@ fn put(map: &mut Map<String, Value>, alloc: Global, key: &str, value: Value) -> 
     Ok(serde_json::put(map, alloc, key, value)?)
 }
 
-fn plan_object(
-    alloc: Global,
-    cost: Value,
-    prices: Value,
-    rates: Value,
-) -> Result<Value, NoMemory>
+fn plan_object(alloc: Global, cost: Value, prices: Value, rates: Value) -> Result<Value, NoMemory>
     ensures { IfOk result (λ value. view value ≡ object (member (codes "cost") (view cost) (member (codes "prices") (view prices) (member (codes "rates") (view rates) no_members)))) }
 {
     let mut map = Map::new(alloc);
