@@ -29,7 +29,7 @@ scaled_gives e x k f r h ex ek ef g = at e r h (subst (λ (j : ℕ). GivesScaled
     at e (Err NoUnit) h g = absurd g
     at e (Err NoNumber) h g = absurd g
 
-pub numeral_large : (f : NumeralFault) (n : Numeral) → numerals.Gives (Err f) n → limit ≤ʳ magnitude n
+pub numeral_large : (f : NumeralFault) (n : Numeral) → numerals.GivesNumeral (Err f) n → limit ≤ʳ magnitude n
 numeral_large NumeralTooLarge n g = g
 numeral_large NotNumeral n g = absurd g
 
