@@ -1,0 +1,4 @@
+//! Rows of fractions, kept as whole numbers over one denominator wherever that fits.
+#![tactic(auto)]
+
+mod tops;
