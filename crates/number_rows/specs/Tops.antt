@@ -1,5 +1,5 @@
 -- Whole numbers over one denominator.
-use Rattle.std.specs.Prelude.{◌≡◌, ℕ, ◌<◌, ◌≤◌, ◌*◌, ◌+◌, ◌^◌, ℤ, pos, ◌*ℤ◌, ◌-ℤ◌, List, length, slice_index_or, unsigned_abs}
+use Rattle.std.specs.Prelude.{◌≡◌, ℕ, ◌<◌, ◌≤◌, ◌*◌, ◌+◌, ◌^◌, ℤ, pos, ◌*ℤ◌, ◌-ℤ◌, neg_ℤ, Bool, if◌then◌else◌, List, length, slice_index_or, unsigned_abs}
 use Rattle.std.specs.Int.{◌∣◌}
 use Rattle.fractions.specs.Fraction.{Fraction, frac}
 use Rattle.linear_table.specs.Plans.{number_at}
@@ -25,6 +25,11 @@ pub record IsDividedBy (old : List ℤ) (d : ℕ) (new : List ℤ) : Type 0 wher
 pub record IsCombined (old : List ℤ) (scale : ℤ) (other : List ℤ) (factor : ℤ) (new : List ℤ) : Type 0 where
   pub length_is : length new ≡ length old
   pub numbers : (k : ℕ) → k < length old → top_at new k ≡ top_at old k *ℤ scale -ℤ top_at other k *ℤ factor
+
+-- each number is the old one, or its opposite
+pub record IsTurned (old : List ℤ) (turned : Bool) (new : List ℤ) : Type 0 where
+  pub length_is : length new ≡ length old
+  pub numbers : (k : ℕ) → k < length old → top_at new k ≡ (if turned then neg_ℤ (top_at old k) else top_at old k)
 
 -- the numbers are the whole numbers over the denominator
 pub record AreOver (tops : List ℤ) (bottom : ℕ) (row : List Fraction) : Type 0 where

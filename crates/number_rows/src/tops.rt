@@ -5,7 +5,7 @@ ghost use Rattle.std.specs.Bool.{OnTrue};
 ghost use Rattle.std.specs.Int.{◌∣◌};
 ghost use Rattle.fractions.specs.Fraction.{frac};
 ghost use Rattle.fractions.specs.Gcd.{gcd};
-ghost use Rattle.number_rows.specs.Tops.{top_at, AreWithin, DividesAll, IsDividedBy, IsCombined, AreOver, DividesInto};
+ghost use Rattle.number_rows.specs.Tops.{top_at, AreWithin, DividesAll, IsDividedBy, IsCombined, IsTurned, AreOver, DividesInto};
 
 use fractions::Ratio;
 
@@ -83,14 +83,24 @@ pub fn divide_all(tops: &mut [i64], divisor: u64) -> u64
     bound
 }
 
-/// Turns the sign of each number.
-pub fn negate_all(tops: &mut [i64])
+// Turns the sign of each number.
+fn negate_all(tops: &mut [i64])
     requires { (k : ℕ) → k < length tops.old → unsigned_abs (top_at tops.old k) < 2 ^ 62 }
     ensures length_is { length tops.new ≡ length tops.old }
     ensures numbers { (k : ℕ) → k < length tops.old → top_at tops.new k ≡ neg_ℤ (top_at tops.old k) }
 {
     for k in 0..tops.len() {
         tops[k] = -tops[k];
+    }
+}
+
+/// Turns the sign of each number, where that is called for.
+pub fn turn_all(tops: &mut [i64], turned: bool)
+    requires { (k : ℕ) → k < length tops.old → unsigned_abs (top_at tops.old k) < 2 ^ 62 }
+    ensures { IsTurned tops.old turned tops.new }
+{
+    if turned {
+        negate_all(tops);
     }
 }
 
@@ -123,6 +133,16 @@ pub fn combine(tops: &mut [i64], scale: i64, others: &[i64], factor: i64, bound:
         tops[k] = top;
     }
     most
+}
+
+/// The product of two numbers.
+pub fn long_product(a: i64, b: i64) -> i128
+    requires first { unsigned_abs a < 2 ^ 62 }
+    requires second { unsigned_abs b < 2 ^ 62 }
+    ensures value { result ≡ a *ℤ b }
+    ensures small { unsigned_abs result < 2 ^ 124 }
+{
+    a as i128 * b as i128
 }
 
 /// Whether the products of a bound and a scale, of another and a factor, and of a denominator and the scale keep within
