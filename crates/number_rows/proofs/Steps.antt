@@ -43,4 +43,3 @@ reduced_same old f pivot nil narrow =
       narrow = λ k h. less_fits_none (number_at old k) f (number_at pivot k) (narrow k h) nil;
       numbers = λ k h. less_none (number_at old k) f (number_at pivot k) nil;
     }
-

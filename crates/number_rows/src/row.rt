@@ -13,8 +13,8 @@ ghost use Rattle.number_rows.specs.Tops.{top_at};
 
 use crate::long::{divide_numbers, reduce_numbers};
 use crate::tops::{
-    LIMIT, combine, common_bottom, common_divisor, content, divide_all, keeps_within, long_product, quotient,
-    turn_all, write_numbers, write_tops,
+    LIMIT, combine, common_bottom, common_divisor, content, divide_all, keeps_within, long_product,
+    quotient, turn_all, write_numbers, write_tops,
 };
 use fractions::Ratio;
 use plan_base::NoMemory;
@@ -241,7 +241,13 @@ impl Row {
         let common = common_divisor(top.unsigned_abs(), pivot_row.bottom);
         let scale = pivot_row.bottom / common;
         let factor = quotient(top, common);
-        if !keeps_within(self.bound, scale, pivot_row.bound, factor.unsigned_abs(), self.bottom) {
+        if !keeps_within(
+            self.bound,
+            scale,
+            pivot_row.bound,
+            factor.unsigned_abs(),
+            self.bottom,
+        ) {
             return false;
         }
         self.bound = combine(

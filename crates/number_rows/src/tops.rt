@@ -115,7 +115,14 @@ fn combined(top: i64, scale: i64, other: i64, factor: i64) -> i64
 
 /// Makes of each number that number times the scale, less the other row's times the factor. Says how great their
 /// magnitudes are at most.
-pub fn combine(tops: &mut [i64], scale: i64, others: &[i64], factor: i64, bound: u64, other_bound: u64) -> u64
+pub fn combine(
+    tops: &mut [i64],
+    scale: i64,
+    others: &[i64],
+    factor: i64,
+    bound: u64,
+    other_bound: u64,
+) -> u64
     requires lengths { length tops.old ≡ length others.now }
     requires within { AreWithin tops.old bound }
     requires others_within { AreWithin others.now other_bound }
