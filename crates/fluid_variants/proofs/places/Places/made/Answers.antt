@@ -29,5 +29,5 @@ returns c =
     c.self.invariant c.self.view_is c.plain-plain.ensures c.saturating_sub-number.ensures
     (c.offset_in-offset.ensures ∙ ap (λ lists. variant_offset (list_at (contents lists) c.saturating_sub-number.result) c.args.made.now.at) c.as_slice.ensures.value)).1
 
-pub offset_in-requires : goal.offset_in-requires
-offset_in-requires c = subst (λ (ls : List (Vec Fraction Global)). All IsRising (contents ls)) (sym c.as_slice.ensures.value) c.self.invariant.rising
+pub offset_in-offset-requires : goal.offset_in-offset-requires
+offset_in-offset-requires c = subst (λ (ls : List (Vec Fraction Global)). All IsRising (contents ls)) (sym c.as_slice.ensures.value) c.self.invariant.rising
