@@ -8,7 +8,7 @@ use Rattle.std.specs.List.{list_all, range_with_len}
 use Rattle.std.specs.List.Sorted.{IsStrictlyIncreasing}
 use Rattle.std.proofs.lemmas.Bool.Decides.{nat_tests}
 use Rattle.std.proofs.lemmas.List.Elements.{All-cons, All-head, All-nil, All-tail}
-use Rattle.std.proofs.lemmas.List.FromFn.{get_or-range_with_len}
+use Rattle.std.proofs.lemmas.List.FromFn.{get_or-range_with_len, length-range_with_len}
 use Rattle.std.proofs.lemmas.Option.{slice_get-get_or}
 use Rattle.std.proofs.lemmas.Nat.Bits.{bit_at-lt, bit_at-pow_other, bit_at-pow_same, bit_at-zero, bit_at_and, bit_at_or, shr_and_one}
 use Rattle.plan_base.specs.declared.ids.NodeId.{NodeId}
@@ -123,7 +123,7 @@ bits_more first nodes i x words new within is above put before = record {
 pub bits_last : (first : ℕ) (nodes : List NodeId) (i : ℕ) (words : List ℕ) → length nodes ≤ i → BitsSoFar first nodes i words → IsWords first nodes words
 bits_last first nodes i words end before n = sym (before.each n) ∙ ap (λ l. has_bit first words n || has_node l n) (drop_all nodes i end) ∙ either_none (has_bit first words n)
 
-zeros : (count w : ℕ) → get_or (replicate count 0) w 0 ≡ 0
+zeros : (count w : ℕ) → ◌≡◌ {A = ℕ} (get_or (replicate count 0) w 0) 0
 zeros zero w = refl
 zeros (suc count) zero = refl
 zeros (suc count) (suc w) = zeros count w
@@ -132,6 +132,11 @@ pub clear_words : (count p : ℕ) → bit_in (replicate count 0) p ≡ false
 clear_words count p = ap (λ n. bit_at n (p % 64) == 1) (zeros count (p / 64)) ∙ ap (λ n. n == 1) (bit_at-zero (p % 64))
 
 -- ---- words of lists, list by list
+pub words_is : (lists : List (Vec ℕ Global)) (place : ℕ) (list : Vec ℕ Global) → place < length lists → list ≡ get_or lists place list → list.items ≡ words_at lists place
+words_is [] place list within is = absurd (omega (arith, within))
+words_is (first ∷ lists) zero list within is = ap (λ (l : Vec ℕ Global). l.items) is
+words_is (first ∷ lists) (suc place) list within is = words_is lists place list (omega (arith, within)) is
+
 words_all : (lists : List (Vec ℕ Global)) (list : Vec ℕ Global) (k : ℕ) → k < length lists → words_at (lists ++ list ∷ []) k ≡ words_at lists k
 words_all [] list k within = absurd (omega (arith, within))
 words_all (l ∷ lists) list zero within = refl
@@ -232,7 +237,7 @@ none_clear n from (suc count) =
     let none : is_set 0 from ≡ false = ap (λ m. m == 1) (bit_at-zero from) in
     ap (λ b. if b then node n ∷ those (is_set 0) (n + 1) (range_with_len (from + 1) count) else those (is_set 0) (n + 1) (range_with_len (from + 1) count)) none ∙ none_clear (n + 1) (from + 1) count
 
-none_set : (first word : ℕ) → word ≡ 0 → in_word first word ≡ []
+pub none_set : (first word : ℕ) → word ≡ 0 → in_word first word ≡ []
 unfolding in_word
 none_set first word is = ap (λ w. those (is_set w) first (range_with_len 0 64)) is ∙ none_clear first 0 64
 
@@ -295,47 +300,66 @@ words_rise first (word ∷ words) =
 pub words_increase : (first : ℕ) (words : List ℕ) → Rise (in_words first words)
 words_increase first words = increasing first (numbers_of (in_words first words)) (words_rise first words)
 
+range_at : (count first word bit k : ℕ) → k ≡ first + bit → bit < count → has_node (those (is_set word) first (range_with_len 0 count)) k ≡ is_set word bit
+range_at count first word bit k at few =
+    at_those (is_set word) (range_with_len 0 count) first bit k at
+    ∙ ap (passes (is_set word)) (slice_get-get_or (range_with_len 0 count) bit 0 (subst (λ n. bit < n) (sym (length-range_with_len 0 count)) few))
+    ∙ ap (is_set word) (let same : get_or (range_with_len 0 count) bit 0 ≡ bit = get_or-range_with_len 0 count bit 0 few ∙ omega arith in same)
+
+range_past : (count first word k : ℕ) → first + count ≤ k → has_node (those (is_set word) first (range_with_len 0 count)) k ≡ false
+range_past count first word k past =
+    sym (past_those (is_set word) (range_with_len 0 count) first (k - first) k (omega (arith, past)) (subst (λ n. n ≤ k - first) (sym (length-range_with_len 0 count)) (omega (arith, past))))
+
 in_word_at : (first word bit k : ℕ) → k ≡ first + bit → bit < 64 → has_node (in_word first word) k ≡ is_set word bit
 unfolding in_word
-in_word_at first word bit k at few = at_those (is_set word) (range_with_len 0 64) first bit k at ∙ ap (passes (is_set word)) (slice_get-get_or (range_with_len 0 64) bit 0 few) ∙ ap (is_set word) (get_or-range_with_len 0 64 bit 0 few)
+in_word_at first word bit k at few = range_at 64 first word bit k at few
 
 in_word_past : (first word k : ℕ) → first + 64 ≤ k → has_node (in_word first word) k ≡ false
 unfolding in_word
-in_word_past first word k past = sym (past_those (is_set word) (range_with_len 0 64) first (k - first) k (omega (arith, past)) (omega (arith, past)))
+in_word_past first word k past = range_past 64 first word k past
 
 in_word_before : (first word k : ℕ) → k < first → has_node (in_word first word) k ≡ false
 unfolding in_word
 in_word_before first word k below = below_those (is_set word) (range_with_len 0 64) first k below
 
+has_append : (xs ys : List NodeId) (k : ℕ) → has_node (xs ++ ys) k ≡ (has_node xs k || has_node ys k)
+has_append [] ys k = refl
+has_append (x ∷ xs) ys k = ap (λ b. (x.0 == k) || b) (has_append xs ys k) ∙ sym (either_assoc (x.0 == k) (has_node xs k) (has_node ys k))
+  where
+    either_assoc : (a b c : Bool) → ((a || b) || c) ≡ (a || (b || c))
+    either_assoc true b c = refl
+    either_assoc false b c = refl
+
 words_before : (words : List ℕ) (first k : ℕ) → k < first → has_node (in_words first words) k ≡ false
 unfolding in_words
 words_before [] first k below = refl
 words_before (word ∷ words) first k below =
-    is_among-append (numbers_of (in_word first word)) (numbers_of (in_words (first + 64) words)) k
+    has_append (in_word first word) (in_words (first + 64) words) k
     ∙ ap (λ b. b || has_node (in_words (first + 64) words) k) (in_word_before first word k below) ∙ words_before words (first + 64) k (omega (arith, below))
+
+by_word : (word : ℕ) (words : List ℕ) (first p : ℕ) → ((q : ℕ) → has_node (in_words (first + 64) words) (first + 64 + q) ≡ bit_in words q) → (b : Bool) → nat_lt p 64 ≡ b
+    → (has_node (in_word first word) (first + p) || has_node (in_words (first + 64) words) (first + p)) ≡ bit_in (word ∷ words) p
+by_word word words first p later true is =
+    let few : p < 64 = grind (arith, nat_tests, is) in
+    let here : p / 64 ≡ 0 = omega (arith, few) in
+    let bit : p % 64 ≡ p = omega (arith, few) in
+    ap (λ b. b || has_node (in_words (first + 64) words) (first + p)) (in_word_at first word p (first + p) refl few)
+    ∙ ap (λ b. is_set word p || b) (words_before words (first + 64) (first + p) (omega (arith, few)))
+    ∙ either_none (is_set word p)
+    ∙ ap (λ w. bit_at (get_or (word ∷ words) w 0) p == 1) (sym here) ∙ ap (λ n. bit_at (get_or (word ∷ words) (p / 64) 0) n == 1) (sym bit)
+by_word word words first p later false is =
+    let past : 64 ≤ p = grind (arith, nat_tests, is) in
+    let at : first + p ≡ first + 64 + (p - 64) = omega (arith, past) in
+    let there : p / 64 ≡ suc ((p - 64) / 64) = omega (arith, past) in
+    let bit : (p - 64) % 64 ≡ p % 64 = omega (arith, past) in
+    ap (λ b. b || has_node (in_words (first + 64) words) (first + p)) (in_word_past first word (first + p) (omega (arith, past)))
+    ∙ ap (has_node (in_words (first + 64) words)) at ∙ later (p - 64)
+    ∙ ap (λ n. bit_at (get_or words ((p - 64) / 64) 0) n == 1) bit ∙ ap (λ w. bit_at (get_or (word ∷ words) w 0) (p % 64) == 1) (sym there)
 
 has_in_words : (words : List ℕ) (first p : ℕ) → has_node (in_words first words) (first + p) ≡ bit_in words p
 unfolding in_words
 has_in_words [] first p = sym (ap (λ n. n == 1) (bit_at-zero (p % 64)))
-has_in_words (word ∷ words) first p = is_among-append (numbers_of (in_word first word)) (numbers_of (in_words (first + 64) words)) (first + p) ∙ by_word (nat_lt p 64) refl
-  where
-    by_word : (b : Bool) → nat_lt p 64 ≡ b → (has_node (in_word first word) (first + p) || has_node (in_words (first + 64) words) (first + p)) ≡ bit_in (word ∷ words) p
-    by_word true is =
-        let few : p < 64 = grind (arith, nat_tests, is) in
-        let here : p / 64 ≡ 0 = omega (arith, few) in
-        let bit : p % 64 ≡ p = omega (arith, few) in
-        ap (λ b. b || has_node (in_words (first + 64) words) (first + p)) (in_word_at first word p (first + p) refl few)
-        ∙ ap (λ b. is_set word p || b) (words_before words (first + 64) (first + p) (omega (arith, few)))
-        ∙ either_none (is_set word p)
-        ∙ ap (λ w. bit_at (get_or (word ∷ words) w 0) p == 1) (sym here) ∙ ap (λ n. bit_at (get_or (word ∷ words) (p / 64) 0) n == 1) (sym bit)
-    by_word false is =
-        let past : 64 ≤ p = grind (arith, nat_tests, is) in
-        let at : first + p ≡ first + 64 + (p - 64) = omega (arith, past) in
-        let there : p / 64 ≡ suc ((p - 64) / 64) = omega (arith, past) in
-        let bit : (p - 64) % 64 ≡ p % 64 = omega (arith, past) in
-        ap (λ b. b || has_node (in_words (first + 64) words) (first + p)) (in_word_past first word (first + p) (omega (arith, past)))
-        ∙ ap (has_node (in_words (first + 64) words)) at ∙ has_in_words words (first + 64) (p - 64)
-        ∙ ap (λ n. bit_at (get_or words ((p - 64) / 64) 0) n == 1) bit ∙ ap (λ w. bit_at (get_or (word ∷ words) w 0) (p % 64) == 1) (sym there)
+has_in_words (word ∷ words) first p = has_append (in_word first word) (in_words (first + 64) words) (first + p) ∙ by_word word words first p (λ q. has_in_words words (first + 64) q) (nat_lt p 64) refl
 
 pub nodes_are_words : (first : ℕ) (words : List ℕ) → IsWords first (in_words first words) words
 nodes_are_words first words n = by_first (nat_lt n first) refl
@@ -349,11 +373,22 @@ nodes_are_words first words n = by_first (nat_lt n first) refl
 
 -- ---- what words have in common
 both_bits : (a b : ℕ) → a < 2 → b < 2 → (min a b == 1) ≡ ((a == 1) && (b == 1))
-both_bits zero b x y = refl
-both_bits (suc zero) zero x y = refl
-both_bits (suc zero) (suc zero) x y = refl
-both_bits (suc zero) (suc (suc b)) x y = absurd (omega (arith, y))
-both_bits (suc (suc a)) b x y = absurd (omega (arith, x))
+both_bits a b x y = by_tests (a == 1) (b == 1) refl refl
+  where
+    by_tests : (p q : Bool) → (a == 1) ≡ p → (b == 1) ≡ q → (min a b == 1) ≡ (p && q)
+    by_tests true true e f =
+        let first : a ≡ 1 = grind (arith, e) in
+        let second : b ≡ 1 = grind (arith, f) in
+        let both : min a b ≡ 1 = omega (arith, first, second) in
+        grind (arith, both)
+    by_tests true false e f =
+        let none : b ≡ 0 = grind (arith, f, y) in
+        let neither : min a b ≡ 0 = omega (arith, none) in
+        grind (arith, neither)
+    by_tests false q e f =
+        let none : a ≡ 0 = grind (arith, e, x) in
+        let neither : min a b ≡ 0 = omega (arith, none) in
+        grind (arith, neither)
 
 pub bits_common : (words others kept : List ℕ) → ((w : ℕ) → get_or kept w 0 ≡ bit_and (get_or words w 0) (get_or others w 0)) → (first n : ℕ) → has_bit first kept n ≡ (has_bit first words n && has_bit first others n)
 bits_common words others kept are first n = by_first (nat_lt n first)

@@ -1,5 +1,6 @@
 //! Lists of nodes as words, with a bit for each node from a first one on: what long lists have in common is found by `&`.
-ghost use Rattle.std.specs.Prelude.{◌≡◌, ℕ, ◌+◌, ◌*◌, ◌/◌, ◌<◌, ◌≤◌, ◌^◌, ◌==◌, ◌||◌, [], All, IfOk, OnOk, false, true, length, nat_lt, slice_index_or};
+ghost use Rattle.std.specs.Prelude.{◌≡◌, ℕ, ◌+◌, ◌*◌, ◌/◌, ◌<◌, ◌≤◌, ◌^◌, ◌==◌, ◌||◌, ◌++◌, ◌∷◌, [], All, IfOk, OnOk, false, true, if◌then◌else◌, length, nat_lt, slice_index_or};
+ghost use Rattle.std.specs.Int.{bit_at};
 ghost use Rattle.std.specs.Int.Bits.{bit_and};
 ghost use Rattle.std.specs.List.{list_all};
 ghost use Rattle.depend_rows.specs.Lists.{AreCommon, Rise, has_node, list_at};
@@ -96,17 +97,43 @@ pub fn words_of_all(
 
 // ---- nodes of words
 
+fn is_set(word: u64, bit: u32) -> bool
+    requires { bit < 64 }
+    ensures { result ≡ (bit_at word bit == 1) }
+{
+    (word >> bit) & 1 == 1
+}
+
+// Appends a node, where it is wanted.
+fn push_where(nodes: &mut Vec<NodeId>, wanted: bool, node: NodeId) -> Result<(), NoMemory>
+    ensures { OnOk result (nodes.new.items ≡ (if wanted then nodes.old.items ++ node ∷ [] else nodes.old.items)) }
+{
+    if wanted {
+        nodes.push(node)?;
+    }
+    Ok(())
+}
+
 // Appends the nodes of the bits of a word, of which the lowest is that of a first one.
-fn push_word(nodes: &mut Vec<NodeId>, first: u32, word: u64) -> Result<(), NoMemory>
+fn push_bits(nodes: &mut Vec<NodeId>, first: u32, word: u64) -> Result<(), NoMemory>
     requires { first + 64 ≤ 2 ^ 32 }
     ensures { OnOk result (nodes.new.items ≡ nodes.old.items ++ in_word first word) }
 {
     for bit in 0..64u32 {
-        if (word >> bit) & 1 == 1 {
-            nodes.push(NodeId(first + bit))?;
-        }
+        push_where(nodes, is_set(word, bit), NodeId(first + bit))?;
     }
     Ok(())
+}
+
+// The same. A word with no bit takes no time.
+fn push_word(nodes: &mut Vec<NodeId>, first: u32, word: u64) -> Result<(), NoMemory>
+    requires { first + 64 ≤ 2 ^ 32 }
+    ensures { OnOk result (nodes.new.items ≡ nodes.old.items ++ in_word first word) }
+{
+    if word == 0 {
+        return Ok(());
+    }
+    push_bits(nodes, first, word)
 }
 
 // The nodes of the bits of words.
@@ -117,9 +144,7 @@ fn nodes_of(alloc: Global, first: u32, words: &[u64]) -> Result<Vec<NodeId>, NoM
     let mut nodes = Vec::new(alloc);
     for place in 0..words.len() {
         let word = words[place];
-        if word != 0 {
-            push_word(&mut nodes, first + 64 * place as u32, word)?;
-        }
+        push_word(&mut nodes, first + 64 * place as u32, word)?;
     }
     Ok(nodes)
 }
