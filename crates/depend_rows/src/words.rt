@@ -60,12 +60,7 @@ fn words_with(
 }
 
 // The words of a list that has as many nodes as there are words, and none of a shorter one.
-fn words_of(
-    alloc: Global,
-    count: usize,
-    first: u32,
-    nodes: &[NodeId],
-) -> Result<Vec<u64>, NoMemory>
+fn words_of(alloc: Global, count: usize, first: u32, nodes: &[NodeId]) -> Result<Vec<u64>, NoMemory>
     ensures words { IfOk result (λ words. 0 < length words.items → IsWords first nodes.now words.items) }
     ensures few { IfOk result (λ words. length words.items ≤ count) }
 {
@@ -188,11 +183,7 @@ fn have_words(words: &[Vec<u64>], numbers: &[u32]) -> bool
 }
 
 // The words that are common to the lists of all these numbers.
-fn common_of_all(
-    alloc: Global,
-    words: &[Vec<u64>],
-    numbers: &[u32],
-) -> Result<Vec<u64>, NoMemory>
+fn common_of_all(alloc: Global, words: &[Vec<u64>], numbers: &[u32]) -> Result<Vec<u64>, NoMemory>
     requires within { All (λ k. k < length words.now) numbers.now }
     requires some { 0 < length numbers.now }
     ensures bits { IfOk result (λ kept. (first k : ℕ) → has_bit first kept.items k ≡ list_all (λ j. has_bit first (words_at words.now j) k) numbers.now) }
