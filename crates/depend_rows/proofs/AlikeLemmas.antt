@@ -32,6 +32,7 @@ use Rattle.depend_rows.specs.Indexed.{IsIndex}
 use Rattle.depend_rows.specs.Doing.{burning_fluids, is_machine, placers}
 use Rattle.depend_rows.specs.Kinds.{crafts_all_of, crafts_alone, has_category, is_drill_of, is_fuel_of, is_lab, is_recipe, takes}
 use Rattle.depend_rows.specs.Lists.{has_node, is_among, list_at, AreLists, AreMarks, HoldThose, Rise, Widen}
+use Rattle.depend_rows.specs.Words.{AreWords}
 use Rattle.depend_rows.specs.Making.{first_machine, first_recipe, first_source, first_tech, good_count, leavers, putters, puts_out, variants}
 use Rattle.depend_rows.specs.Members.{those}
 use Rattle.depend_rows.specs.declared.index.Index.{Index}
@@ -266,6 +267,7 @@ module _ (old new : Game) (kept : KeepsGame old new) where
     labs = is.labs ∙ sym (machines_same (λ machine. is_lab machine.kind));
     takers = lists_same (λ good. those (λ machine. takes machine.kind good) (first_machine old) old.machines) (λ good. those (λ machine. takes machine.kind good) (first_machine new) new.machines) (length old.items) (length new.items)
         index.takers.items (λ good. machines_same (λ machine. takes machine.kind good)) item_count is.takers;
+    taker_words = subst (λ n. AreWords n index.takers.items index.taker_words.items) (sym first_machine_same) is.taker_words;
     crafting = subst (λ (character : Character). AreMarks character.crafting index.crafting.items) (sym kept.character) is.crafting;
     mining = subst (λ (character : Character). AreMarks character.mining index.mining.items) (sym kept.character) is.mining;
   }

@@ -20,3 +20,4 @@ pub mod AmongLemmas
 pub mod NoteLemmas
 pub mod AlikeLemmas
 pub mod AlikeLaw
+pub mod WordLemmas

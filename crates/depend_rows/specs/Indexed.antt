@@ -10,6 +10,7 @@ use Rattle.depend_rows.specs.Making.{first_machine, first_recipe, first_source, 
 use Rattle.depend_rows.specs.Doing.{burning_fluids, placers}
 use Rattle.depend_rows.specs.Kinds.{crafts_all_of, crafts_alone, is_drill_of, is_fuel_of, is_lab, takes}
 use Rattle.depend_rows.specs.Lists.{AreLists, AreMarks, HoldThose}
+use Rattle.depend_rows.specs.Words.{AreWords}
 
 pub record IsIndex (g : Game) (index : Index) : Type 0 where
   pub leavers : AreLists (leavers g) (good_count g) index.leavers.items
@@ -27,5 +28,6 @@ pub record IsIndex (g : Game) (index : Index) : Type 0 where
   pub burning : index.burning.items ≡ burning_fluids g
   pub labs : index.labs.items ≡ those (λ machine. is_lab machine.kind) (first_machine g) g.machines
   pub takers : AreLists (λ good. those (λ machine. takes machine.kind good) (first_machine g) g.machines) (length g.items) index.takers.items
+  pub taker_words : AreWords (first_machine g) index.takers.items index.taker_words.items
   pub crafting : AreMarks g.character.crafting index.crafting.items
   pub mining : AreMarks g.character.mining index.mining.items

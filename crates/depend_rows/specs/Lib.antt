@@ -2,6 +2,7 @@ pub mod Members
 pub mod Making
 pub mod Doing
 pub mod Lists
+pub mod Words
 pub mod Kinds
 pub mod Indexed
 pub mod Alike

@@ -10,6 +10,7 @@ ghost use Rattle.depend_rows.specs.Making.{first_machine, first_recipe, first_so
 ghost use Rattle.depend_rows.specs.Doing.{burning_fluids, is_machine, names_good, placers};
 ghost use Rattle.depend_rows.specs.Kinds.{crafts_all_of, crafts_alone, has_category, is_drill_of, is_fuel_of, takes};
 ghost use Rattle.depend_rows.specs.Lists.{AreLists, HoldThose, is_among};
+ghost use Rattle.depend_rows.specs.Words.{AreWords};
 
 use crate::goods::is_expected;
 use crate::lists::{Keys, lists_of};
@@ -19,6 +20,7 @@ use crate::places::{
     first_fluid, first_machine, first_recipe, first_source, first_tech, good_count,
 };
 use crate::techs::all_labs;
+use crate::words::words_of_all;
 use game_types::{
     Fluid, Fuel, Game, Item, Machine, MachineKind, Product, Recipe, Source, Tech, holds,
     is_positive,
@@ -61,6 +63,8 @@ pub struct Index {
     pub labs: Vec<NodeId>,
     /// For each item, the labs that take it.
     pub takers: Vec<Vec<NodeId>>,
+    /// For each item, those labs as bits, from the first machine on, where they are many.
+    pub taker_words: Vec<Vec<u64>>,
     /// For each category, whether the character crafts its recipes.
     pub crafting: Vec<bool>,
     /// For each category, whether the character mines its sources.
@@ -546,6 +550,19 @@ fn takers(alloc: Global, game: &Game) -> Result<Vec<Vec<NodeId>>, NoMemory>
     )
 }
 
+// A word holds 64 machines.
+fn words_of_takers(
+    alloc: Global,
+    game: &Game,
+    takers: &[Vec<NodeId>],
+) -> Result<Vec<Vec<u64>>, NoMemory>
+    requires { IsSound game.now }
+    ensures { IfOk result (λ words. AreWords (first_machine game.now) takers.now words.items) }
+{
+    let count = game.machines.len() / 64 + 1;
+    words_of_all(alloc, count, first_machine(game), takers)
+}
+
 impl Index {
     ghost use Rattle.depend_rows.specs.Indexed.{IsIndex};
 
@@ -573,6 +590,7 @@ impl Index {
         let burning = burning_fluids(alloc, game)?;
         let labs = all_labs(alloc, game)?;
         let takers = takers(alloc, game)?;
+        let taker_words = words_of_takers(alloc, game, takers.as_slice())?;
         let categories = game.categories.len();
         let crafting = marks_of(alloc, categories, game.character.crafting.as_slice())?;
         let mining = marks_of(alloc, categories, game.character.mining.as_slice())?;
@@ -593,6 +611,7 @@ impl Index {
             burning,
             labs,
             takers,
+            taker_words,
             crafting,
             mining,
         })

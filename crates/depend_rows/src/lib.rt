@@ -16,6 +16,7 @@ mod rows;
 mod techs;
 mod touching;
 mod unions;
+mod words;
 
 pub use index::Index;
 pub use rows::{
