@@ -39,8 +39,8 @@ use Rattle.depend_rows.proofs.AmongLemmas.{at_those, below_those}
 use Rattle.depend_rows.proofs.OrderLemmas.{those_same}
 
 -- ---- games alike
-pub alike_same : (g : Game) → AlikeBut [] g g
-alike_same g = record {
+pub alike_same : (edits : List Edit) (g : Game) → AlikeBut edits g g
+alike_same edits g = record {
   kept = record { items = refl; fluids = refl; sources = refl; machines = refl; character = refl; categories = refl; recipes = refl; techs = refl };
   products = λ r x _. refl;
   unlocks = λ t r _. refl;

@@ -102,11 +102,7 @@ fn note_unlock(lists: &mut [Vec<NodeId>], shape: &Shape, edit: &Edit) -> Result<
 }
 
 // Notes the products that edits name.
-fn note_products(
-    lists: &mut [Vec<NodeId>],
-    shape: &Shape,
-    edits: &[Edit],
-) -> Result<(), NoMemory>
+fn note_products(lists: &mut [Vec<NodeId>], shape: &Shape, edits: &[Edit]) -> Result<(), NoMemory>
     requires few { node_count shape.now < 2 ^ 32 }
     requires rise { (k : ℕ) → k < length lists.old → Rise (list_at lists.old k) }
     ensures widen { Widen lists.old lists.new }

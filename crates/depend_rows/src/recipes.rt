@@ -10,8 +10,8 @@ ghost use Rattle.depend_rows.specs.Kinds.{is_drill_of};
 ghost use Rattle.depend_rows.specs.Members.{named, those};
 ghost use Rattle.depend_rows.specs.Making.{bounded_group, bounded_groups, crafters, crafters_by, first_machine, fits, free_good, good_count, ingredients, is_free, miners, recipe_row, source_row};
 
-use crate::goods::is_base;
 use crate::among::techs_unlocking;
+use crate::goods::is_base;
 use crate::index::Index;
 use crate::lists::list_at;
 use crate::marks::is_marked;
