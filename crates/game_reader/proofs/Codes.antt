@@ -2,7 +2,7 @@
 use Rattle.std.proofs.Common.{◌≡◌, ◌∙◌, ℕ, List, [], ◌∷◌, Option, Some, None, Ok, Err, Result, Bool, true, false, ap, subst}
 use Rattle.std.specs.Prelude.{if◌then◌else◌, nat_lt}
 use Rattle.std.specs.Str.{is_utf8}
-use Rattle.std.specs.Prelude.{MatchResult, ◌≢◌}
+use Rattle.std.specs.Prelude.{IfOk, MatchResult, ◌≢◌}
 use Rattle.json_text.specs.Kept.{Kept}
 use Rattle.json_text.specs.Accepted.{IsAccepted}
 use Rattle.prototype_fields.specs.declared.fault.FieldCode.{FieldCode}
@@ -20,6 +20,7 @@ use Rattle.dump_reader.specs.Draft.{RawGame, draft_seen, empty_game}
 use Rattle.dump_reader.specs.Dump.{◌▷◌, each_after, game_in, member_of, members_in, named_of, no_object, prototype_of, raw_game, section_in, section_of, sections}
 use Rattle.dump_reader.specs.Sections.{section_text}
 use Rattle.game_types.specs.declared.games.Game.{Game}
+use Rattle.game_types.specs.Sound.{IsSound}
 use Rattle.plan_base.specs.Shape.{node_count}
 use Rattle.game_types.specs.Nodes.{node_limit, shape_of}
 use Rattle.rocket_launches.specs.Launches.{flight_beyond, flight_taken, launch_fault, unless_some, with_launches}
@@ -183,3 +184,17 @@ pub game_answered : (dump : List ℕ) (draft : RawGame) → HasDraft dump draft 
 game_answered dump draft had (Ok game) gives = record { tree = had.tree; accepted = had.accepted; given_is = game_is had.tree draft (Ok game) had.draft_is gives }
 game_answered dump draft had (Err fault) gives =
     λ memory. second_fault dump had.tree draft fault had.draft_is (gives memory) (λ is. record { tree = had.tree; accepted = had.accepted; given_is = is })
+
+-- what is said of an answer holds of it as it is given
+abbrev pub IsGivenAs : Result Game DumpFault → Result Game DumpFault → Type 0
+IsGivenAs answer given = MatchResult given (λ game. answer ≡ Ok game) (λ fault. fault.code ≢ d.NoMemory → answer ≡ Err fault)
+
+pub settled_answered : (dump : List ℕ) (answer given : Result Game DumpFault) → MatchResult answer (HasGame dump) (λ fault. fault.code ≢ d.NoMemory → HasFault dump fault)
+    → IsGivenAs answer given → MatchResult given (HasGame dump) (λ fault. fault.code ≢ d.NoMemory → HasFault dump fault)
+settled_answered dump answer (Ok game) holds same = subst (λ (r : Result Game DumpFault). MatchResult r (HasGame dump) (λ fault. fault.code ≢ d.NoMemory → HasFault dump fault)) same holds
+settled_answered dump answer (Err fault) holds same =
+    λ memory. subst (λ (r : Result Game DumpFault). MatchResult r (HasGame dump) (λ fault. fault.code ≢ d.NoMemory → HasFault dump fault)) (same memory) holds memory
+
+pub settled_sound : (answer given : Result Game DumpFault) → IfOk answer IsSound → IsGivenAs answer given → IfOk given IsSound
+settled_sound answer (Ok game) holds same = subst (λ (r : Result Game DumpFault). IfOk r IsSound) same holds
+settled_sound answer (Err fault) holds same = tt

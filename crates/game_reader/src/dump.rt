@@ -1,5 +1,5 @@
 //! From the bytes of a dump to the typed game.
-ghost use Rattle.std.specs.Prelude.{◌≡◌, ◌≢◌, IfErr, IfOk, MatchResult};
+ghost use Rattle.std.specs.Prelude.{◌≡◌, ◌≢◌, Err, IfErr, IfOk, MatchResult, Ok};
 ghost use Rattle.dump_reader.specs.Draft.{draft_seen};
 ghost use Rattle.dump_reader.specs.Sound.{IsSoundDraft};
 ghost use Rattle.craft_reader.specs.Faults.{GivesDump, IsBare};
@@ -71,6 +71,17 @@ fn resolve(alloc: Global, draft: Draft) -> Result<Game, DumpFault>
     }
 }
 
+// An answer as the call gives it: of want of memory nothing else is said.
+fn settled(alloc: Global, answer: Result<Game, DumpFault>) -> Result<Game, DumpFault>
+    ensures same { MatchResult result (λ game. answer ≡ Ok game) (λ fault. fault.code ≢ DumpCode.NoMemory → answer ≡ Err fault) }
+    ensures bare { IfErr result IsBare }
+{
+    match answer {
+        Ok(game) => Ok(game),
+        Err(fault) => Err(fault.settled(alloc)),
+    }
+}
+
 /// The game of a dump.
 ///
 /// # Errors
@@ -83,10 +94,7 @@ pub fn read_dump(alloc: Global, bytes: &[u8]) -> Result<Game, DumpFault>
     ensures bare { IfErr result IsBare }
 {
     match draft_of_bytes(alloc, bytes) {
-        Ok(draft) => match resolve(alloc, draft) {
-            Ok(game) => Ok(game),
-            Err(fault) => Err(fault.settled(alloc)),
-        },
+        Ok(draft) => settled(alloc, resolve(alloc, draft)),
         Err(fault) => Err(fault),
     }
 }
