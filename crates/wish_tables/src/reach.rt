@@ -1,0 +1,81 @@
+//! What is reached, and what of it is taken as it is.
+use game_types::{Game, MachineKind, Product};
+use plan_base::{GoodId, Kind, NoMemory, Shape};
+use std::alloc::Global;
+
+fn count_of(shape: &Shape, kind: Kind) -> u32 {
+    match kind {
+        Kind::Special => 3,
+        Kind::Item => shape.items,
+        Kind::Fluid => shape.fluids,
+        Kind::Recipe => shape.recipes,
+        Kind::Source => shape.sources,
+        Kind::Machine => shape.machines,
+        Kind::Tech => shape.techs,
+    }
+}
+
+/// Whether a mark stands at a place.
+pub fn is_marked(marks: &[bool], place: u32) -> bool {
+    match marks.get(place as usize) {
+        Some(mark) => *mark,
+        None => false,
+    }
+}
+
+/// Marks a place, where it is there.
+pub fn mark(marks: &mut [bool], place: u32) {
+    if let Some(mark) = marks.get_mut(place as usize) {
+        *mark = true;
+    }
+}
+
+/// Whether the thing of a kind at a place is there and reached.
+pub fn is_reached(game: &Game, reached: &[bool], kind: Kind, place: u32) -> bool {
+    let shape = game.shape();
+    if place < count_of(&shape, kind) {
+        is_marked(reached, shape.node_of(kind, place).0)
+    } else {
+        false
+    }
+}
+
+/// Whether an item or a fluid is reached.
+pub fn is_good_reached(game: &Game, reached: &[bool], good: GoodId) -> bool {
+    let shape = game.shape();
+    good.0 < shape.items + shape.fluids && is_marked(reached, game.good_node(good).0)
+}
+
+/// Whether some of a product can be expected.
+pub fn is_expected(product: &Product) -> bool {
+    product.probability.is_positive() && (product.low.is_positive() || product.high.is_positive())
+}
+
+/// Whether some of a good can be expected of products.
+pub fn gives(products: &[Product], good: GoodId) -> bool {
+    products
+        .iter()
+        .any(|product| product.good == good && is_expected(product))
+}
+
+fn mark_products(marks: &mut [bool], products: &[Product]) {
+    for product in products {
+        if is_expected(product) {
+            mark(marks, product.good.0);
+        }
+    }
+}
+
+/// Marks for each item and fluid whether a reached source gives it.
+pub fn mined_goods(alloc: Global, game: &Game, reached: &[bool]) -> Result<Vec<bool>, NoMemory> {
+    let shape = game.shape();
+    let mut marks = vec![in alloc; false; (shape.items + shape.fluids) as usize]?;
+    for place in 0..shape.sources {
+        if is_reached(game, reached, Kind::Source, place) {
+            if let Some(source) = game.sources.as_slice().get(place as usize) {
+                mark_products(marks.as_mut_slice(), source.products.as_slice());
+            }
+        }
+    }
+    Ok(marks)
+}

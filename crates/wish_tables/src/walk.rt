@@ -1,0 +1,188 @@
+//! The walk from a good back to what is taken as it is.
+use crate::choosing::{State, price_in};
+use crate::reach::{is_marked, mark};
+use crate::setups::column_in;
+use crate::ways::ways_to;
+use crate::{Wish, WishFault};
+use fractions::Ratio;
+use game_types::{Activity, Game, Setup};
+use plan_base::{GoodId, Items, NoMemory};
+use production_table::LIMIT;
+use std::alloc::Global;
+
+/// A set-up that gives a needed good, and what one craft of it adds to each good.
+#[derive(Drop)]
+pub struct Found {
+    pub setup: Setup,
+    pub column: Vec<(GoodId, Ratio)>,
+}
+
+/// What a walk finds.
+#[derive(Drop)]
+pub struct Walk {
+    pub rows: Vec<Found>,
+    /// The goods that are needed, in the order in which the walk meets them.
+    pub goods: Vec<GoodId>,
+    /// Marks for each good whether it is taken as it is.
+    pub raw: Vec<bool>,
+    // Marks for each good whether it is one of those that are needed, and whether any row names it.
+    needed: Vec<bool>,
+    named: Vec<bool>,
+    count: usize,
+}
+
+impl Walk {
+    fn make(alloc: Global, game: &Game) -> Result<Walk, NoMemory> {
+        let count = game.good_count() as usize;
+        Ok(Walk {
+            rows: Vec::new(alloc),
+            goods: Vec::new(alloc),
+            raw: vec![in alloc; false; count]?,
+            needed: vec![in alloc; false; count]?,
+            named: vec![in alloc; false; count]?,
+            count: 0,
+        })
+    }
+
+    // One more good that is needed, where it is none yet.
+    fn need(&mut self, good: GoodId) -> Result<(), NoMemory> {
+        if !is_marked(self.needed.as_slice(), good.0) {
+            self.goods.push(good)?;
+            mark(self.needed.as_mut_slice(), good.0);
+            self.name(good);
+        }
+        Ok(())
+    }
+
+    // One more good of the table.
+    fn name(&mut self, good: GoodId) {
+        if !is_marked(self.named.as_slice(), good.0) {
+            mark(self.named.as_mut_slice(), good.0);
+            self.count = self.count.saturating_add(1);
+        }
+    }
+
+    // How many goods of columns aren't in the table yet, one that stands in two of them twice.
+    fn new_goods(&self, rows: &[Found]) -> usize {
+        let mut count: usize = 0;
+        for row in rows {
+            for part in row.column.as_slice() {
+                if !is_marked(self.named.as_slice(), part.0.0) {
+                    count = count.saturating_add(1);
+                }
+            }
+        }
+        count
+    }
+
+    // Whether a set-up of this activity that takes these fluids is there.
+    fn has(&self, setup: &Setup) -> bool {
+        self.rows
+            .as_slice()
+            .iter()
+            .any(|row| is_same(&row.setup, setup))
+    }
+
+    // The row comes in, and what it takes is needed.
+    fn add(&mut self, row: Found) -> Result<(), NoMemory> {
+        for part in row.column.as_slice() {
+            if part.1.is_neg() {
+                self.need(part.0)?;
+            } else {
+                self.name(part.0);
+            }
+        }
+        self.rows.push(row)?;
+        Ok(())
+    }
+}
+
+fn is_same_list(one: &[GoodId], other: &[GoodId]) -> bool {
+    one.len() == other.len() && one.iter().zip(other.iter()).all(|pair| pair.0 == pair.1)
+}
+
+fn is_same(one: &Setup, other: &Setup) -> bool {
+    one.activity == other.activity && is_same_list(one.at.as_slice(), other.at.as_slice())
+}
+
+/// What a column adds to a good.
+pub fn part_of(column: &[(GoodId, Ratio)], good: GoodId) -> Ratio {
+    for part in column {
+        if part.0 == good {
+            return part.1;
+        }
+    }
+    Ratio::zero()
+}
+
+// The new rows that give a good. Answers whether any row gives it.
+fn rows_for(
+    alloc: Global,
+    game: &Game,
+    state: State<'_>,
+    wish: &Wish,
+    walk: &Walk,
+    good: GoodId,
+    rows: &mut Vec<Found>,
+) -> Result<bool, NoMemory> {
+    let mut given = false;
+    for setup in ways_to(alloc, game, state, wish, good)? {
+        if walk.has(&setup) {
+            given = true;
+        } else if let Some(column) = column_in(alloc, game, wish.power, &setup)? {
+            if part_of(column.as_slice(), good).is_positive() {
+                given = true;
+                rows.push(Found { setup, column })?;
+            }
+        }
+    }
+    Ok(given)
+}
+
+// The goods from a place on that aren't taken as they are.
+fn rest_of(alloc: Global, walk: &Walk, place: usize) -> Result<Items<GoodId>, NoMemory> {
+    let mut rest = Vec::new(alloc);
+    for at in place..walk.goods.len() {
+        let good = walk.goods[at];
+        rest.push(good)?;
+    }
+    Ok(Items::from_vec(rest))
+}
+
+/// Walks from the wish's good back to what is taken as it is.
+///
+/// # Errors
+///
+/// `Full` where there would be more than 512 rows or goods.
+pub fn walk_back(
+    alloc: Global,
+    game: &Game,
+    state: State<'_>,
+    wish: &Wish,
+) -> Result<Walk, WishFault> {
+    let mut walk = Walk::make(alloc, game)?;
+    walk.need(wish.good)?;
+    for place in 0..LIMIT {
+        let Some(good) = walk.goods.as_slice().get(place) else {
+            break;
+        };
+        let good = *good;
+        if price_in(wish.imports.as_slice(), good).is_some() {
+            mark(walk.raw.as_mut_slice(), good.0);
+        } else {
+            let mut rows = Vec::new(alloc);
+            let given = rows_for(alloc, game, state, wish, &walk, good, &mut rows)?;
+            if !given && is_marked(state.mined, good.0) {
+                mark(walk.raw.as_mut_slice(), good.0);
+            }
+            let goods = walk.count.saturating_add(walk.new_goods(rows.as_slice()));
+            if walk.rows.len().saturating_add(rows.len()) > LIMIT || goods > LIMIT {
+                return Err(WishFault::Full(rest_of(alloc, &walk, place)?));
+            }
+            for row in rows {
+                walk.add(row)?;
+            }
+        }
+    }
+    Ok(walk)
+}
