@@ -1,14 +1,21 @@
 //! The table of a wish.
+ghost use Rattle.std.specs.Prelude.{IfOk};
+ghost use Rattle.game_types.specs.Sound.{IsSound};
+ghost use Rattle.production_table.specs.Tables.{IsSoundTable};
+ghost use Rattle.wish_tables.specs.Answers.{IsAnswer};
+
+use crate::checking::is_answer;
 use crate::choosing::{State, price_in};
-use crate::names::{good_name, label_of};
+use crate::names::label_of;
 use crate::pruning::{Pruned, prune};
-use crate::reach::{is_marked, mined_goods};
+use crate::reach::{is_good_marked, is_marked, mined_goods};
+use crate::setups::is_fitting;
 use crate::walk::{Found, Walk, part_of, walk_back};
 use crate::{Wish, WishFault};
 use fractions::Ratio;
-use game_types::{Activity, Game, Product, Setup};
+use game_types::{Activity, Game, Product};
 use machine_rates::yield_of;
-use plan_base::{GoodId, Items, NoMemory, Text};
+use plan_base::{GoodId, Items, NoMemory};
 use production_table::{LIMIT, Table, TableFault};
 use std::alloc::Global;
 
@@ -25,7 +32,7 @@ fn lacking(alloc: Global, walk: &Walk, had: &[bool]) -> Result<Items<GoodId>, No
     let mut none = Vec::new(alloc);
     let mut all = Vec::new(alloc);
     for good in walk.goods.as_slice() {
-        if !is_marked(had, good.0) {
+        if !is_good_marked(had, *good) {
             all.push(*good)?;
             if !is_given(walk.rows.as_slice(), *good) {
                 none.push(*good)?;
@@ -65,7 +72,9 @@ fn takes_none(column: &[(GoodId, Ratio)], power: GoodId) -> bool {
 }
 
 // What one craft of a row that takes from no other costs: 1 for each unit that it brings. None of other rows.
-fn price_of(game: &Game, row: &Found) -> Option<Ratio> {
+fn price_of(game: &Game, row: &Found) -> Option<Ratio>
+    requires { IsSound game.now }
+{
     match row.setup.activity {
         Activity::Mine(source) => match game.sources.as_slice().get(source.0 as usize) {
             Some(source) => Some(units_of(source.products.as_slice())),
@@ -99,10 +108,17 @@ fn free_label(alloc: Global, table: &Table, label: String) -> Result<String, NoM
 }
 
 // A row comes in.
-fn add_row(alloc: Global, game: &Game, table: &mut Table, row: &Found) -> Result<(), WishFault> {
+fn add_row(alloc: Global, game: &Game, table: &mut Table, row: &Found) -> Result<(), WishFault>
+    requires game { IsSound game.now }
+    requires table { IsSoundTable table.old }
+    ensures { IsSoundTable table.new }
+{
     let label = label_of(alloc, game, &row.setup)?;
     let label = free_label(alloc, table, label)?;
     let setup = row.setup.copy(alloc)?;
+    if !is_fitting(game, &setup) {
+        return Ok(());
+    }
     if let Err(fault) = table.add_row(alloc, game, label.as_str(), setup) {
         return Err(fault_of(alloc, fault));
     }
@@ -129,8 +145,11 @@ fn add_import(
     walk: &Walk,
     table: &mut Table,
     good: GoodId,
-) -> Result<(), WishFault> {
-    if !is_marked(walk.raw.as_slice(), good.0) {
+) -> Result<(), WishFault>
+    requires table { IsSoundTable table.old }
+    ensures { IsSoundTable table.new }
+{
+    if !is_good_marked(walk.raw.as_slice(), good) {
         return Ok(());
     }
     match table.set_import(alloc, good, Some(import_price(wish, good))) {
@@ -150,27 +169,83 @@ fn given_count(column: &[(GoodId, Ratio)]) -> usize {
     count
 }
 
+// A good that a row gives may go out at no price, but for the wish's own.
+fn add_surplus(
+    alloc: Global,
+    wish: &Wish,
+    table: &mut Table,
+    good: GoodId,
+    amount: &Ratio,
+) -> Result<(), WishFault>
+    requires { IsSoundTable table.old }
+    ensures { IsSoundTable table.new }
+{
+    if good == wish.good || !amount.is_positive() {
+        return Ok(());
+    }
+    match table.set_surplus(alloc, good, Some(Ratio::zero())) {
+        Ok(_) => Ok(()),
+        Err(fault) => Err(fault_of(alloc, fault)),
+    }
+}
+
 // What a row gives beside another good may go out.
 fn add_surpluses(
     alloc: Global,
     wish: &Wish,
     table: &mut Table,
     column: &[(GoodId, Ratio)],
-) -> Result<(), WishFault> {
+) -> Result<(), WishFault>
+    requires table { IsSoundTable table.old }
+    ensures { IsSoundTable table.new }
+{
     if given_count(column) < 2 {
         return Ok(());
     }
     for part in column {
-        if part.1.is_positive() && part.0 != wish.good {
-            if let Err(fault) = table.set_surplus(alloc, part.0, Some(Ratio::zero())) {
-                return Err(fault_of(alloc, fault));
-            }
+        add_surplus(alloc, wish, table, part.0, &part.1)?;
+    }
+    Ok(())
+}
+
+// What a column takes of goods that are taken as they are comes in.
+fn add_imports(
+    alloc: Global,
+    wish: &Wish,
+    walk: &Walk,
+    table: &mut Table,
+    column: &[(GoodId, Ratio)],
+) -> Result<(), WishFault>
+    requires { IsSoundTable table.old }
+    ensures { IsSoundTable table.new }
+{
+    for part in column {
+        if part.1.is_neg() {
+            add_import(alloc, wish, walk, table, part.0)?;
         }
     }
     Ok(())
 }
 
-// What the kept rows take and give.
+// A row comes in with what it takes and gives.
+fn add_whole_row(
+    alloc: Global,
+    game: &Game,
+    wish: &Wish,
+    walk: &Walk,
+    table: &mut Table,
+    row: &Found,
+) -> Result<(), WishFault>
+    requires game { IsSound game.now }
+    requires table { IsSoundTable table.old }
+    ensures { IsSoundTable table.new }
+{
+    add_row(alloc, game, table, row)?;
+    add_surpluses(alloc, wish, table, row.column.as_slice())?;
+    add_imports(alloc, wish, walk, table, row.column.as_slice())
+}
+
+// The kept rows come in.
 fn add_rows(
     alloc: Global,
     game: &Game,
@@ -178,18 +253,14 @@ fn add_rows(
     walk: &Walk,
     kept: &[bool],
     table: &mut Table,
-) -> Result<(), WishFault> {
-    let rows = walk.rows.as_slice();
-    for place in 0..rows.len() {
-        if is_marked(kept, place as u32) {
-            let row = &rows[place];
-            add_row(alloc, game, table, row)?;
-            add_surpluses(alloc, wish, table, row.column.as_slice())?;
-            for part in row.column.as_slice() {
-                if part.1.is_neg() {
-                    add_import(alloc, wish, walk, table, part.0)?;
-                }
-            }
+) -> Result<(), WishFault>
+    requires game { IsSound game.now }
+    requires table { IsSoundTable table.old }
+    ensures { IsSoundTable table.new }
+{
+    for (place, row) in walk.rows.iter().enumerate() {
+        if is_marked(kept, place) {
+            add_whole_row(alloc, game, wish, walk, table, row)?;
         }
     }
     Ok(())
@@ -206,7 +277,10 @@ pub fn wish_table(
     reached: &[bool],
     name: &str,
     wish: &Wish,
-) -> Result<Table, WishFault> {
+) -> Result<Table, WishFault>
+    requires { IsSound game.now }
+    ensures { IfOk result (IsAnswer game.now reached.now wish.now.good wish.now.rate) }
+{
     let mined = mined_goods(alloc, game, reached)?;
     let state = State {
         reached,
@@ -214,7 +288,7 @@ pub fn wish_table(
     };
     let walk = walk_back(alloc, game, state, wish)?;
     let Pruned { rows, had } = prune(alloc, game, &walk, wish.good)?;
-    if !is_marked(had.as_slice(), wish.good.0) {
+    if !is_good_marked(had.as_slice(), wish.good) {
         return Err(WishFault::Lacking(lacking(alloc, &walk, had.as_slice())?));
     }
     let mut table = Table::make(alloc, name)?;
@@ -224,5 +298,9 @@ pub fn wish_table(
     }
     add_import(alloc, wish, &walk, &mut table, wish.good)?;
     add_rows(alloc, game, wish, &walk, rows.as_slice(), &mut table)?;
-    Ok(table)
+    if is_answer(alloc, game, reached, wish.good, &wish.rate, &table)? {
+        Ok(table)
+    } else {
+        Err(WishFault::Lacking(Items::from_vec(Vec::new(alloc))))
+    }
 }

@@ -1,9 +1,11 @@
 //! The machine that does something best, and the fuel that it burns.
+ghost use Rattle.game_types.specs.Sound.{IsSound};
+
 use crate::Wish;
 use crate::reach::{is_good_reached, is_marked, is_reached};
 use crate::setups::{bare_setup, dressed, machines_of, takes_in};
 use fractions::Ratio;
-use game_types::{Activity, Energy, Game, Machine, MachineKind, Setup, holds, takes_fuel};
+use game_types::{Activity, Energy, Game, MachineKind, Setup, holds, takes_fuel};
 use plan_base::{EntityId, GoodId, Kind, NoMemory};
 use std::alloc::Global;
 use std::cmp::Ordering;
@@ -63,12 +65,14 @@ fn burnt(game: &Game, energy: &Energy, good: GoodId, raw: bool) -> Option<FuelCh
 }
 
 // The best fuel of a burner among the reached items.
-fn best_fuel(game: &Game, state: State<'_>, wish: &Wish, energy: &Energy) -> Option<GoodId> {
+fn best_fuel(game: &Game, state: State<'_>, wish: &Wish, energy: &Energy) -> Option<GoodId>
+    requires { IsSound game.now }
+{
     let mut best = None;
     for number in 0..game.shape().items {
         let good = GoodId(number);
         if is_good_reached(game, state.reached, good) {
-            let raw = is_marked(state.mined, number)
+            let raw = is_marked(state.mined, number as usize)
                 || price_in(wish.imports.as_slice(), good).is_some();
             if let Some(other) = burnt(game, energy, good, raw) {
                 best = better_fuel(best, other);
@@ -82,7 +86,9 @@ fn best_fuel(game: &Game, state: State<'_>, wish: &Wish, energy: &Energy) -> Opt
 }
 
 // The fuel that a machine burns: the wish's where it takes that, else the best. None where it is no burner.
-fn fuel_for(game: &Game, state: State<'_>, wish: &Wish, energy: &Energy) -> Option<GoodId> {
+fn fuel_for(game: &Game, state: State<'_>, wish: &Wish, energy: &Energy) -> Option<GoodId>
+    requires { IsSound game.now }
+{
     match energy {
         Energy::Burner { .. } => {}
         _ => return None,
@@ -136,7 +142,9 @@ fn may_do(
 }
 
 // Whether what makes electricity takes in the fluid that the set-up names, if any.
-fn takes_those(game: &Game, setup: &Setup) -> bool {
+fn takes_those(game: &Game, setup: &Setup) -> bool
+    requires { IsSound game.now }
+{
     match (setup.activity, setup.at.as_slice().first()) {
         (Activity::Generate, Some(fluid)) => takes_in(game, setup, *fluid),
         _ => true,
@@ -186,7 +194,9 @@ fn as_candidate(
     activity: Activity,
     number: EntityId,
     at: &[GoodId],
-) -> Result<Option<Candidate>, NoMemory> {
+) -> Result<Option<Candidate>, NoMemory>
+    requires { IsSound game.now }
+{
     if !is_reached(game, state.reached, Kind::Machine, number.0) {
         return Ok(None);
     }
@@ -220,7 +230,9 @@ pub fn best_setup(
     wish: &Wish,
     activity: Activity,
     at: &[GoodId],
-) -> Result<Option<Setup>, NoMemory> {
+) -> Result<Option<Setup>, NoMemory>
+    requires { IsSound game.now }
+{
     let mut best = None;
     for number in 0..game.shape().machines {
         let other = as_candidate(alloc, game, state, wish, activity, EntityId(number), at)?;

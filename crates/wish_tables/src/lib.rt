@@ -3,6 +3,7 @@
 #![tactic(auto)]
 
 mod building;
+mod checking;
 mod choosing;
 mod lines;
 mod names;

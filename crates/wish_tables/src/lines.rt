@@ -1,4 +1,6 @@
 //! The lines of a script that make a table.
+ghost use Rattle.game_types.specs.Sound.{IsSound};
+
 use crate::names::{activity_text, good_text, machine_text};
 use fractions::Ratio;
 use game_types::{BeaconGroup, Game, Setup};
@@ -13,7 +15,9 @@ fn push_modules(
     word: &str,
     modules: &[(GoodId, u32)],
     text: &mut String,
-) -> Result<(), NoMemory> {
+) -> Result<(), NoMemory>
+    requires { IsSound game.now }
+{
     for (good, count) in modules {
         let good = good_text(alloc, game, *good)?;
         write!(text, " {word} {good} {count}")?;
@@ -26,7 +30,9 @@ fn push_beacons(
     game: &Game,
     groups: &[BeaconGroup],
     text: &mut String,
-) -> Result<(), NoMemory> {
+) -> Result<(), NoMemory>
+    requires { IsSound game.now }
+{
     for group in groups {
         let beacon = machine_text(alloc, game, group.beacon)?;
         let count = group.count;
@@ -43,7 +49,9 @@ fn push_parts(
     game: &Game,
     setup: &Setup,
     text: &mut String,
-) -> Result<(), NoMemory> {
+) -> Result<(), NoMemory>
+    requires { IsSound game.now }
+{
     if let Some(fuel) = setup.fuel {
         let fuel = good_text(alloc, game, fuel)?;
         write!(text, " fuel {fuel}")?;
@@ -63,7 +71,9 @@ fn push_row(
     table: &str,
     row: &TableRow,
     text: &mut String,
-) -> Result<(), NoMemory> {
+) -> Result<(), NoMemory>
+    requires { IsSound game.now }
+{
     let label = printed_word(alloc, row.label.as_str())?;
     let activity = activity_text(alloc, game, row.setup.activity)?;
     let machine = machine_text(alloc, game, row.setup.machine)?;
@@ -85,7 +95,9 @@ fn push_numbers(
     table: &str,
     numbers: &[(GoodId, Ratio)],
     text: &mut String,
-) -> Result<(), NoMemory> {
+) -> Result<(), NoMemory>
+    requires { IsSound game.now }
+{
     for (good, number) in numbers {
         let good = good_text(alloc, game, *good)?;
         let number = number.print(alloc)?;
@@ -96,7 +108,9 @@ fn push_numbers(
 }
 
 /// The lines that make a table and have it solved.
-pub fn table_text(alloc: Global, game: &Game, table: &Table) -> Result<String, NoMemory> {
+pub fn table_text(alloc: Global, game: &Game, table: &Table) -> Result<String, NoMemory>
+    requires { IsSound game.now }
+{
     let name = printed_word(alloc, table.name.as_str())?;
     let name = name.as_str();
     let mut text = format!(in alloc; "table {name}\n")?;

@@ -1,6 +1,8 @@
 //! Names of goods, activities and rows.
+ghost use Rattle.game_types.specs.Sound.{IsSound};
+
 use game_types::{Activity, Game, Setup};
-use plan_base::{EntityId, GoodId, Kind, NoMemory, NodeId, Text};
+use plan_base::{EntityId, GoodId, Kind, NoMemory, Text};
 use plan_report::object_word;
 use std::alloc::Global;
 
@@ -19,7 +21,9 @@ pub fn name_at(game: &Game, kind: Kind, place: u32) -> &str {
 }
 
 // The kind of a good of a table, and its place among those.
-fn good_place(game: &Game, good: GoodId) -> (Kind, u32) {
+fn good_place(game: &Game, good: GoodId) -> (Kind, u32)
+    requires { IsSound game.now }
+{
     let shape = game.shape();
     let power = shape.items + shape.fluids;
     if good.0 < shape.items {
@@ -34,13 +38,17 @@ fn good_place(game: &Game, good: GoodId) -> (Kind, u32) {
 }
 
 /// The name of a good of a table, without its kind.
-pub fn good_name(game: &Game, good: GoodId) -> &str {
+pub fn good_name(game: &Game, good: GoodId) -> &str
+    requires { IsSound game.now }
+{
     let (kind, place) = good_place(game, good);
     name_at(game, kind, place)
 }
 
 /// A good of a table as a word.
-pub fn good_text(alloc: Global, game: &Game, good: GoodId) -> Result<String, NoMemory> {
+pub fn good_text(alloc: Global, game: &Game, good: GoodId) -> Result<String, NoMemory>
+    requires { IsSound game.now }
+{
     let (kind, place) = good_place(game, good);
     Ok(object_word(alloc, kind, name_at(game, kind, place))?)
 }
@@ -51,7 +59,9 @@ pub fn machine_text(alloc: Global, game: &Game, machine: EntityId) -> Result<Str
 }
 
 /// What a set-up does as a word.
-pub fn activity_text(alloc: Global, game: &Game, activity: Activity) -> Result<String, NoMemory> {
+pub fn activity_text(alloc: Global, game: &Game, activity: Activity) -> Result<String, NoMemory>
+    requires { IsSound game.now }
+{
     let (kind, place) = match activity {
         Activity::Craft(recipe) => (Kind::Recipe, recipe.0),
         Activity::Mine(source) => (Kind::Source, source.0),
@@ -64,7 +74,9 @@ pub fn activity_text(alloc: Global, game: &Game, activity: Activity) -> Result<S
 }
 
 /// The label of a row: the recipe's name, or what is done and with what.
-pub fn label_of(alloc: Global, game: &Game, setup: &Setup) -> Result<String, NoMemory> {
+pub fn label_of(alloc: Global, game: &Game, setup: &Setup) -> Result<String, NoMemory>
+    requires { IsSound game.now }
+{
     let (verb, name) = match setup.activity {
         Activity::Craft(recipe) => ("", name_at(game, Kind::Recipe, recipe.0)),
         Activity::Mine(source) => ("mine:", name_at(game, Kind::Source, source.0)),
@@ -85,7 +97,9 @@ pub fn like_names(
     game: &Game,
     kind: Kind,
     text: &str,
-) -> Result<Vec<Text>, NoMemory> {
+) -> Result<Vec<Text>, NoMemory>
+    requires { IsSound game.now }
+{
     let mut found = Vec::new(alloc);
     let shape = game.shape();
     let count = match kind {

@@ -1,9 +1,16 @@
 //! What is reached, and what of it is taken as it is.
-use game_types::{Game, MachineKind, Product};
+ghost use Rattle.std.specs.Prelude.{◌≡◌, false, slice_index_or};
+ghost use Rattle.plan_base.specs.Shape.{count_of};
+ghost use Rattle.game_types.specs.Sound.{IsSound};
+ghost use Rattle.wish_tables.specs.Answers.{is_reached};
+
+use game_types::{Game, Product};
 use plan_base::{GoodId, Kind, NoMemory, Shape};
 use std::alloc::Global;
 
-fn count_of(shape: &Shape, kind: Kind) -> u32 {
+fn count_of(shape: &Shape, kind: Kind) -> u32
+    ensures { result ≡ count_of shape.now kind }
+{
     match kind {
         Kind::Special => 3,
         Kind::Item => shape.items,
@@ -16,34 +23,51 @@ fn count_of(shape: &Shape, kind: Kind) -> u32 {
 }
 
 /// Whether a mark stands at a place.
-pub fn is_marked(marks: &[bool], place: u32) -> bool {
-    match marks.get(place as usize) {
+pub fn is_marked(marks: &[bool], place: usize) -> bool
+    ensures { result ≡ slice_index_or marks.now place false }
+{
+    match marks.get(place) {
         Some(mark) => *mark,
         None => false,
     }
 }
 
 /// Marks a place, where it is there.
-pub fn mark(marks: &mut [bool], place: u32) {
-    if let Some(mark) = marks.get_mut(place as usize) {
+pub fn mark(marks: &mut [bool], place: usize) {
+    if let Some(mark) = marks.get_mut(place) {
         *mark = true;
     }
 }
 
+/// Whether a good is marked.
+pub fn is_good_marked(marks: &[bool], good: GoodId) -> bool {
+    is_marked(marks, good.0 as usize)
+}
+
+/// Marks a good.
+pub fn mark_good(marks: &mut [bool], good: GoodId) {
+    mark(marks, good.0 as usize);
+}
+
 /// Whether the thing of a kind at a place is there and reached.
-pub fn is_reached(game: &Game, reached: &[bool], kind: Kind, place: u32) -> bool {
+pub fn is_reached(game: &Game, reached: &[bool], kind: Kind, place: u32) -> bool
+    requires { IsSound game.now }
+    ensures { result ≡ is_reached game.now reached.now kind place }
+{
     let shape = game.shape();
     if place < count_of(&shape, kind) {
-        is_marked(reached, shape.node_of(kind, place).0)
+        is_marked(reached, shape.node_of(kind, place).0 as usize)
     } else {
         false
     }
 }
 
 /// Whether an item or a fluid is reached.
-pub fn is_good_reached(game: &Game, reached: &[bool], good: GoodId) -> bool {
+pub fn is_good_reached(game: &Game, reached: &[bool], good: GoodId) -> bool
+    requires { IsSound game.now }
+{
     let shape = game.shape();
-    good.0 < shape.items + shape.fluids && is_marked(reached, game.good_node(good).0)
+    good.0 < shape.items + shape.fluids && is_marked(reached, game.good_node(good).0 as usize)
 }
 
 /// Whether some of a product can be expected.
@@ -61,13 +85,15 @@ pub fn gives(products: &[Product], good: GoodId) -> bool {
 fn mark_products(marks: &mut [bool], products: &[Product]) {
     for product in products {
         if is_expected(product) {
-            mark(marks, product.good.0);
+            mark_good(marks, product.good);
         }
     }
 }
 
 /// Marks for each item and fluid whether a reached source gives it.
-pub fn mined_goods(alloc: Global, game: &Game, reached: &[bool]) -> Result<Vec<bool>, NoMemory> {
+pub fn mined_goods(alloc: Global, game: &Game, reached: &[bool]) -> Result<Vec<bool>, NoMemory>
+    requires { IsSound game.now }
+{
     let shape = game.shape();
     let mut marks = vec![in alloc; false; (shape.items + shape.fluids) as usize]?;
     for place in 0..shape.sources {

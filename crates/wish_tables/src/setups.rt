@@ -1,4 +1,9 @@
 //! Set-ups: which of them can stand in a table, and how fast they are.
+ghost use Rattle.std.specs.Prelude.{◌≡◌, All, IfSome};
+ghost use Rattle.std.specs.Bool.{OnTrue};
+ghost use Rattle.game_types.specs.Sound.{IsBeacon, IsFluid, IsGood, IsItem, IsModule, IsSound, IsSoundActivity, IsSoundGroup, IsSoundSetup};
+ghost use Rattle.table_rows.specs.Setups.{IsFitting};
+
 use crate::{Wish, WishBeacon};
 use fractions::Ratio;
 use game_types::{Activity, BeaconGroup, Game, MachineKind, Setup};
@@ -26,26 +31,39 @@ pub fn bare_setup(
     })
 }
 
-fn is_item(game: &Game, good: GoodId) -> bool {
+fn is_item(game: &Game, good: GoodId) -> bool
+    ensures { OnTrue result (IsItem game.now good.0) }
+{
     (good.0 as usize) < game.items.len()
 }
 
-fn is_good(game: &Game, good: GoodId) -> bool {
-    (good.0 as usize) < game.items.len() + game.fluids.len()
+fn is_good(game: &Game, good: GoodId) -> bool
+    requires { IsSound game.now }
+    ensures { OnTrue result (IsGood game.now good.0) }
+{
+    let shape = game.shape();
+    good.0 < shape.items + shape.fluids
 }
 
-fn is_fluid(game: &Game, good: GoodId) -> bool {
-    !is_item(game, good) && is_good(game, good)
+fn is_fluid(game: &Game, good: GoodId) -> bool
+    requires { IsSound game.now }
+    ensures { OnTrue result (IsFluid game.now good.0) }
+{
+    game.shape().items <= good.0 && is_good(game, good)
 }
 
-fn is_module(game: &Game, good: GoodId) -> bool {
+fn is_module(game: &Game, good: GoodId) -> bool
+    ensures { OnTrue result (IsModule game.now good) }
+{
     match game.items.as_slice().get(good.0 as usize) {
         Some(item) => item.module.is_some(),
         None => false,
     }
 }
 
-fn is_beacon(game: &Game, machine: EntityId) -> bool {
+fn is_beacon(game: &Game, machine: EntityId) -> bool
+    ensures { OnTrue result (IsBeacon game.now machine) }
+{
     match game.machines.as_slice().get(machine.0 as usize) {
         Some(machine) => match machine.kind {
             MachineKind::Beacon { .. } => true,
@@ -55,15 +73,22 @@ fn is_beacon(game: &Game, machine: EntityId) -> bool {
     }
 }
 
-fn are_modules(game: &Game, modules: &[(GoodId, u32)]) -> bool {
+fn are_modules(game: &Game, modules: &[(GoodId, u32)]) -> bool
+    ensures { OnTrue result (All (λ m. IsModule game.now m.0) modules.now) }
+{
     modules.iter().all(|module| is_module(game, module.0))
 }
 
-fn is_group(game: &Game, group: &BeaconGroup) -> bool {
+fn is_group(game: &Game, group: &BeaconGroup) -> bool
+    ensures { OnTrue result (IsSoundGroup game.now group.now) }
+{
     is_beacon(game, group.beacon) && are_modules(game, group.modules.as_slice())
 }
 
-fn is_activity(game: &Game, activity: Activity) -> bool {
+fn is_activity(game: &Game, activity: Activity) -> bool
+    requires { IsSound game.now }
+    ensures { OnTrue result (IsSoundActivity game.now activity) }
+{
     match activity {
         Activity::Craft(recipe) => (recipe.0 as usize) < game.recipes.len(),
         Activity::Mine(source) => (source.0 as usize) < game.sources.len(),
@@ -74,23 +99,33 @@ fn is_activity(game: &Game, activity: Activity) -> bool {
     }
 }
 
-fn is_fuel(game: &Game, fuel: Option<GoodId>) -> bool {
+fn is_fuel(game: &Game, fuel: Option<GoodId>) -> bool
+    ensures { OnTrue result (IfSome fuel (λ good. IsItem game.now good.0)) }
+{
     match fuel {
         Some(good) => is_item(game, good),
         None => true,
     }
 }
 
-fn are_groups(game: &Game, groups: &[BeaconGroup]) -> bool {
+fn are_groups(game: &Game, groups: &[BeaconGroup]) -> bool
+    ensures { OnTrue result (All (IsSoundGroup game.now) groups.now) }
+{
     groups.iter().all(|group| is_group(game, group))
 }
 
-fn are_fluids(game: &Game, goods: &[GoodId]) -> bool {
+fn are_fluids(game: &Game, goods: &[GoodId]) -> bool
+    requires { IsSound game.now }
+    ensures { OnTrue result (All (λ good. IsFluid game.now good.0) goods.now) }
+{
     goods.iter().all(|good| is_fluid(game, *good))
 }
 
 // Whether all that a set-up names is there.
-fn is_sound(game: &Game, setup: &Setup) -> bool {
+fn is_sound(game: &Game, setup: &Setup) -> bool
+    requires { IsSound game.now }
+    ensures { OnTrue result (IsSoundSetup game.now setup.now) }
+{
     is_activity(game, setup.activity)
         && (setup.machine.0 as usize) < game.machines.len()
         && is_fuel(game, setup.fuel)
@@ -100,12 +135,17 @@ fn is_sound(game: &Game, setup: &Setup) -> bool {
 }
 
 /// Whether a set-up can stand in a table.
-pub fn is_fitting(game: &Game, setup: &Setup) -> bool {
+pub fn is_fitting(game: &Game, setup: &Setup) -> bool
+    requires { IsSound game.now }
+    ensures { OnTrue result (IsFitting game.now setup.now) }
+{
     is_sound(game, setup) && check_setup(game, setup).is_ok()
 }
 
 /// Whether a boiler or a generator that can stand in a table takes a fluid in.
-pub fn takes_in(game: &Game, setup: &Setup, fluid: GoodId) -> bool {
+pub fn takes_in(game: &Game, setup: &Setup, fluid: GoodId) -> bool
+    requires { IsSound game.now }
+{
     if !is_sound(game, setup) {
         return false;
     }
@@ -116,7 +156,9 @@ pub fn takes_in(game: &Game, setup: &Setup, fluid: GoodId) -> bool {
 }
 
 /// How many machines one craft a second takes, where the set-up can stand in a table.
-pub fn machines_of(game: &Game, setup: &Setup) -> Option<Ratio> {
+pub fn machines_of(game: &Game, setup: &Setup) -> Option<Ratio>
+    requires { IsSound game.now }
+{
     if !is_fitting(game, setup) {
         return None;
     }
@@ -132,7 +174,9 @@ pub fn column_in(
     game: &Game,
     power: bool,
     setup: &Setup,
-) -> Result<Option<Vec<(GoodId, Ratio)>>, NoMemory> {
+) -> Result<Option<Vec<(GoodId, Ratio)>>, NoMemory>
+    requires { IsSound game.now }
+{
     if !is_fitting(game, setup) {
         return Ok(None);
     }
@@ -199,7 +243,9 @@ fn with_extras(
     setup: &Setup,
     module: Option<GoodId>,
     beacon: Option<WishBeacon>,
-) -> Result<Option<Setup>, NoMemory> {
+) -> Result<Option<Setup>, NoMemory>
+    requires { IsSound game.now }
+{
     let modules = wished_modules(alloc, game, module, setup.machine)?;
     let beacons = wished_beacons(alloc, game, beacon)?;
     let at = Vec::from_slice(alloc, setup.at.as_slice())?;
@@ -224,7 +270,9 @@ pub fn dressed(
     game: &Game,
     wish: &Wish,
     setup: Setup,
-) -> Result<Setup, NoMemory> {
+) -> Result<Setup, NoMemory>
+    requires { IsSound game.now }
+{
     if wish.module.is_none() && wish.beacon.is_none() {
         return Ok(setup);
     }

@@ -1,8 +1,10 @@
 //! Recipes that only take back what another one does, as one that empties barrels.
+ghost use Rattle.game_types.specs.Sound.{IsSound};
+
 use crate::reach::is_reached;
 use fractions::Ratio;
 use game_types::{Game, Part, Product, Recipe};
-use plan_base::{Kind, RecipeId};
+use plan_base::Kind;
 
 // Whether a product is just what an ingredient is.
 fn is_same(part: &Part, product: &Product) -> bool {
@@ -30,11 +32,14 @@ fn undoes(one: &Recipe, other: &Recipe) -> bool {
 }
 
 /// Whether another reached recipe takes just what a recipe gives, and gives just what it takes.
-pub fn is_undoing(game: &Game, reached: &[bool], one: &Recipe) -> bool {
-    let recipes = game.recipes.as_slice();
-    for place in 0..recipes.len() {
-        if undoes(one, &recipes[place]) && is_reached(game, reached, Kind::Recipe, place as u32) {
-            return true;
+pub fn is_undoing(game: &Game, reached: &[bool], one: &Recipe) -> bool
+    requires { IsSound game.now }
+{
+    for place in 0..game.shape().recipes {
+        if let Some(other) = game.recipes.as_slice().get(place as usize) {
+            if undoes(one, other) && is_reached(game, reached, Kind::Recipe, place) {
+                return true;
+            }
         }
     }
     false

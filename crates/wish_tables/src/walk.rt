@@ -1,6 +1,8 @@
 //! The walk from a good back to what is taken as it is.
+ghost use Rattle.game_types.specs.Sound.{IsSound};
+
 use crate::choosing::{State, price_in};
-use crate::reach::{is_marked, mark};
+use crate::reach::{is_good_marked, mark_good};
 use crate::setups::column_in;
 use crate::ways::ways_to;
 use crate::{Wish, WishFault};
@@ -32,7 +34,9 @@ pub struct Walk {
 }
 
 impl Walk {
-    fn make(alloc: Global, game: &Game) -> Result<Walk, NoMemory> {
+    fn make(alloc: Global, game: &Game) -> Result<Walk, NoMemory>
+        requires { IsSound game.now }
+    {
         let count = game.good_count() as usize;
         Ok(Walk {
             rows: Vec::new(alloc),
@@ -46,9 +50,9 @@ impl Walk {
 
     // One more good that is needed, where it is none yet.
     fn need(&mut self, good: GoodId) -> Result<(), NoMemory> {
-        if !is_marked(self.needed.as_slice(), good.0) {
+        if !is_good_marked(self.needed.as_slice(), good) {
             self.goods.push(good)?;
-            mark(self.needed.as_mut_slice(), good.0);
+            mark_good(self.needed.as_mut_slice(), good);
             self.name(good);
         }
         Ok(())
@@ -56,8 +60,8 @@ impl Walk {
 
     // One more good of the table.
     fn name(&mut self, good: GoodId) {
-        if !is_marked(self.named.as_slice(), good.0) {
-            mark(self.named.as_mut_slice(), good.0);
+        if !is_good_marked(self.named.as_slice(), good) {
+            mark_good(self.named.as_mut_slice(), good);
             self.count = self.count.saturating_add(1);
         }
     }
@@ -67,7 +71,7 @@ impl Walk {
         let mut count: usize = 0;
         for row in rows {
             for part in row.column.as_slice() {
-                if !is_marked(self.named.as_slice(), part.0.0) {
+                if !is_good_marked(self.named.as_slice(), part.0) {
                     count = count.saturating_add(1);
                 }
             }
@@ -124,7 +128,9 @@ fn rows_for(
     walk: &Walk,
     good: GoodId,
     rows: &mut Vec<Found>,
-) -> Result<bool, NoMemory> {
+) -> Result<bool, NoMemory>
+    requires { IsSound game.now }
+{
     let mut given = false;
     for setup in ways_to(alloc, game, state, wish, good)? {
         if walk.has(&setup) {
@@ -142,11 +148,44 @@ fn rows_for(
 // The goods from a place on that aren't taken as they are.
 fn rest_of(alloc: Global, walk: &Walk, place: usize) -> Result<Items<GoodId>, NoMemory> {
     let mut rest = Vec::new(alloc);
-    for at in place..walk.goods.len() {
-        let good = walk.goods[at];
-        rest.push(good)?;
+    for good in walk.goods.iter().skip(place) {
+        rest.push(*good)?;
     }
     Ok(Items::from_vec(rest))
+}
+
+// The rows that give the needed good at a place come in. Answers whether there is such a good.
+fn walk_on(
+    alloc: Global,
+    game: &Game,
+    state: State<'_>,
+    wish: &Wish,
+    walk: &mut Walk,
+    place: usize,
+) -> Result<bool, WishFault>
+    requires { IsSound game.now }
+{
+    let Some(good) = walk.goods.as_slice().get(place) else {
+        return Ok(false);
+    };
+    let good = *good;
+    if price_in(wish.imports.as_slice(), good).is_some() {
+        mark_good(walk.raw.as_mut_slice(), good);
+        return Ok(true);
+    }
+    let mut rows = Vec::new(alloc);
+    let given = rows_for(alloc, game, state, wish, walk, good, &mut rows)?;
+    if !given && is_good_marked(state.mined, good) {
+        mark_good(walk.raw.as_mut_slice(), good);
+    }
+    let goods = walk.count.saturating_add(walk.new_goods(rows.as_slice()));
+    if walk.rows.len().saturating_add(rows.len()) > LIMIT || goods > LIMIT {
+        return Err(WishFault::Full(rest_of(alloc, walk, place)?));
+    }
+    for row in rows {
+        walk.add(row)?;
+    }
+    Ok(true)
 }
 
 /// Walks from the wish's good back to what is taken as it is.
@@ -159,29 +198,14 @@ pub fn walk_back(
     game: &Game,
     state: State<'_>,
     wish: &Wish,
-) -> Result<Walk, WishFault> {
+) -> Result<Walk, WishFault>
+    requires { IsSound game.now }
+{
     let mut walk = Walk::make(alloc, game)?;
     walk.need(wish.good)?;
     for place in 0..LIMIT {
-        let Some(good) = walk.goods.as_slice().get(place) else {
+        if !walk_on(alloc, game, state, wish, &mut walk, place)? {
             break;
-        };
-        let good = *good;
-        if price_in(wish.imports.as_slice(), good).is_some() {
-            mark(walk.raw.as_mut_slice(), good.0);
-        } else {
-            let mut rows = Vec::new(alloc);
-            let given = rows_for(alloc, game, state, wish, &walk, good, &mut rows)?;
-            if !given && is_marked(state.mined, good.0) {
-                mark(walk.raw.as_mut_slice(), good.0);
-            }
-            let goods = walk.count.saturating_add(walk.new_goods(rows.as_slice()));
-            if walk.rows.len().saturating_add(rows.len()) > LIMIT || goods > LIMIT {
-                return Err(WishFault::Full(rest_of(alloc, &walk, place)?));
-            }
-            for row in rows {
-                walk.add(row)?;
-            }
         }
     }
     Ok(walk)

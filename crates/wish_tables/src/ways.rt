@@ -1,7 +1,9 @@
 //! The ways to a good: what gives it, each by its best machine.
+ghost use Rattle.game_types.specs.Sound.{IsSound};
+
 use crate::Wish;
 use crate::choosing::{State, best_setup, price_in};
-use crate::reach::{gives, is_good_reached, is_marked, is_reached};
+use crate::reach::{gives, is_good_marked, is_good_reached, is_reached};
 use crate::undoing::is_undoing;
 use fractions::Ratio;
 use game_types::{Activity, Game, Recipe, Setup, choice_of};
@@ -17,7 +19,9 @@ fn add_best(
     activity: Activity,
     at: &[GoodId],
     ways: &mut Vec<Setup>,
-) -> Result<(), NoMemory> {
+) -> Result<(), NoMemory>
+    requires { IsSound game.now }
+{
     if let Some(setup) = best_setup(alloc, game, state, wish, activity, at)? {
         ways.push(setup)?;
     }
@@ -31,7 +35,9 @@ fn other_fit(
     good: GoodId,
     low: &Option<Ratio>,
     high: &Option<Ratio>,
-) -> Option<GoodId> {
+) -> Option<GoodId>
+    requires { IsSound game.now }
+{
     if let Some(choice) = choice_of(game, &[], good, *low, *high) {
         if is_good_reached(game, reached, choice) {
             return None;
@@ -53,7 +59,9 @@ fn fits_of(
     game: &Game,
     reached: &[bool],
     recipe: &Recipe,
-) -> Result<Vec<GoodId>, NoMemory> {
+) -> Result<Vec<GoodId>, NoMemory>
+    requires { IsSound game.now }
+{
     let mut at = Vec::new(alloc);
     for part in recipe.ingredients.as_slice() {
         if game.fluid(part.good).is_some() {
@@ -74,7 +82,9 @@ fn is_craft_of(
     recipe: &Recipe,
     good: GoodId,
     plain: bool,
-) -> bool {
+) -> bool
+    requires { IsSound game.now }
+{
     if !gives(recipe.products.as_slice(), good) {
         return false;
     }
@@ -96,7 +106,9 @@ fn crafts(
     good: GoodId,
     plain: bool,
     ways: &mut Vec<Setup>,
-) -> Result<(), NoMemory> {
+) -> Result<(), NoMemory>
+    requires { IsSound game.now }
+{
     for place in 0..game.shape().recipes {
         let Some(recipe) = game.recipes.as_slice().get(place as usize) else {
             break;
@@ -120,7 +132,9 @@ fn digs(
     wish: &Wish,
     good: GoodId,
     ways: &mut Vec<Setup>,
-) -> Result<(), NoMemory> {
+) -> Result<(), NoMemory>
+    requires { IsSound game.now }
+{
     for place in 0..game.shape().sources {
         let Some(source) = game.sources.as_slice().get(place as usize) else {
             break;
@@ -142,7 +156,9 @@ fn generators(
     state: State<'_>,
     wish: &Wish,
     ways: &mut Vec<Setup>,
-) -> Result<(), NoMemory> {
+) -> Result<(), NoMemory>
+    requires { IsSound game.now }
+{
     let shape = game.shape();
     for number in shape.items..shape.items + shape.fluids {
         let fluid = GoodId(number);
@@ -161,7 +177,9 @@ pub fn ways_to(
     state: State<'_>,
     wish: &Wish,
     good: GoodId,
-) -> Result<Vec<Setup>, NoMemory> {
+) -> Result<Vec<Setup>, NoMemory>
+    requires { IsSound game.now }
+{
     let mut ways = Vec::new(alloc);
     let shape = game.shape();
     let power = shape.items + shape.fluids;
@@ -173,7 +191,7 @@ pub fn ways_to(
             let activity = Activity::Research(TechId(tech));
             add_best(alloc, game, state, wish, activity, &[], &mut ways)?;
         }
-    } else if is_marked(state.mined, good.0) {
+    } else if is_good_marked(state.mined, good) {
         if wish.dig {
             digs(alloc, game, state, wish, good, &mut ways)?;
         }
