@@ -8,27 +8,38 @@ use script_reader::Object;
 use std::alloc::Global;
 use wish_tables::{Wish, WishBeacon, like_names};
 
-// Nothing has the name; the names of its kind that are like it.
-fn unknown(alloc: Global, game: &Game, object: &Object) -> Failure {
-    match unknown_text(alloc, game, object) {
-        Ok(text) => Failure::of(Status::BadWords, text),
-        Err(failure) => failure,
-    }
-}
-
-fn unknown_text(alloc: Global, game: &Game, object: &Object) -> Result<String, Failure> {
-    let word = object_word(alloc, object.kind, object.name.as_str())?;
-    let mut text = format!(in alloc; "nothing is named {word}")?;
-    let like = like_names(alloc, game, object.kind, object.name.as_str())?;
-    if !like.is_empty() {
+// Bad words, with the names of a kind that are like one.
+fn like(
+    alloc: Global,
+    game: &Game,
+    object: &Object,
+    text: String,
+) -> Result<Failure, Failure> {
+    let mut text = text;
+    let names = like_names(alloc, game, object.kind, object.name.as_str())?;
+    if !names.is_empty() {
         text.push_str("; like it are")?;
     }
-    for name in like {
+    for name in names {
         let word = object_word(alloc, object.kind, name.as_str())?;
         text.push(' ')?;
         text.push_str(word.as_str())?;
     }
-    Ok(text)
+    Ok(Failure::of(Status::BadWords, text))
+}
+
+fn unknown_failure(alloc: Global, game: &Game, object: &Object) -> Result<Failure, Failure> {
+    let word = object_word(alloc, object.kind, object.name.as_str())?;
+    let text = format!(in alloc; "nothing is named {word}")?;
+    like(alloc, game, object, text)
+}
+
+// Nothing has the name.
+fn unknown(alloc: Global, game: &Game, object: &Object) -> Failure {
+    match unknown_failure(alloc, game, object) {
+        Ok(failure) => failure,
+        Err(failure) => failure,
+    }
 }
 
 // The place of an object among those of its kind.
@@ -39,12 +50,27 @@ fn place_of(alloc: Global, game: &Game, object: &Object) -> Result<u32, Failure>
     }
 }
 
+// A fluid that has one temperature.
+fn fluid(
+    alloc: Global,
+    game: &Game,
+    object: &Object,
+    good: GoodId,
+) -> Result<GoodId, Failure> {
+    if !game.is_base(good) {
+        return Ok(good);
+    }
+    let word = object_word(alloc, object.kind, object.name.as_str())?;
+    let text = format!(in alloc; "{word} is made at several temperatures, so name one")?;
+    Err(like(alloc, game, object, text)?)
+}
+
 fn good(alloc: Global, game: &Game, object: &Object) -> Result<GoodId, Failure> {
     let place = place_of(alloc, game, object)?;
     let shape = game.shape();
     match object.kind {
         Kind::Item => Ok(GoodId(place)),
-        Kind::Fluid => Ok(GoodId(shape.items.saturating_add(place))),
+        Kind::Fluid => fluid(alloc, game, object, GoodId(shape.items.saturating_add(place))),
         Kind::Tech => {
             if (place as usize) < game.techs.len() {
                 Ok(game.units_good(TechId(place)))

@@ -65,9 +65,17 @@ pub fn loaded<L>(
 
 // A line of the script that is refused.
 fn refused(alloc: Global, number: u32, why: &str) -> Failure {
-    match format!(in alloc; "the script: line {number}: {why}") {
+    match format!(in alloc; "line {number} of the script is {why}") {
         Ok(text) => Failure::of(Status::Refused, text),
         Err(_) => Failure::NoMemory,
+    }
+}
+
+// A reply without the number of its line.
+fn without_number(reply: &str) -> &str {
+    match reply.split_once(' ') {
+        Some((_, rest)) => rest,
+        None => reply,
     }
 }
 
@@ -81,7 +89,7 @@ fn accepted(
     match reply {
         Reply::Refused { .. } => {
             let text = print_reply(alloc, number, &reply, planner.game())?;
-            Err(refused(alloc, number, text.as_str().trim()))
+            Err(refused(alloc, number, without_number(text.as_str().trim())))
         }
         _ => Ok(reply),
     }

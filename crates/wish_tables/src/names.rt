@@ -113,7 +113,7 @@ pub fn like_names(
     };
     for place in 0..count {
         let name = name_at(game, kind, place);
-        if found.len() < 8 && name.contains(text) {
+        if found.len() < 8 && name != text && name.contains(text) {
             found.push(Text::copy(alloc, name)?)?;
         }
     }
