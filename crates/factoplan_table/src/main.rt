@@ -9,7 +9,7 @@ mod words;
 
 use crate::files::read_whole;
 use crate::naming::wish_of;
-use crate::planning::{loaded, reached_nodes, with_script};
+use crate::planning::{loaded, reached_nodes, take_script};
 use crate::saying::{Failure, Status};
 use crate::words::{Asked, command, read_asked};
 use plan_base::{NoMemory, Steps, Text};
@@ -58,8 +58,8 @@ fn lines<R: Files>(rt: &R, alloc: Global, asked: &Asked<'_>) -> Result<Vec<u8>, 
     let dump = read_whole(rt, alloc, asked.dump, DUMP_LIMIT)?;
     let mut text = script_before(rt, alloc, asked.script)?;
     let mut steps = Steps::new(Program);
-    let planner = loaded(alloc, asked.dump, dump, &mut steps)?;
-    let mut planner = with_script(alloc, planner, asked, text.as_slice(), &mut steps)?;
+    let mut planner = loaded(alloc, asked.dump, dump, &mut steps)?;
+    take_script(alloc, &mut planner, asked, text.as_slice(), &mut steps)?;
     let reached = reached_nodes(alloc, &mut planner, &mut steps)?;
     let game = planner.game();
     let wish = wish_of(alloc, game, asked)?;

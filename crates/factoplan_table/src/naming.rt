@@ -1,4 +1,6 @@
 //! What the words name in a game.
+ghost use Rattle.game_types.specs.Sound.{IsSound};
+
 use crate::saying::{Failure, Status};
 use crate::words::{Asked, AskedBeacon};
 use game_types::{Game, MachineKind};
@@ -14,7 +16,9 @@ fn like(
     game: &Game,
     object: &Object,
     text: String,
-) -> Result<Failure, Failure> {
+) -> Result<Failure, Failure> 
+    requires { IsSound game.now }
+{
     let mut text = text;
     let names = like_names(alloc, game, object.kind, object.name.as_str())?;
     if !names.is_empty() {
@@ -28,14 +32,18 @@ fn like(
     Ok(Failure::of(Status::BadWords, text))
 }
 
-fn unknown_failure(alloc: Global, game: &Game, object: &Object) -> Result<Failure, Failure> {
+fn unknown_failure(alloc: Global, game: &Game, object: &Object) -> Result<Failure, Failure> 
+    requires { IsSound game.now }
+{
     let word = object_word(alloc, object.kind, object.name.as_str())?;
     let text = format!(in alloc; "nothing is named {word}")?;
     like(alloc, game, object, text)
 }
 
 // Nothing has the name.
-fn unknown(alloc: Global, game: &Game, object: &Object) -> Failure {
+fn unknown(alloc: Global, game: &Game, object: &Object) -> Failure 
+    requires { IsSound game.now }
+{
     match unknown_failure(alloc, game, object) {
         Ok(failure) => failure,
         Err(failure) => failure,
@@ -43,7 +51,9 @@ fn unknown(alloc: Global, game: &Game, object: &Object) -> Failure {
 }
 
 // The place of an object among those of its kind.
-fn place_of(alloc: Global, game: &Game, object: &Object) -> Result<u32, Failure> {
+fn place_of(alloc: Global, game: &Game, object: &Object) -> Result<u32, Failure> 
+    requires { IsSound game.now }
+{
     match game.find(object.kind, object.name.as_str()) {
         Some(node) => Ok(game.shape().kind_of(node).1),
         None => Err(unknown(alloc, game, object)),
@@ -56,7 +66,9 @@ fn fluid(
     game: &Game,
     object: &Object,
     good: GoodId,
-) -> Result<GoodId, Failure> {
+) -> Result<GoodId, Failure> 
+    requires { IsSound game.now }
+{
     if !game.is_base(good) {
         return Ok(good);
     }
@@ -65,7 +77,9 @@ fn fluid(
     Err(like(alloc, game, object, text)?)
 }
 
-fn good(alloc: Global, game: &Game, object: &Object) -> Result<GoodId, Failure> {
+fn good(alloc: Global, game: &Game, object: &Object) -> Result<GoodId, Failure> 
+    requires { IsSound game.now }
+{
     let place = place_of(alloc, game, object)?;
     let shape = game.shape();
     match object.kind {
@@ -82,11 +96,15 @@ fn good(alloc: Global, game: &Game, object: &Object) -> Result<GoodId, Failure> 
     }
 }
 
-fn machine(alloc: Global, game: &Game, object: &Object) -> Result<EntityId, Failure> {
+fn machine(alloc: Global, game: &Game, object: &Object) -> Result<EntityId, Failure> 
+    requires { IsSound game.now }
+{
     Ok(EntityId(place_of(alloc, game, object)?))
 }
 
-fn item(alloc: Global, game: &Game, object: &Option<Object>) -> Result<Option<GoodId>, Failure> {
+fn item(alloc: Global, game: &Game, object: &Option<Object>) -> Result<Option<GoodId>, Failure> 
+    requires { IsSound game.now }
+{
     match object {
         Some(object) => Ok(Some(GoodId(place_of(alloc, game, object)?))),
         None => Ok(None),
@@ -103,7 +121,9 @@ fn not_a(alloc: Global, object: &Object, what: &str) -> Failure {
     }
 }
 
-fn module(alloc: Global, game: &Game, object: &Object) -> Result<GoodId, Failure> {
+fn module(alloc: Global, game: &Game, object: &Object) -> Result<GoodId, Failure> 
+    requires { IsSound game.now }
+{
     let place = place_of(alloc, game, object)?;
     match game.items.as_slice().get(place as usize) {
         Some(item) if item.module.is_some() => Ok(GoodId(place)),
@@ -111,7 +131,9 @@ fn module(alloc: Global, game: &Game, object: &Object) -> Result<GoodId, Failure
     }
 }
 
-fn beacon(alloc: Global, game: &Game, asked: &AskedBeacon) -> Result<WishBeacon, Failure> {
+fn beacon(alloc: Global, game: &Game, asked: &AskedBeacon) -> Result<WishBeacon, Failure> 
+    requires { IsSound game.now }
+{
     let beacon = machine(alloc, game, &asked.machine)?;
     let module = module(alloc, game, &asked.item)?;
     match game.machines.as_slice().get(beacon.0 as usize) {
@@ -126,7 +148,9 @@ fn beacon(alloc: Global, game: &Game, asked: &AskedBeacon) -> Result<WishBeacon,
 }
 
 /// The wish that the words ask for.
-pub fn wish_of(alloc: Global, game: &Game, asked: &Asked<'_>) -> Result<Wish, Failure> {
+pub fn wish_of(alloc: Global, game: &Game, asked: &Asked<'_>) -> Result<Wish, Failure> 
+    requires { IsSound game.now }
+{
     let mut by = Vec::new(alloc);
     for object in asked.by.as_slice() {
         by.push(machine(alloc, game, object)?)?;

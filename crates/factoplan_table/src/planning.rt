@@ -1,11 +1,15 @@
 //! The planner of a dump, as a script leaves it.
+ghost use Rattle.std.specs.Prelude.{IfOk};
+ghost use Rattle.planning_state.specs.States.{State};
+ghost use Rattle.planner_core.specs.Lines.{IsSessionOf};
+
 use crate::saying::{Failure, Status};
 use crate::words::Asked;
 use craft_reader::{DumpCode, DumpFault};
 use game_reader::read_dump;
 use plan_base::{Kind, NoMemory, Steps, Text};
 use plan_report::{Reply, print_reply};
-use planner_core::{LoadFault, Planner};
+use planner_core::{LoadFault, Planner, state_is_of_the_active_edits};
 use script_reader::{Change, Command, read_line};
 use std::alloc::Global;
 
@@ -45,17 +49,20 @@ fn many_members(alloc: Global, name: &str) -> Failure {
     }
 }
 
-/// The planner of the game of a dump of a name.
+/// The planner of the game of a dump of a name, which has a history.
 pub fn loaded<L>(
     alloc: Global,
     name: &str,
     dump: Vec<u8>,
     steps: &mut Steps<L>,
-) -> Result<Planner, Failure> {
+) -> Result<Planner, Failure>
+    ensures { IfOk result (λ planner. (base : State) × IsSessionOf base planner) }
+{
     let game = match read_dump(alloc, &dump) {
         Ok(game) => game,
         Err(fault) => return Err(bad_dump(alloc, name, &fault)),
     };
+    state_is_of_the_active_edits();
     match Planner::load(alloc, game, steps) {
         Ok(planner) => Ok(planner),
         Err(LoadFault::Members) => Err(many_members(alloc, name)),
@@ -102,7 +109,10 @@ fn take_line<L>(
     number: u32,
     line: &[u8],
     steps: &mut Steps<L>,
-) -> Result<(), Failure> {
+) -> Result<(), Failure>
+    requires session { (base : State) × IsSessionOf base planner.old }
+    ensures history { (base : State) → IsSessionOf base planner.old → IsSessionOf base planner.new }
+{
     let line = match line.last() {
         Some(b'\r') => &line[..line.len() - 1],
         _ => line,
@@ -121,25 +131,40 @@ fn take_line<L>(
     }
 }
 
-/// The planner behind the lines of a script, which ends with a newline where it isn't empty, and whether a table of the name
-/// can stand behind it.
-pub fn with_script<L>(
+// Carries the lines of a script out. Answers the number of the next.
+fn take_lines<L>(
     alloc: Global,
-    planner: Planner,
+    planner: &mut Planner,
+    script: &[u8],
+    steps: &mut Steps<L>,
+) -> Result<u32, Failure>
+    requires session { (base : State) × IsSessionOf base planner.old }
+    ensures history { (base : State) → IsSessionOf base planner.old → IsSessionOf base planner.new }
+{
+    let mut number: u32 = 1;
+    for line in script.split(|byte| *byte == b'\n') {
+        take_line(alloc, planner, number, line, steps)?;
+        number = number.saturating_add(1);
+    }
+    Ok(number)
+}
+
+/// Carries the lines of a script out, and then the one that makes the table, which shows that it can stand behind them.
+pub fn take_script<L>(
+    alloc: Global,
+    planner: &mut Planner,
     asked: &Asked<'_>,
     script: &[u8],
     steps: &mut Steps<L>,
-) -> Result<Planner, Failure> {
-    let mut planner = planner;
-    let mut number: u32 = 1;
-    for line in script.split(|byte| *byte == b'\n') {
-        take_line(alloc, &mut planner, number, line, steps)?;
-        number = number.saturating_add(1);
-    }
+) -> Result<(), Failure>
+    requires session { (base : State) × IsSessionOf base planner.old }
+    ensures history { (base : State) → IsSessionOf base planner.old → IsSessionOf base planner.new }
+{
+    let number = take_lines(alloc, planner, script, steps)?;
     let name = Text::copy(alloc, asked.table)?;
     let reply = planner.step(number, Command::Change(Change::Table(name)), steps)?;
-    accepted(alloc, &planner, number, reply)?;
-    Ok(planner)
+    accepted(alloc, planner, number, reply)?;
+    Ok(())
 }
 
 // Marks the reached nodes of a kind.
@@ -148,7 +173,10 @@ fn mark_reached<L>(
     kind: Kind,
     marks: &mut [bool],
     steps: &mut Steps<L>,
-) -> Result<bool, NoMemory> {
+) -> Result<bool, NoMemory>
+    requires session { (base : State) × IsSessionOf base planner.old }
+    ensures history { (base : State) → IsSessionOf base planner.old → IsSessionOf base planner.new }
+{
     match planner.step(0, Command::List(kind), steps)? {
         Reply::List { nodes, .. } => {
             for pair in nodes.as_slice() {
@@ -167,7 +195,9 @@ pub fn reached_nodes<L>(
     alloc: Global,
     planner: &mut Planner,
     steps: &mut Steps<L>,
-) -> Result<Vec<bool>, Failure> {
+) -> Result<Vec<bool>, Failure>
+    requires session { (base : State) × IsSessionOf base planner.old }
+{
     let mut marks = vec![in alloc; false; planner.game().shape().len() as usize]?;
     for kind in [
         Kind::Special,

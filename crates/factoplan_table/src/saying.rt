@@ -1,4 +1,6 @@
 //! What went wrong, and how it is said.
+ghost use Rattle.game_types.specs.Sound.{IsSound};
+
 use game_types::Game;
 use plan_base::{GoodId, NoMemory, Text};
 use std::alloc::{AllocError, AllocFailed, Global};
@@ -65,7 +67,9 @@ impl<T: Drop> From<AllocFailed<T>> for Failure {
 }
 
 // Words of goods, each with a space before it.
-fn good_words(alloc: Global, game: &Game, goods: &[GoodId]) -> Result<String, NoMemory> {
+fn good_words(alloc: Global, game: &Game, goods: &[GoodId]) -> Result<String, NoMemory>
+    requires { IsSound game.now }
+{
     let mut text = String::new(alloc);
     for good in goods {
         let word = good_text(alloc, game, *good)?;
@@ -87,7 +91,9 @@ impl Failure {
         game: &Game,
         good: GoodId,
         goods: &[GoodId],
-    ) -> Result<Failure, NoMemory> {
+    ) -> Result<Failure, NoMemory>
+        requires { IsSound game.now }
+    {
         let good = good_text(alloc, game, good)?;
         let words = good_words(alloc, game, goods)?;
         let text = format!(in alloc; "{good} can't be made: no reached machine gives{words} (--import GOOD=PRICE takes one as it is)")?;
@@ -95,7 +101,9 @@ impl Failure {
     }
 
     /// The table is too large. With these imported it is not.
-    pub fn full(alloc: Global, game: &Game, goods: &[GoodId]) -> Result<Failure, NoMemory> {
+    pub fn full(alloc: Global, game: &Game, goods: &[GoodId]) -> Result<Failure, NoMemory>
+        requires { IsSound game.now }
+    {
         let words = good_words(alloc, game, goods)?;
         let text = format!(in alloc; "the table would have more than 512 rows or goods; import some that are nearer, or these:{words}")?;
         Ok(Failure::of(Status::Full, text))

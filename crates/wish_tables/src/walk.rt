@@ -146,10 +146,19 @@ fn rows_for(
 }
 
 // The goods from a place on that aren't taken as they are.
-fn rest_of(alloc: Global, walk: &Walk, place: usize) -> Result<Items<GoodId>, NoMemory> {
+fn rest_of(
+    alloc: Global,
+    state: State<'_>,
+    wish: &Wish,
+    walk: &Walk,
+    place: usize,
+) -> Result<Items<GoodId>, NoMemory> {
     let mut rest = Vec::new(alloc);
     for good in walk.goods.iter().skip(place) {
-        rest.push(*good)?;
+        let named = price_in(wish.imports.as_slice(), *good).is_some();
+        if !named && (wish.dig || !is_good_marked(state.mined, *good)) {
+            rest.push(*good)?;
+        }
     }
     Ok(Items::from_vec(rest))
 }
@@ -180,7 +189,7 @@ fn walk_on(
     }
     let goods = walk.count.saturating_add(walk.new_goods(rows.as_slice()));
     if walk.rows.len().saturating_add(rows.len()) > LIMIT || goods > LIMIT {
-        return Err(WishFault::Full(rest_of(alloc, walk, place)?));
+        return Err(WishFault::Full(rest_of(alloc, state, wish, walk, place)?));
     }
     for row in rows {
         walk.add(row)?;

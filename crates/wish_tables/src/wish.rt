@@ -40,7 +40,7 @@ pub struct Wish {
 pub enum WishFault {
     /// These goods are needed, and no row gives them.
     Lacking(Items<GoodId>),
-    /// There would be more than 512 rows or goods. Where these goods are imported, there are not.
+    /// There would be more than 512 rows or goods. These goods are needed, and no rows for them were looked for yet.
     Full(Items<GoodId>),
     NoMemory,
 }
