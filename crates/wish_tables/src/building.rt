@@ -8,7 +8,7 @@ use crate::checking::is_answer;
 use crate::choosing::{State, price_in};
 use crate::names::label_of;
 use crate::pruning::{Pruned, prune};
-use crate::reach::{is_good_marked, is_marked, mined_goods};
+use crate::reach::{is_good_marked, is_marked, mined_goods, reached_fuels};
 use crate::setups::is_fitting;
 use crate::walk::{Found, Walk, part_of, walk_back};
 use crate::{Wish, WishFault};
@@ -282,9 +282,11 @@ pub fn wish_table(
     ensures { IfOk result (IsAnswer game.now reached.now wish.now.good wish.now.rate) }
 {
     let mined = mined_goods(alloc, game, reached)?;
+    let fuels = reached_fuels(alloc, game, reached)?;
     let state = State {
         reached,
         mined: mined.as_slice(),
+        fuels: fuels.as_slice(),
     };
     let walk = walk_back(alloc, game, state, wish)?;
     let Pruned { rows, had } = prune(alloc, game, &walk, wish.good)?;

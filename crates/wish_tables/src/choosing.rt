@@ -2,7 +2,7 @@
 ghost use Rattle.game_types.specs.Sound.{IsSound};
 
 use crate::Wish;
-use crate::reach::{is_good_reached, is_marked, is_reached};
+use crate::reach::{is_good_marked, is_reached};
 use crate::setups::{bare_setup, dressed, machines_of, takes_in};
 use fractions::Ratio;
 use game_types::{Activity, Energy, Game, MachineKind, Setup, holds, takes_fuel};
@@ -10,11 +10,12 @@ use plan_base::{EntityId, GoodId, Kind, NoMemory};
 use std::alloc::Global;
 use std::cmp::Ordering;
 
-/// What is known of the goods of a game: which things are reached, by node, and which goods sources give.
+/// What is known of a game: which things are reached, by node, which goods sources give, and which reached items are fuels.
 #[derive(Clone, Copy)]
 pub struct State<'a> {
     pub reached: &'a [bool],
     pub mined: &'a [bool],
+    pub fuels: &'a [GoodId],
 }
 
 /// The price at which a good is imported, where the wish names one.
@@ -65,18 +66,13 @@ fn burnt(game: &Game, energy: &Energy, good: GoodId, raw: bool) -> Option<FuelCh
 }
 
 // The best fuel of a burner among the reached items.
-fn best_fuel(game: &Game, state: State<'_>, wish: &Wish, energy: &Energy) -> Option<GoodId>
-    requires { IsSound game.now }
-{
+fn best_fuel(game: &Game, state: State<'_>, wish: &Wish, energy: &Energy) -> Option<GoodId> {
     let mut best = None;
-    for number in 0..game.shape().items {
-        let good = GoodId(number);
-        if is_good_reached(game, state.reached, good) {
-            let raw = is_marked(state.mined, number as usize)
-                || price_in(wish.imports.as_slice(), good).is_some();
-            if let Some(other) = burnt(game, energy, good, raw) {
-                best = better_fuel(best, other);
-            }
+    for good in state.fuels {
+        let raw = is_good_marked(state.mined, *good)
+            || price_in(wish.imports.as_slice(), *good).is_some();
+        if let Some(other) = burnt(game, energy, *good, raw) {
+            best = better_fuel(best, other);
         }
     }
     match best {
@@ -86,9 +82,7 @@ fn best_fuel(game: &Game, state: State<'_>, wish: &Wish, energy: &Energy) -> Opt
 }
 
 // The fuel that a machine burns: the wish's where it takes that, else the best. None where it is no burner.
-fn fuel_for(game: &Game, state: State<'_>, wish: &Wish, energy: &Energy) -> Option<GoodId>
-    requires { IsSound game.now }
-{
+fn fuel_for(game: &Game, state: State<'_>, wish: &Wish, energy: &Energy) -> Option<GoodId> {
     match energy {
         Energy::Burner { .. } => {}
         _ => return None,

@@ -105,3 +105,22 @@ pub fn mined_goods(alloc: Global, game: &Game, reached: &[bool]) -> Result<Vec<b
     }
     Ok(marks)
 }
+
+/// The reached items that are fuels.
+pub fn reached_fuels(
+    alloc: Global,
+    game: &Game,
+    reached: &[bool],
+) -> Result<Vec<GoodId>, NoMemory>
+    requires { IsSound game.now }
+{
+    let mut fuels = Vec::new(alloc);
+    for place in 0..game.shape().items {
+        if let Some(item) = game.items.as_slice().get(place as usize) {
+            if item.fuel.is_some() && is_reached(game, reached, Kind::Item, place) {
+                fuels.push(GoodId(place))?;
+            }
+        }
+    }
+    Ok(fuels)
+}
