@@ -102,6 +102,19 @@ fn accepted(
     }
 }
 
+// Carries a command out.
+fn step<L>(
+    planner: &mut Planner,
+    number: u32,
+    command: Command,
+    steps: &mut Steps<L>,
+) -> Result<Reply, NoMemory>
+    requires { (base : State) × IsSessionOf base planner.old }
+    ensures { (base : State) × IsSessionOf base planner.new }
+{
+    planner.step(number, command, steps)
+}
+
 // Carries a line out.
 fn take_line<L>(
     alloc: Global,
@@ -110,8 +123,8 @@ fn take_line<L>(
     line: &[u8],
     steps: &mut Steps<L>,
 ) -> Result<(), Failure>
-    requires session { (base : State) × IsSessionOf base planner.old }
-    ensures history { (base : State) → IsSessionOf base planner.old → IsSessionOf base planner.new }
+    requires { (base : State) × IsSessionOf base planner.old }
+    ensures { (base : State) × IsSessionOf base planner.new }
 {
     let line = match line.last() {
         Some(b'\r') => &line[..line.len() - 1],
@@ -119,7 +132,7 @@ fn take_line<L>(
     };
     match read_line(alloc, line) {
         Ok(Some(command)) => {
-            let reply = planner.step(number, command, steps)?;
+            let reply = step(planner, number, command, steps)?;
             accepted(alloc, planner, number, reply)?;
             Ok(())
         }
@@ -131,20 +144,33 @@ fn take_line<L>(
     }
 }
 
-// Carries the lines of a script out. Answers the number of the next.
+// The bytes from a place to another.
+fn between(bytes: &[u8], start: usize, end: usize) -> &[u8] {
+    if start <= end && end <= bytes.len() {
+        &bytes[start..end]
+    } else {
+        &[]
+    }
+}
+
+// Carries the lines of a script out, each of which ends with a newline. Answers the number of the next.
 fn take_lines<L>(
     alloc: Global,
     planner: &mut Planner,
     script: &[u8],
     steps: &mut Steps<L>,
 ) -> Result<u32, Failure>
-    requires session { (base : State) × IsSessionOf base planner.old }
-    ensures history { (base : State) → IsSessionOf base planner.old → IsSessionOf base planner.new }
+    requires { (base : State) × IsSessionOf base planner.old }
+    ensures { (base : State) × IsSessionOf base planner.new }
 {
     let mut number: u32 = 1;
-    for line in script.split(|byte| *byte == b'\n') {
-        take_line(alloc, planner, number, line, steps)?;
-        number = number.saturating_add(1);
+    let mut start = 0;
+    for end in 0..script.len() {
+        if script[end] == b'\n' {
+            take_line(alloc, planner, number, between(script, start, end), steps)?;
+            number = number.saturating_add(1);
+            start = end + 1;
+        }
     }
     Ok(number)
 }
@@ -157,12 +183,12 @@ pub fn take_script<L>(
     script: &[u8],
     steps: &mut Steps<L>,
 ) -> Result<(), Failure>
-    requires session { (base : State) × IsSessionOf base planner.old }
-    ensures history { (base : State) → IsSessionOf base planner.old → IsSessionOf base planner.new }
+    requires { (base : State) × IsSessionOf base planner.old }
+    ensures { (base : State) × IsSessionOf base planner.new }
 {
     let number = take_lines(alloc, planner, script, steps)?;
     let name = Text::copy(alloc, asked.table)?;
-    let reply = planner.step(number, Command::Change(Change::Table(name)), steps)?;
+    let reply = step(planner, number, Command::Change(Change::Table(name)), steps)?;
     accepted(alloc, planner, number, reply)?;
     Ok(())
 }
@@ -174,10 +200,10 @@ fn mark_reached<L>(
     marks: &mut [bool],
     steps: &mut Steps<L>,
 ) -> Result<bool, NoMemory>
-    requires session { (base : State) × IsSessionOf base planner.old }
-    ensures history { (base : State) → IsSessionOf base planner.old → IsSessionOf base planner.new }
+    requires { (base : State) × IsSessionOf base planner.old }
+    ensures { (base : State) × IsSessionOf base planner.new }
 {
-    match planner.step(0, Command::List(kind), steps)? {
+    match step(planner, 0, Command::List(kind), steps)? {
         Reply::List { nodes, .. } => {
             for pair in nodes.as_slice() {
                 if let Some(mark) = marks.get_mut(pair.0.0 as usize) {
@@ -196,7 +222,7 @@ pub fn reached_nodes<L>(
     planner: &mut Planner,
     steps: &mut Steps<L>,
 ) -> Result<Vec<bool>, Failure>
-    requires session { (base : State) × IsSessionOf base planner.old }
+    requires { (base : State) × IsSessionOf base planner.old }
 {
     let mut marks = vec![in alloc; false; planner.game().shape().len() as usize]?;
     for kind in [
