@@ -22,6 +22,7 @@ use wish_tables::{WishFault, table_text, wish_table};
 
 /// The most bytes that a dump and a script may have.
 const DUMP_LIMIT: usize = 268_435_456;
+
 const SCRIPT_LIMIT: usize = 16_777_216;
 
 // Marks the counter of the program.

@@ -11,12 +11,7 @@ use std::alloc::Global;
 use wish_tables::{Wish, WishBeacon, like_names};
 
 // Bad words, with the names of a kind that are like one.
-fn like(
-    alloc: Global,
-    game: &Game,
-    object: &Object,
-    text: String,
-) -> Result<Failure, Failure> 
+fn like(alloc: Global, game: &Game, object: &Object, text: String) -> Result<Failure, Failure>
     requires { IsSound game.now }
 {
     let mut text = text;
@@ -32,7 +27,7 @@ fn like(
     Ok(Failure::of(Status::BadWords, text))
 }
 
-fn unknown_failure(alloc: Global, game: &Game, object: &Object) -> Result<Failure, Failure> 
+fn unknown_failure(alloc: Global, game: &Game, object: &Object) -> Result<Failure, Failure>
     requires { IsSound game.now }
 {
     let word = object_word(alloc, object.kind, object.name.as_str())?;
@@ -41,7 +36,7 @@ fn unknown_failure(alloc: Global, game: &Game, object: &Object) -> Result<Failur
 }
 
 // Nothing has the name.
-fn unknown(alloc: Global, game: &Game, object: &Object) -> Failure 
+fn unknown(alloc: Global, game: &Game, object: &Object) -> Failure
     requires { IsSound game.now }
 {
     match unknown_failure(alloc, game, object) {
@@ -51,7 +46,7 @@ fn unknown(alloc: Global, game: &Game, object: &Object) -> Failure
 }
 
 // The place of an object among those of its kind.
-fn place_of(alloc: Global, game: &Game, object: &Object) -> Result<u32, Failure> 
+fn place_of(alloc: Global, game: &Game, object: &Object) -> Result<u32, Failure>
     requires { IsSound game.now }
 {
     match game.find(object.kind, object.name.as_str()) {
@@ -61,12 +56,7 @@ fn place_of(alloc: Global, game: &Game, object: &Object) -> Result<u32, Failure>
 }
 
 // A fluid that has one temperature.
-fn fluid(
-    alloc: Global,
-    game: &Game,
-    object: &Object,
-    good: GoodId,
-) -> Result<GoodId, Failure> 
+fn fluid(alloc: Global, game: &Game, object: &Object, good: GoodId) -> Result<GoodId, Failure>
     requires { IsSound game.now }
 {
     if !game.is_base(good) {
@@ -77,14 +67,19 @@ fn fluid(
     Err(like(alloc, game, object, text)?)
 }
 
-fn good(alloc: Global, game: &Game, object: &Object) -> Result<GoodId, Failure> 
+fn good(alloc: Global, game: &Game, object: &Object) -> Result<GoodId, Failure>
     requires { IsSound game.now }
 {
     let place = place_of(alloc, game, object)?;
     let shape = game.shape();
     match object.kind {
         Kind::Item => Ok(GoodId(place)),
-        Kind::Fluid => fluid(alloc, game, object, GoodId(shape.items.saturating_add(place))),
+        Kind::Fluid => fluid(
+            alloc,
+            game,
+            object,
+            GoodId(shape.items.saturating_add(place)),
+        ),
         Kind::Tech => {
             if (place as usize) < game.techs.len() {
                 Ok(game.units_good(TechId(place)))
@@ -96,13 +91,13 @@ fn good(alloc: Global, game: &Game, object: &Object) -> Result<GoodId, Failure>
     }
 }
 
-fn machine(alloc: Global, game: &Game, object: &Object) -> Result<EntityId, Failure> 
+fn machine(alloc: Global, game: &Game, object: &Object) -> Result<EntityId, Failure>
     requires { IsSound game.now }
 {
     Ok(EntityId(place_of(alloc, game, object)?))
 }
 
-fn item(alloc: Global, game: &Game, object: &Option<Object>) -> Result<Option<GoodId>, Failure> 
+fn item(alloc: Global, game: &Game, object: &Option<Object>) -> Result<Option<GoodId>, Failure>
     requires { IsSound game.now }
 {
     match object {
@@ -121,7 +116,7 @@ fn not_a(alloc: Global, object: &Object, what: &str) -> Failure {
     }
 }
 
-fn module(alloc: Global, game: &Game, object: &Object) -> Result<GoodId, Failure> 
+fn module(alloc: Global, game: &Game, object: &Object) -> Result<GoodId, Failure>
     requires { IsSound game.now }
 {
     let place = place_of(alloc, game, object)?;
@@ -131,7 +126,7 @@ fn module(alloc: Global, game: &Game, object: &Object) -> Result<GoodId, Failure
     }
 }
 
-fn beacon(alloc: Global, game: &Game, asked: &AskedBeacon) -> Result<WishBeacon, Failure> 
+fn beacon(alloc: Global, game: &Game, asked: &AskedBeacon) -> Result<WishBeacon, Failure>
     requires { IsSound game.now }
 {
     let beacon = machine(alloc, game, &asked.machine)?;
@@ -148,7 +143,7 @@ fn beacon(alloc: Global, game: &Game, asked: &AskedBeacon) -> Result<WishBeacon,
 }
 
 /// The wish that the words ask for.
-pub fn wish_of(alloc: Global, game: &Game, asked: &Asked<'_>) -> Result<Wish, Failure> 
+pub fn wish_of(alloc: Global, game: &Game, asked: &Asked<'_>) -> Result<Wish, Failure>
     requires { IsSound game.now }
 {
     let mut by = Vec::new(alloc);

@@ -87,12 +87,7 @@ fn without_number(reply: &str) -> &str {
 }
 
 // The reply where it is no refusal.
-fn accepted(
-    alloc: Global,
-    planner: &Planner,
-    number: u32,
-    reply: Reply,
-) -> Result<Reply, Failure> {
+fn accepted(alloc: Global, planner: &Planner, number: u32, reply: Reply) -> Result<Reply, Failure> {
     match reply {
         Reply::Refused { .. } => {
             let text = print_reply(alloc, number, &reply, planner.game())?;

@@ -96,7 +96,9 @@ impl Failure {
     {
         let good = good_text(alloc, game, good)?;
         let words = good_words(alloc, game, goods)?;
-        let text = format!(in alloc; "{good} can't be made: no reached machine gives{words} (--import GOOD=PRICE takes one as it is)")?;
+        let text = format!(in alloc;
+            "{good} can't be made: no reached machine gives{words} (--import GOOD=PRICE takes one as it is)"
+        )?;
         Ok(Failure::of(Status::Lacking, text))
     }
 
@@ -105,7 +107,9 @@ impl Failure {
         requires { IsSound game.now }
     {
         let words = good_words(alloc, game, goods)?;
-        let text = format!(in alloc; "the table would have more than 512 rows or goods; import some that are nearer, or these:{words}")?;
+        let text = format!(in alloc;
+            "the table would have more than 512 rows or goods; import some that are nearer, or these:{words}"
+        )?;
         Ok(Failure::of(Status::Full, text))
     }
 }

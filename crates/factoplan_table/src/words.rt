@@ -45,10 +45,14 @@ pub fn command<'a>(alloc: Global) -> Result<Command<'a>, AllocError> {
         .long("beacon")
         .num_args(4)
         .value_names(BEACON_NAMES.as_slice())
-        .help("COUNT beacons round each machine that takes them, each shared by SHARE machines and full of ITEM");
+        .help(
+            "COUNT beacons round each machine that takes them, each shared by SHARE machines and full of ITEM",
+        );
     Command::new(alloc, "factoplan_table")
         .version("0.5.0")
-        .about("Prints the lines of a script for `factoplan run` that make a table of GOOD at RATE a second")
+        .about(
+            "Prints the lines of a script for `factoplan run` that make a table of GOOD at RATE a second",
+        )
         .arg(
             Arg::new(alloc, "dump")
                 .value_name("DUMP")
@@ -69,10 +73,13 @@ pub fn command<'a>(alloc: Global) -> Result<Command<'a>, AllocError> {
         )?
         .arg(option(alloc, "script", "FILE", "lines that come first"))?
         .arg(option(alloc, "table", "NAME", "the name of the table").default_value("wish"))?
-        .arg(
-            option(alloc, "by", "MACHINE", "a machine to take before faster ones")
-                .action(ArgAction::Append),
-        )?
+        .arg(option(
+            alloc,
+            "by",
+            "MACHINE",
+            "a machine to take before faster ones",
+        )
+        .action(ArgAction::Append))?
         .arg(option(
             alloc,
             "module",
@@ -80,11 +87,19 @@ pub fn command<'a>(alloc: Global) -> Result<Command<'a>, AllocError> {
             "the module that fills each machine that takes it",
         ))?
         .arg(beacon)?
-        .arg(option(alloc, "fuel", "ITEM", "the fuel of each burner that takes it"))?
-        .arg(
-            option(alloc, "import", "GOOD=PRICE", "take a good as it is, at a price of one unit")
-                .action(ArgAction::Append),
-        )?
+        .arg(option(
+            alloc,
+            "fuel",
+            "ITEM",
+            "the fuel of each burner that takes it",
+        ))?
+        .arg(option(
+            alloc,
+            "import",
+            "GOOD=PRICE",
+            "take a good as it is, at a price of one unit",
+        )
+        .action(ArgAction::Append))?
         .arg(
             Arg::new(alloc, "dig")
                 .long("dig")

@@ -182,7 +182,9 @@ pub fn is_answer(
         return Ok(false);
     }
     let columns = row_columns(alloc, game, table.power, rows)?;
-    Ok(are_reached(game, reached, rows)
-        && all_supplied(columns.as_slice(), table.imports.as_slice())
-        && is_wanted(table.wants.as_slice(), good, rate))
+    Ok(
+        are_reached(game, reached, rows)
+            && all_supplied(columns.as_slice(), table.imports.as_slice())
+            && is_wanted(table.wants.as_slice(), good, rate),
+    )
 }

@@ -44,12 +44,7 @@ fn push_beacons(
 }
 
 // The words of a row behind its machine.
-fn push_parts(
-    alloc: Global,
-    game: &Game,
-    setup: &Setup,
-    text: &mut String,
-) -> Result<(), NoMemory>
+fn push_parts(alloc: Global, game: &Game, setup: &Setup, text: &mut String) -> Result<(), NoMemory>
     requires { IsSound game.now }
 {
     if let Some(fuel) = setup.fuel {
@@ -117,8 +112,22 @@ pub fn table_text(alloc: Global, game: &Game, table: &Table) -> Result<String, N
     for row in table.rows.as_slice() {
         push_row(alloc, game, name, row, &mut text)?;
     }
-    push_numbers(alloc, game, "import", name, table.imports.as_slice(), &mut text)?;
-    push_numbers(alloc, game, "surplus", name, table.surpluses.as_slice(), &mut text)?;
+    push_numbers(
+        alloc,
+        game,
+        "import",
+        name,
+        table.imports.as_slice(),
+        &mut text,
+    )?;
+    push_numbers(
+        alloc,
+        game,
+        "surplus",
+        name,
+        table.surpluses.as_slice(),
+        &mut text,
+    )?;
     push_numbers(alloc, game, "want", name, table.wants.as_slice(), &mut text)?;
     if table.power {
         write!(text, "power {name} on\n")?;

@@ -17,7 +17,11 @@ pub fn name_at(game: &Game, kind: Kind, place: u32) -> &str {
         Kind::Machine => &game.machine_names,
         Kind::Tech => &game.tech_names,
     };
-    if place < names.len() { names.name_of(place) } else { "" }
+    if place < names.len() {
+        names.name_of(place)
+    } else {
+        ""
+    }
 }
 
 // The kind of a good of a table, and its place among those.
@@ -55,7 +59,11 @@ pub fn good_text(alloc: Global, game: &Game, good: GoodId) -> Result<String, NoM
 
 /// A machine as a word.
 pub fn machine_text(alloc: Global, game: &Game, machine: EntityId) -> Result<String, NoMemory> {
-    Ok(object_word(alloc, Kind::Machine, name_at(game, Kind::Machine, machine.0))?)
+    Ok(object_word(
+        alloc,
+        Kind::Machine,
+        name_at(game, Kind::Machine, machine.0),
+    )?)
 }
 
 /// What a set-up does as a word.
@@ -92,12 +100,7 @@ pub fn label_of(alloc: Global, game: &Game, setup: &Setup) -> Result<String, NoM
 }
 
 /// Names of a kind that have a text in them, at most eight.
-pub fn like_names(
-    alloc: Global,
-    game: &Game,
-    kind: Kind,
-    text: &str,
-) -> Result<Vec<Text>, NoMemory>
+pub fn like_names(alloc: Global, game: &Game, kind: Kind, text: &str) -> Result<Vec<Text>, NoMemory>
     requires { IsSound game.now }
 {
     let mut found = Vec::new(alloc);

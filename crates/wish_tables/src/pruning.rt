@@ -35,9 +35,7 @@ fn mark_taken(marks: &mut [bool], column: &[(GoodId, Ratio)]) {
 
 // Whether a row gives something that is marked.
 fn gives_marked(marks: &[bool], column: &[(GoodId, Ratio)]) -> bool {
-    column
-        .iter()
-        .any(|part| part.1.is_positive() && is_good_marked(marks, part.0))
+    column.iter().any(|part| part.1.is_positive() && is_good_marked(marks, part.0))
 }
 
 // Marks the rows that can run by what is marked, and what they give. Answers whether there was a new one.
@@ -59,10 +57,7 @@ fn need_once(rows: &[Found], runs: &[bool], kept: &mut [bool], goods: &mut [bool
     let mut new = false;
     for (place, row) in rows.iter().enumerate() {
         let column = row.column.as_slice();
-        if is_marked(runs, place)
-            && !is_marked(kept, place)
-            && gives_marked(goods, column)
-        {
+        if is_marked(runs, place) && !is_marked(kept, place) && gives_marked(goods, column) {
             mark(kept, place);
             mark_taken(goods, column);
             new = true;
@@ -106,9 +101,8 @@ fn run_all(
 
 // Whether a row that runs makes electricity.
 fn makes_power(rows: &[Found], runs: &[bool]) -> bool {
-    rows.iter()
-        .enumerate()
-        .any(|(place, row)| row.setup.activity == Activity::Generate && is_marked(runs, place))
+    rows.iter().enumerate().any(|(place, row)| row.setup.activity == Activity::Generate
+        && is_marked(runs, place))
 }
 
 /// Marks what can be had from what is taken as it is, one row after another, and of the rows those that the good needs. Where
@@ -127,7 +121,12 @@ pub fn prune(alloc: Global, game: &Game, walk: &Walk, good: GoodId) -> Result<Pr
     let mut goods = vec![in alloc; false; walk.raw.len()]?;
     mark_good(goods.as_mut_slice(), good);
     for _ in 0..=rows.len() {
-        if !need_once(rows, runs.as_slice(), kept.as_mut_slice(), goods.as_mut_slice()) {
+        if !need_once(
+            rows,
+            runs.as_slice(),
+            kept.as_mut_slice(),
+            goods.as_mut_slice(),
+        ) {
             break;
         }
     }

@@ -107,11 +107,7 @@ pub fn mined_goods(alloc: Global, game: &Game, reached: &[bool]) -> Result<Vec<b
 }
 
 /// The reached items that are fuels.
-pub fn reached_fuels(
-    alloc: Global,
-    game: &Game,
-    reached: &[bool],
-) -> Result<Vec<GoodId>, NoMemory>
+pub fn reached_fuels(alloc: Global, game: &Game, reached: &[bool]) -> Result<Vec<GoodId>, NoMemory>
     requires { IsSound game.now }
 {
     let mut fuels = Vec::new(alloc);

@@ -265,12 +265,7 @@ fn with_extras(
 }
 
 /// A set-up with those of the wish's modules and beacons that it takes: both, else the modules, else the beacons, else none.
-pub fn dressed(
-    alloc: Global,
-    game: &Game,
-    wish: &Wish,
-    setup: Setup,
-) -> Result<Setup, NoMemory>
+pub fn dressed(alloc: Global, game: &Game, wish: &Wish, setup: Setup) -> Result<Setup, NoMemory>
     requires { IsSound game.now }
 {
     if wish.module.is_none() && wish.beacon.is_none() {

@@ -16,9 +16,7 @@ fn is_same(part: &Part, product: &Product) -> bool {
 
 // Whether each ingredient is one of the products.
 fn are_among(parts: &[Part], products: &[Product]) -> bool {
-    parts
-        .iter()
-        .all(|part| products.iter().any(|product| is_same(part, product)))
+    parts.iter().all(|part| products.iter().any(|product| is_same(part, product)))
 }
 
 // Whether a recipe takes just what another gives, and gives just what that takes.

@@ -89,11 +89,10 @@ fn is_craft_of(
         return false;
     }
     !plain
-        || recipe
-            .ingredients
-            .as_slice()
-            .iter()
-            .any(|part| price_in(wish.imports.as_slice(), part.good).is_some())
+        || recipe.ingredients.as_slice().iter().any(|part| price_in(
+            wish.imports.as_slice(),
+            part.good,
+        ).is_some())
         || !is_undoing(game, reached, recipe)
 }
 
@@ -196,9 +195,25 @@ pub fn ways_to(
             digs(alloc, game, state, wish, good, &mut ways)?;
         }
     } else {
-        add_best(alloc, game, state, wish, Activity::Pump(good), &[], &mut ways)?;
+        add_best(
+            alloc,
+            game,
+            state,
+            wish,
+            Activity::Pump(good),
+            &[],
+            &mut ways,
+        )?;
         if ways.is_empty() {
-            add_best(alloc, game, state, wish, Activity::Boil(good), &[], &mut ways)?;
+            add_best(
+                alloc,
+                game,
+                state,
+                wish,
+                Activity::Boil(good),
+                &[],
+                &mut ways,
+            )?;
             crafts(alloc, game, state, wish, good, true, &mut ways)?;
         }
         if ways.is_empty() {
