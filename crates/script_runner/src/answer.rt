@@ -52,7 +52,8 @@ fn gives_up(answer: &SolveAnswer) -> bool
     }
 }
 
-fn is_refusal(reply: &Reply) -> bool
+/// Whether a reply is printed as a refusal.
+pub fn is_refusal(reply: &Reply) -> bool
     ensures { result ≡ is_refusal_reply reply.now }
 {
     match reply {
