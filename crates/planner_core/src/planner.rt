@@ -12,7 +12,8 @@ ghost use Rattle.edit_undo.specs.Kept.{session_of};
 ghost use Rattle.script_reader.specs.declared.command.Command.TheVariants as CommandLine;
 ghost use Rattle.planning_state.specs.Actions.{can_be_held};
 ghost use Rattle.planner_core.specs.Replies.{done_reply, held_reply, refused_as};
-ghost use Rattle.planner_core.specs.Posing.{IsFormed, IsPosed, posed_work};
+ghost use Rattle.planner_tables.specs.Questions.{linear_named};
+ghost use Rattle.planner_core.specs.Posing.{IsFormed, IsPosed, IsPosedTable, posed_work};
 ghost use Rattle.planner_core.specs.declared.posing.Posed.TheVariants.{Reply as PosedReply};
 ghost use Rattle.plan_report.specs.declared.reply.Reply.{Reply as ReplyTo};
 ghost use Rattle.std.specs.List.{list_all};
@@ -25,7 +26,7 @@ use crate::questions::{
 };
 use edit_undo::{DoFault, History};
 use game_types::Game;
-use plan_base::{NoMemory, Steps};
+use plan_base::{NoMemory, Steps, Text};
 use plan_report::{RefusalCode, Reply};
 use planning_state::{LoadFault, Planning, Undo, can_be_held};
 use script_reader::{Change, Command};
@@ -333,9 +334,17 @@ impl Planner {
             return self.pose_reply(line, command, steps);
         }
         match command {
-            Command::Solve { table, budget: _ } => pose_table(self.alloc, &self.planning, &table),
+            Command::Solve { table, budget: _ } => self.pose_form(&table),
             other => self.pose_reply(line, other, steps),
         }
+    }
+
+    // The linear form of the table of a name, or the reply that tells why it has none.
+    fn pose_form(&self, table: &Text) -> Result<Posed, NoMemory>
+        ensures posed { IfOk result (IsPosedTable self.now.state.book.game (linear_named self.now.state.book.game self.now.state.tables table.now)) }
+        ensures formed { IfOk result IsFormed }
+    {
+        pose_table(self.alloc, &self.planning, table)
     }
 
     // The reply to a line.
