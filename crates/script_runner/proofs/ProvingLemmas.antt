@@ -46,7 +46,7 @@ pub proving_next : {first now : Planned} {script rest : List ℕ} {count : ℕ} 
 proving_next {count = count} {entries = entries} so line more next text refuses solved newer is told later later_found grows later_entries enters =
     let a = told.answer in
     let entry : option_map (entry_for (count + 1)) solved ≡ entry_of a =
-        ap (λ (o : Option SolveAnswer). option_map (entry_for (count + 1)) o) told.solves ∙ ap (λ (n : ℕ). option_map (entry_for n) (solved_in a.reply)) (sym told.of_number) in
+    ap (λ (o : Option SolveAnswer). option_map (entry_for (count + 1)) o) told.solves ∙ ap (λ (n : ℕ). option_map (entry_for n) (solved_in a.reply)) (sym told.of_number) in
     record {
       so_far = so_far_next so.so_far line more next text refuses solved None newer is told later tt later_found grows;
       entered = enters ∙ (ap (λ l. l ++ option_to_list (option_map (entry_for (count + 1)) solved)) so.entered
@@ -61,9 +61,11 @@ proving_left so line more is = line_left so.so_far line more is
 
 pub proving_part : {first now : Planned} {script rest : List ℕ} {count : ℕ} {refused : Bool} {found : List SolveAnswer} {entries : List CertEntry} {old new : ℕ} → Proving first now script rest count refused found entries old new
     → length (lines_of script) ≤ 100_000 → (kept : List SolveAnswer) → kept ≡ found → IsEnteredInPart first script kept
-proving_part {now = now} {count = count} so few kept same =
-    (report so.so_far.answers, work so.so_far.answers,
-     record { few = few; count = count; tells = record { answers = so.so_far.answers; last = now; session = so.so_far.session; told = refl; solves = same ∙ so.so_far.solves; takes = refl } })
+proving_part {now = now} {count = count} so few kept same = (
+  report so.so_far.answers,
+  work so.so_far.answers,
+  record { few = few; count = count; tells = record { answers = so.so_far.answers; last = now; session = so.so_far.session; told = refl; solves = same ∙ so.so_far.solves; takes = refl } },
+)
 
 pub proving_all : {first now : Planned} {script rest : List ℕ} {count : ℕ} {refused : Bool} {found : List SolveAnswer} {entries : List CertEntry} {old new : ℕ} → Proving first now script rest count refused found entries old new
     → length (lines_of script) ≤ 100_000 → lines_of rest ≡ [] → IsEntered refused first script found entries old new
@@ -141,13 +143,15 @@ proof_wants first script solved known old new part later = record {
 -- want of memory behind the last line
 pub entered_part : (first : Planned) (script : List ℕ) (solved : List SolveAnswer) (refused : Bool) (entries : List CertEntry) (old new : ℕ) → IsEntered refused first script solved entries old new → IsEnteredInPart first script solved
 entered_part first script solved refused entries old new entered =
-    let all = entered.tells.tells in
-    (entered.replies, entered.steps,
-     record {
-       few = entered.tells.few;
-       count = length (lines_of script);
-       tells = record { answers = all.answers; last = all.last; session = subst (λ l. IsSession first l all.answers all.last) (sym (take-length (lines_of script))) all.session; told = all.told; solves = all.solves; takes = all.takes };
-     })
+    let all = entered.tells.tells in (
+      entered.replies,
+      entered.steps,
+      record {
+        few = entered.tells.few;
+        count = length (lines_of script);
+        tells = record { answers = all.answers; last = all.last; session = subst (λ l. IsSession first l all.answers all.last) (sym (take-length (lines_of script))) all.session; told = all.told; solves = all.solves; takes = all.takes };
+      },
+    )
 
 -- a script of too many lines
 pub proof_many : (first : Planned) (script : List ℕ) (solved : List SolveAnswer) (before after : Option (List ℕ)) (steps : ℕ) (end : ScriptEnd) → solved ≡ [] → 100_000 < length (lines_of script) → TellsMany before after end

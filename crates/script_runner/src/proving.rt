@@ -59,11 +59,7 @@ fn claim_of(alloc: Global, answer: &SolveAnswer) -> Result<Claim, NoMemory>
 }
 
 // The entry for a line that the solver answered.
-fn entry_for(
-    alloc: Global,
-    number: u32,
-    answer: &SolveAnswer,
-) -> Result<CertEntry, NoMemory>
+fn entry_for(alloc: Global, number: u32, answer: &SolveAnswer) -> Result<CertEntry, NoMemory>
     ensures { IfOk result (λ entry. entry ≡ entry_for number answer.now) }
 {
     let claim = claim_of(alloc, answer)?;

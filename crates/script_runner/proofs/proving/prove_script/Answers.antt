@@ -22,7 +22,7 @@ returns-in-Ok-tell_certificate-clause-leaves g c =
     let text : c.in-Ok-write_cert.text ≡ compact_text (certificate_tree c.answer_all.new.entries.items) = search rules in
     rw c.end_of.ensures
     (proof_told c.args.planner.now c.args.script.now c.answer_all.new.solved.items c.in-Ok.refused c.answer_all.new.entries.items c.in-Ok-write_cert.text (g.K.Sink.written c.args.out.now) (g.K.Sink.written c.tell_certificate.new.out) c.args.steps.now c.answer_all.new.steps
-     c.in-Ok.ensures.all text c.answer_all.ensures.later c.in-Ok-tell_certificate.ensures.ok)
+    c.in-Ok.ensures.all text c.answer_all.ensures.later c.in-Ok-tell_certificate.ensures.ok)
 
 pub returns-clause-leaves : goal.returns-clause-leaves
 returns-clause-leaves g c =
