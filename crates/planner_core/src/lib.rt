@@ -9,6 +9,5 @@ mod questions;
 
 pub use laws::state_is_of_the_active_edits;
 pub use planner::{BATCH_LIMIT, Planner};
-pub use posing::Posed;
 pub use planning_state::LoadFault;
 pub use posing::Posed;
