@@ -7,6 +7,7 @@ ghost use Rattle.game_types.specs.Sound.{IsSound};
 ghost use Rattle.depend_rows.specs.Rows.{rows_of};
 ghost use Rattle.depend_rows.specs.declared.rows.TheConstants.{MEMBER_LIMIT};
 ghost use Rattle.planning_state.specs.States.{State};
+ghost use Rattle.planner_tables.specs.Effects.{AreSoundTables};
 ghost use Rattle.edit_undo.specs.Session.{last_of, redo_of, undo_of};
 ghost use Rattle.edit_undo.specs.Kept.{session_of};
 ghost use Rattle.script_reader.specs.declared.command.Command.TheVariants as CommandLine;
@@ -24,6 +25,7 @@ use game_types::Game;
 use plan_base::{NoMemory, Steps};
 use plan_report::{RefusalCode, Reply};
 use planning_state::{LoadFault, Planning, Undo, can_be_held};
+use production_table::Table;
 use script_reader::{Change, Command};
 use std::alloc::Global;
 use std::marker::Model;
@@ -86,6 +88,14 @@ impl Planner {
         ensures sound { IsSound result.now }
     {
         self.planning.game()
+    }
+
+    /// The tables as the edits left them, in the order in which they were added.
+    pub fn tables(&self) -> &[Table]
+        ensures tables { result.now ≡ self.now.state.tables }
+        ensures sound { AreSoundTables self.now.state.book.game result.now }
+    {
+        self.planning.tables()
     }
 
     // Does a change as an entry by itself.

@@ -22,8 +22,12 @@ pub struct Told {
     pub solved: Option<SolveAnswer>,
 }
 
-// Carries out what a line is read as.
-fn reply_to<L>(
+/// Carries out what a line is read as.
+///
+/// # Errors
+///
+/// `NoMemory` where memory could not be had. Then all is as before.
+pub fn reply_to<L>(
     planner: &mut Planner,
     number: u32,
     reading: Reading,
@@ -52,7 +56,8 @@ fn gives_up(answer: &SolveAnswer) -> bool
     }
 }
 
-fn is_refusal(reply: &Reply) -> bool
+/// Whether a reply is a refusal, also by the solver.
+pub fn is_refusal(reply: &Reply) -> bool
     ensures { result ≡ is_refusal_reply reply.now }
 {
     match reply {
