@@ -128,6 +128,9 @@ fn push_missing(
 ) -> Result<(), NoMemory>
     requires { IsSound game.now }
 {
+    if forbidden && groups.is_empty() {
+        return push_line(alloc, out, line, words, "is forbidden");
+    }
     push_head(alloc, out, line, words, groups.len())?;
     if forbidden {
         out.push_str("<li data-f>forbidden</li>\n")?;
@@ -173,6 +176,30 @@ fn push_milestones(
     Ok(())
 }
 
+fn push_mask(
+    alloc: Global,
+    out: &mut String,
+    line: u32,
+    words: &str,
+    game: &Game,
+    nodes: &[NodeId],
+) -> Result<(), NoMemory>
+    requires { IsSound game.now }
+{
+    if nodes.is_empty() {
+        return push_line(alloc, out, line, words, "needs no milestone");
+    }
+    push_milestones(alloc, out, line, words, game, nodes)
+}
+
+// A printed reply without the number of its line.
+fn behind_number(text: &str) -> &str {
+    match text.split_once(' ') {
+        Some((_, words)) => words,
+        None => text,
+    }
+}
+
 // A reply as it is printed elsewhere.
 fn push_printed(
     alloc: Global,
@@ -185,7 +212,7 @@ fn push_printed(
     requires { IsSound game.now }
 {
     let text = print_reply(alloc, line, reply, game)?;
-    push_line(alloc, out, line, words, text.as_str())
+    push_line(alloc, out, line, words, behind_number(text.as_str()))
 }
 
 /// The answer to a question about nodes, rows or the whole.
@@ -221,7 +248,7 @@ pub fn push_answer(
             push_line(alloc, out, line, words, "is not reached")
         }
         Reply::Mask { milestones, .. } => {
-            push_milestones(alloc, out, line, words, game, milestones.as_slice())
+            push_mask(alloc, out, line, words, game, milestones.as_slice())
         }
         Reply::Milestones(nodes) => {
             push_milestones(alloc, out, line, words, game, nodes.as_slice())
@@ -249,6 +276,6 @@ pub fn push_refusal(
     let meaning = meaning(code);
     let text = print_reply(alloc, line, reply, game)?;
     let text = escaped(alloc, text.as_str())?;
-    write!(out, "<details data-f><summary><code>{words}</code> <b class=\"bad\">{meaning}</b> <small>line {line}</small></summary><pre>{text}</pre></details>\n")?;
+    write!(out, "<details data-f><summary><code>{words}</code> <b class=\"bad\">{code:?}: {meaning}</b> <small>line {line}</small></summary><pre>{text}</pre></details>\n")?;
     Ok(())
 }

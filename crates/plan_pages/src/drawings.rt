@@ -9,8 +9,8 @@ use plan_report::kind_word;
 use std::alloc::Global;
 
 // Sizes, in points of the drawing.
-const CARD: u32 = 212;
-const SIDE: u32 = 40;
+const CARD: u32 = 200;
+const SIDE: u32 = 30;
 const HEAD: u32 = 38;
 const LINE: u32 = 15;
 const EDGE: u32 = 12;
@@ -226,10 +226,10 @@ fn push_card(
     let height = height_of(card);
     let word = card_word(card.kind);
     let whole = escaped(alloc, card.title.as_str())?;
-    let short = cut(alloc, card.title.as_str(), 28)?;
+    let short = cut(alloc, card.title.as_str(), 25)?;
     let title = escaped(alloc, short.as_str())?;
     let about_whole = escaped(alloc, card.about.as_str())?;
-    let short = cut(alloc, card.about.as_str(), 32)?;
+    let short = cut(alloc, card.about.as_str(), 30)?;
     let about = escaped(alloc, short.as_str())?;
     write!(out, "<g class=\"{word}\" transform=\"translate({left} {top})\"><title>{whole} {about_whole}</title><rect width=\"{CARD}\" height=\"{height}\" rx=\"6\"/>\n<text class=\"name\" x=\"8\" y=\"17\">{title}</text>\n")?;
     if !about.is_empty() {

@@ -4,7 +4,7 @@
 pub const HEAD: &str = "<!DOCTYPE html>
 <html lang=\"en\">
 <head><meta charset=\"utf-8\"><meta name=\"viewport\" content=\"width=device-width, initial-scale=1\">
-<meta http-equiv=\"Content-Security-Policy\" content=\"default-src 'none'; style-src 'unsafe-inline'; script-src 'sha256-GGOBHXJnJuJiS/dzXutfLiVSu4he3oy7FX1ceIvIb9o='\">
+<meta http-equiv=\"Content-Security-Policy\" content=\"default-src 'none'; style-src 'unsafe-inline'; script-src 'sha256-3rZv6TW4kkoxp2ISigqHlh0FqU+ZAgxFUANq5ZfTd8I='\">
 <title>Plans</title>
 ";
 
@@ -72,6 +72,9 @@ find.addEventListener('input', () => {
       fold.open = true;
       opened.add(fold);
     }
+  }
+  for (const plan of document.querySelectorAll('.plan')) {
+    plan.hidden = word !== '' && !plan.querySelector('[data-f]:not([hidden])');
   }
   if (word === '') {
     for (const fold of opened) fold.open = false;
