@@ -18,8 +18,13 @@ use std::{env, io};
 #[derive(Drop)]
 struct Program;
 
-const DUMP: (&str, &str) = ("DUMP", "the file data-raw-dump.json that factorio --dump-data writes");
+const DUMP: (&str, &str) = (
+    "DUMP",
+    "the file data-raw-dump.json that factorio --dump-data writes",
+);
+
 const SCRIPT: (&str, &str) = ("SCRIPT", "a file with a command a line; may be /dev/stdin");
+
 const TABLE: (&str, &str) = ("TABLE", "the name of a table of the script");
 
 /// The program's words, or none at all where one is not UTF-8.

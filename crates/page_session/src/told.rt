@@ -88,9 +88,7 @@ pub fn end_by_fault<R: Files>(rt: &R, alloc: Global, fault: PageFault, names: Na
             said: Text::copy(alloc, "factoplan: the table has no plan\n").ok(),
             exit: NO_PLAN,
         },
-        PageFault::TooManyLines => {
-            end_by(rt, alloc, &Status::TooLong(Long::ScriptLines), names)
-        }
+        PageFault::TooManyLines => { end_by(rt, alloc, &Status::TooLong(Long::ScriptLines), names) }
         PageFault::NoMemory => end_by(rt, alloc, &Status::NoMemory, names),
     }
 }

@@ -63,9 +63,12 @@ fn machines(alloc: Global, shown: &Shown<'_>, row: usize) -> Result<Text, NoMemo
 
 fn count_word(alloc: Global, figures: Option<&Figures>) -> Result<Text, NoMemory> {
     match figures {
-        Some(Figures {
-            count: Some(count), ..
-        }) => count.print(alloc),
+        Some(
+            Figures {
+                count: Some(count),
+                ..
+            },
+        ) => count.print(alloc),
         _ => Text::copy(alloc, "wide"),
     }
 }

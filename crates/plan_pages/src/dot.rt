@@ -1,8 +1,9 @@
 //! A chart as a graph for Graphviz.
+use crate::Done;
+use crate::amounts::{Amount, Flow};
 use crate::cards::{Card, CardKind, Chart};
 use crate::decimals::decimal;
 use crate::escape::escaped;
-use crate::amounts::{Amount, Flow};
 use plan_base::NoMemory;
 use std::alloc::Global;
 
@@ -20,7 +21,11 @@ pub fn amount_word(alloc: Global, amount: &Amount) -> Result<String, NoMemory> {
     let Amount::Exact(amount) = amount else {
         return Ok(String::from_str(alloc, "wide")?);
     };
-    let size = if amount.is_neg() { amount.neg() } else { *amount };
+    let size = if amount.is_neg() {
+        amount.neg()
+    } else {
+        *amount
+    };
     let exact = size.print(alloc)?;
     let exact = exact.as_str();
     if size.denominator() == 1 {
@@ -30,7 +35,7 @@ pub fn amount_word(alloc: Global, amount: &Amount) -> Result<String, NoMemory> {
     Ok(format!(in alloc; "{exact} ({near})")?)
 }
 
-fn push_flow(alloc: Global, out: &mut String, card: usize, flow: &Flow) -> Result<(), NoMemory> {
+fn push_flow(alloc: Global, out: &mut String, card: usize, flow: &Flow) -> Done {
     let good = flow.good;
     let amount = amount_word(alloc, &flow.amount)?;
     if flow.gives {
@@ -41,7 +46,7 @@ fn push_flow(alloc: Global, out: &mut String, card: usize, flow: &Flow) -> Resul
     Ok(())
 }
 
-fn push_card(alloc: Global, out: &mut String, number: usize, card: &Card) -> Result<(), NoMemory> {
+fn push_card(alloc: Global, out: &mut String, number: usize, card: &Card) -> Done {
     let title = escaped(alloc, card.title.as_str())?;
     let about = escaped(alloc, card.about.as_str())?;
     let look = look(card.kind);

@@ -1,8 +1,9 @@
 //! A chart as a drawing.
+use crate::Done;
+use crate::amounts::{Amount, Flow};
 use crate::cards::{Card, CardKind, Chart};
 use crate::dot::amount_word;
 use crate::escape::{cut, escaped};
-use crate::amounts::{Amount, Flow};
 use crate::layout::{Arrow, Graph, Layout, at, laid_out, last_layer};
 use plan_base::{Kind, NoMemory};
 use plan_report::kind_word;
@@ -10,9 +11,13 @@ use std::alloc::Global;
 
 // Sizes, in points of the drawing.
 const CARD: u32 = 200;
+
 const SIDE: u32 = 30;
+
 const HEAD: u32 = 38;
+
 const LINE: u32 = 15;
+
 const EDGE: u32 = 12;
 
 fn height_of(card: &Card) -> u32 {
@@ -101,7 +106,7 @@ fn push_curve(
     title: &str,
     from: (u32, u32),
     to: (u32, u32),
-) -> Result<(), NoMemory> {
+) -> Done {
     let width = if from.0 < to.0 {
         (to.0 - from.0) / 2
     } else {
@@ -111,7 +116,10 @@ fn push_curve(
     let left = to.0.saturating_sub(width);
     let (x, y) = from;
     let (to_x, to_y) = to;
-    write!(out, "<path class=\"{kind}\" d=\"M{x} {y}C{right} {y} {left} {to_y} {to_x} {to_y}\"><title>{title}</title></path>\n")?;
+    write!(
+        out,
+        "<path class=\"{kind}\" d=\"M{x} {y}C{right} {y} {left} {to_y} {to_x} {to_y}\"><title>{title}</title></path>\n"
+    )?;
     Ok(())
 }
 
@@ -135,7 +143,7 @@ fn push_flow_curve(
     line: u32,
     card: &Card,
     flow: &Flow,
-) -> Result<(), NoMemory> {
+) -> Done {
     let joint = chart.cards.len().saturating_add(flow.good as usize);
     let layers = layout.layers.as_slice();
     let tops = layout.tops.as_slice();
@@ -159,12 +167,7 @@ fn push_flow_curve(
     }
 }
 
-fn push_curves(
-    alloc: Global,
-    out: &mut String,
-    chart: &Chart,
-    layout: &Layout,
-) -> Result<(), NoMemory> {
+fn push_curves(alloc: Global, out: &mut String, chart: &Chart, layout: &Layout) -> Done {
     let mut node: usize = 0;
     for card in chart.cards.as_slice() {
         let mut line: u32 = 0;
@@ -185,7 +188,7 @@ fn push_card_line(
     line: u32,
     card: &Card,
     flow: &Flow,
-) -> Result<(), NoMemory> {
+) -> Done {
     let kind = good_kind(chart, flow.good);
     let short = cut(alloc, good_name(chart, flow.good), 21)?;
     let name = escaped(alloc, short.as_str())?;
@@ -193,9 +196,15 @@ fn push_card_line(
     let base = line_middle(card, line).saturating_add(4);
     let right = CARD - 8;
     if flow.gives {
-        write!(out, "<text class=\"{kind}\" x=\"{right}\" y=\"{base}\" text-anchor=\"end\">{name} →</text><text x=\"8\" y=\"{base}\">{amount}</text>\n")?;
+        write!(
+            out,
+            "<text class=\"{kind}\" x=\"{right}\" y=\"{base}\" text-anchor=\"end\">{name} →</text><text x=\"8\" y=\"{base}\">{amount}</text>\n"
+        )?;
     } else {
-        write!(out, "<text class=\"{kind}\" x=\"8\" y=\"{base}\">→ {name}</text><text x=\"{right}\" y=\"{base}\" text-anchor=\"end\">{amount}</text>\n")?;
+        write!(
+            out,
+            "<text class=\"{kind}\" x=\"8\" y=\"{base}\">→ {name}</text><text x=\"{right}\" y=\"{base}\" text-anchor=\"end\">{amount}</text>\n"
+        )?;
     }
     Ok(())
 }
@@ -205,7 +214,11 @@ fn short_amount(alloc: Global, flow: &Flow) -> Result<String, NoMemory> {
     let Amount::Exact(amount) = flow.amount else {
         return Ok(String::from_str(alloc, "wide")?);
     };
-    let size = if amount.is_neg() { amount.neg() } else { amount };
+    let size = if amount.is_neg() {
+        amount.neg()
+    } else {
+        amount
+    };
     if size.denominator() == 1 {
         let exact = size.print(alloc)?;
         return Ok(String::from_str(alloc, exact.as_str())?);
@@ -220,7 +233,7 @@ fn push_card(
     layout: &Layout,
     node: usize,
     card: &Card,
-) -> Result<(), NoMemory> {
+) -> Done {
     let left = card_left(at(layout.layers.as_slice(), node));
     let top = at(layout.tops.as_slice(), node).saturating_add(EDGE);
     let height = height_of(card);
@@ -231,9 +244,15 @@ fn push_card(
     let about_whole = escaped(alloc, card.about.as_str())?;
     let short = cut(alloc, card.about.as_str(), 30)?;
     let about = escaped(alloc, short.as_str())?;
-    write!(out, "<g class=\"{word}\" transform=\"translate({left} {top})\"><title>{whole} {about_whole}</title><rect width=\"{CARD}\" height=\"{height}\" rx=\"6\"/>\n<text class=\"name\" x=\"8\" y=\"17\">{title}</text>\n")?;
+    write!(
+        out,
+        "<g class=\"{word}\" transform=\"translate({left} {top})\"><title>{whole} {about_whole}</title><rect width=\"{CARD}\" height=\"{height}\" rx=\"6\"/>\n<text class=\"name\" x=\"8\" y=\"17\">{title}</text>\n"
+    )?;
     if !about.is_empty() {
-        write!(out, "<text class=\"what\" x=\"8\" y=\"32\">{about}</text>\n")?;
+        write!(
+            out,
+            "<text class=\"what\" x=\"8\" y=\"32\">{about}</text>\n"
+        )?;
     }
     let mut line: u32 = 0;
     for flow in card.flows.as_slice() {
@@ -244,7 +263,7 @@ fn push_card(
     Ok(())
 }
 
-fn push_joints(out: &mut String, chart: &Chart, layout: &Layout, used: &[Arrow]) -> Result<(), NoMemory> {
+fn push_joints(out: &mut String, chart: &Chart, layout: &Layout, used: &[Arrow]) -> Done {
     let mut good: usize = 0;
     for shown in chart.goods.as_slice() {
         let joint = chart.cards.len().saturating_add(good);
@@ -252,7 +271,10 @@ fn push_joints(out: &mut String, chart: &Chart, layout: &Layout, used: &[Arrow])
             let left = joint_left(at(layout.layers.as_slice(), joint));
             let top = at(layout.tops.as_slice(), joint).saturating_add(EDGE);
             let kind = kind_word(shown.kind);
-            write!(out, "<circle class=\"{kind}\" cx=\"{left}\" cy=\"{top}\" r=\"3\"/>\n")?;
+            write!(
+                out,
+                "<circle class=\"{kind}\" cx=\"{left}\" cy=\"{top}\" r=\"3\"/>\n"
+            )?;
         }
         good = good.saturating_add(1);
     }
@@ -262,8 +284,10 @@ fn push_joints(out: &mut String, chart: &Chart, layout: &Layout, used: &[Arrow])
 fn bottom(graph: &Graph, layout: &Layout) -> u32 {
     let mut bottom = 0;
     for node in 0..graph.heights.len() {
-        let end = at(layout.tops.as_slice(), node)
-            .saturating_add(at(graph.heights.as_slice(), node));
+        let end = at(layout.tops.as_slice(), node).saturating_add(at(
+            graph.heights.as_slice(),
+            node,
+        ));
         bottom = end.max(bottom);
     }
     bottom
@@ -276,7 +300,9 @@ pub fn drawing(alloc: Global, table: &str, chart: &Chart) -> Result<String, NoMe
     let width = card_left(last_layer(&layout)).saturating_add(CARD + EDGE);
     let height = bottom(&graph, &layout).saturating_add(2 * EDGE);
     let name = escaped(alloc, table)?;
-    let mut out = format!(in alloc; "<svg xmlns=\"http://www.w3.org/2000/svg\" width=\"{width}\" height=\"{height}\" viewBox=\"0 0 {width} {height}\" role=\"img\" aria-label=\"flow chart of {name}\">\n")?;
+    let mut out = format!(in alloc;
+        "<svg xmlns=\"http://www.w3.org/2000/svg\" width=\"{width}\" height=\"{height}\" viewBox=\"0 0 {width} {height}\" role=\"img\" aria-label=\"flow chart of {name}\">\n"
+    )?;
     push_curves(alloc, &mut out, chart, &layout)?;
     push_joints(&mut out, chart, &layout, graph.arrows.as_slice())?;
     let mut node: usize = 0;

@@ -1,6 +1,7 @@
 //! Where the cards of a chart stand: in layers from left to right, each behind what it takes.
 ghost use Rattle.std.specs.Prelude.{◌≡◌, ◌≤◌};
 
+use crate::Done;
 use plan_base::NoMemory;
 use std::alloc::Global;
 
@@ -164,13 +165,7 @@ fn pulls(
 }
 
 // Puts the nodes of a layer below one another, each near where it is drawn to.
-fn settle(
-    alloc: Global,
-    graph: &Graph,
-    layout: &mut Layout,
-    layer: u32,
-    from_left: bool,
-) -> Result<(), NoMemory> {
+fn settle(alloc: Global, graph: &Graph, layout: &mut Layout, layer: u32, from_left: bool) -> Done {
     let (sums, counts) = pulls(alloc, graph, layout, layer, from_left)?;
     let mut members: Vec<(u32, usize)> = Vec::new(alloc);
     for node in 0..graph.heights.len() {

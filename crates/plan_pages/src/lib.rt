@@ -18,12 +18,17 @@ mod page;
 mod plans;
 mod style;
 
+use plan_base::NoMemory;
+
+// What is written to a text in memory, or that none could be had.
+type Done = Result<(), NoMemory>;
+
+pub use amounts::{Amount, Flow};
 pub use cards::{Card, CardKind, Chart, chart_of};
 pub use decimals::{Nearest, decimal, rounded};
 pub use dot::dot_text;
 pub use drawings::drawing;
 pub use escape::escaped;
-pub use amounts::{Amount, Flow};
 pub use flows::column_flows;
 pub use page::Page;
 pub use plans::Shown;

@@ -23,7 +23,8 @@ pub fn meaning(code: RefusalCode) -> &'static str {
         RefusalCode::H5 => "the batch holds 1,024 edits",
         RefusalCode::P1 => "no such table, row, import or surplus",
         RefusalCode::P2 => "a wanted rate or a price is below 0",
-        RefusalCode::P3 => "there are 64 tables, or 512 rows, wants, imports, surpluses or goods of a table",
+        RefusalCode::P3 =>
+            "there are 64 tables, or 512 rows, wants, imports, surpluses or goods of a table",
         RefusalCode::P4 => "a temperature that the row takes isn't there",
         RefusalCode::P5 => "the name of the table or the label of the row is used",
         RefusalCode::K1 => "the machine doesn't do the activity",

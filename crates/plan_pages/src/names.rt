@@ -1,14 +1,14 @@
 //! Names of nodes and goods.
 ghost use Rattle.game_types.specs.Sound.{IsSound};
 
+use crate::Done;
+use crate::decimals::decimal;
 use crate::escape::escaped;
 use fractions::Ratio;
 use game_types::{Activity, Game, Setup};
-use plan_base::{EntityId, GoodId, Kind, NoMemory, NodeId};
+use plan_base::{EntityId, GoodId, Kind, NodeId};
 use plan_report::kind_word;
 use std::alloc::Global;
-
-use crate::decimals::decimal;
 
 /// The kind and the name of a node. A node past the last counts as a technology without a name.
 pub fn node_parts(game: &Game, node: NodeId) -> (Kind, &str)
@@ -44,43 +44,31 @@ pub fn machine_name(game: &Game, machine: EntityId) -> &str
     }
 }
 
-pub fn push_machine(
-    alloc: Global,
-    out: &mut String,
-    game: &Game,
-    machine: EntityId,
-) -> Result<(), NoMemory>
+pub fn push_machine(alloc: Global, out: &mut String, game: &Game, machine: EntityId) -> Done
     requires { IsSound game.now }
 {
     push_name(alloc, out, Kind::Machine, machine_name(game, machine))
 }
 
 // A name, marked by its kind.
-fn push_name(alloc: Global, out: &mut String, kind: Kind, name: &str) -> Result<(), NoMemory> {
+fn push_name(alloc: Global, out: &mut String, kind: Kind, name: &str) -> Done {
     let kind = kind_word(kind);
     let name = escaped(alloc, name)?;
-    write!(out, "<span class=\"{kind}\" title=\"{kind}:{name}\">{name}</span>")?;
+    write!(
+        out,
+        "<span class=\"{kind}\" title=\"{kind}:{name}\">{name}</span>"
+    )?;
     Ok(())
 }
 
-pub fn push_node(
-    alloc: Global,
-    out: &mut String,
-    game: &Game,
-    node: NodeId,
-) -> Result<(), NoMemory>
+pub fn push_node(alloc: Global, out: &mut String, game: &Game, node: NodeId) -> Done
     requires { IsSound game.now }
 {
     let (kind, name) = node_parts(game, node);
     push_name(alloc, out, kind, name)
 }
 
-pub fn push_good(
-    alloc: Global,
-    out: &mut String,
-    game: &Game,
-    good: GoodId,
-) -> Result<(), NoMemory>
+pub fn push_good(alloc: Global, out: &mut String, game: &Game, good: GoodId) -> Done
     requires { IsSound game.now }
 {
     let (kind, name) = good_parts(game, good);
@@ -88,12 +76,7 @@ pub fn push_good(
 }
 
 /// What a row does: its recipe, its source, its fluid or its technology.
-pub fn push_activity(
-    alloc: Global,
-    out: &mut String,
-    game: &Game,
-    setup: &Setup,
-) -> Result<(), NoMemory>
+pub fn push_activity(alloc: Global, out: &mut String, game: &Game, setup: &Setup) -> Done
     requires { IsSound game.now }
 {
     match setup.activity {
@@ -128,7 +111,7 @@ pub fn push_activity(
 }
 
 /// A number: a whole one as it is, any other as a decimal with the fraction beside it.
-pub fn push_number(alloc: Global, out: &mut String, number: &Ratio) -> Result<(), NoMemory> {
+pub fn push_number(alloc: Global, out: &mut String, number: &Ratio) -> Done {
     let exact = number.print(alloc)?;
     let exact = exact.as_str();
     if number.denominator() == 1 {
@@ -141,7 +124,7 @@ pub fn push_number(alloc: Global, out: &mut String, number: &Ratio) -> Result<()
 }
 
 /// A number, or that it is past the limits of fractions.
-pub fn push_figure(alloc: Global, out: &mut String, figure: &Option<Ratio>) -> Result<(), NoMemory> {
+pub fn push_figure(alloc: Global, out: &mut String, figure: &Option<Ratio>) -> Done {
     match figure {
         Some(number) => push_number(alloc, out, number),
         None => {

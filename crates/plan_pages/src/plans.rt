@@ -1,6 +1,8 @@
 //! A plan as tables and a drawing.
 ghost use Rattle.game_types.specs.Sound.{IsSound};
 
+use crate::Done;
+use crate::answers::Site;
 use crate::cards::chart_of;
 use crate::drawings::drawing;
 use crate::escape::escaped;
@@ -8,7 +10,7 @@ use crate::names::{push_activity, push_figure, push_good, push_machine, push_num
 use fractions::Ratio;
 use game_types::Game;
 use linear_table::{Column, Linear, Plan};
-use plan_base::{GoodId, NoMemory};
+use plan_base::GoodId;
 use plan_report::Figures;
 use production_table::{Table, TableRow};
 use std::alloc::Global;
@@ -24,7 +26,7 @@ pub struct Shown<'a> {
     pub total: &'a Figures,
 }
 
-fn push_cell(alloc: Global, out: &mut String, figure: &Option<Ratio>) -> Result<(), NoMemory> {
+fn push_cell(alloc: Global, out: &mut String, figure: &Option<Ratio>) -> Done {
     out.push_str("<td>")?;
     push_figure(alloc, out, figure)?;
     out.push_str("</td>")?;
@@ -32,7 +34,7 @@ fn push_cell(alloc: Global, out: &mut String, figure: &Option<Ratio>) -> Result<
 }
 
 // The cells of what rows take: power, drain, beacons and pollution.
-fn push_uses(alloc: Global, out: &mut String, figures: &Figures) -> Result<(), NoMemory> {
+fn push_uses(alloc: Global, out: &mut String, figures: &Figures) -> Done {
     push_cell(alloc, out, &figures.power)?;
     push_cell(alloc, out, &figures.drain)?;
     push_cell(alloc, out, &figures.beacons)?;
@@ -46,11 +48,15 @@ fn push_row(
     row: &TableRow,
     rate: &Ratio,
     figures: &Figures,
-) -> Result<(), NoMemory>
+) -> Done
     requires { IsSound game.now }
 {
     let label = escaped(alloc, row.label.as_str())?;
-    let idle = if rate.is_zero() { " class=\"idle\"" } else { "" };
+    let idle = if rate.is_zero() {
+        " class=\"idle\""
+    } else {
+        ""
+    };
     write!(out, "<tr data-f{idle}><th>{label}</th><td>")?;
     push_activity(alloc, out, game, &row.setup)?;
     out.push_str("</td><td>")?;
@@ -65,10 +71,12 @@ fn push_row(
     Ok(())
 }
 
-fn push_rows(alloc: Global, out: &mut String, shown: &Shown<'_>) -> Result<(), NoMemory>
+fn push_rows(alloc: Global, out: &mut String, shown: &Shown<'_>) -> Done
     requires { IsSound shown.now.game.now }
 {
-    out.push_str("<div class=\"wide\"><table class=\"rows\"><thead><tr><th>row</th><th>does</th><th>by</th><th>crafts/s</th><th>machines</th><th>whole</th><th>power W</th><th>drain W</th><th>beacons W</th><th>pollution/min</th></tr></thead><tbody>\n")?;
+    out.push_str(
+        "<div class=\"wide\"><table class=\"rows\"><thead><tr><th>row</th><th>does</th><th>by</th><th>crafts/s</th><th>machines</th><th>whole</th><th>power W</th><th>drain W</th><th>beacons W</th><th>pollution/min</th></tr></thead><tbody>\n",
+    )?;
     let rates = shown.plan.rates.as_slice();
     for (row, (rate, figures)) in shown
         .table
@@ -102,7 +110,7 @@ fn stream(shown: &Shown<'_>, wanted: Column) -> Ratio {
 }
 
 // A number, or nothing for 0.
-fn push_some(alloc: Global, out: &mut String, number: &Ratio) -> Result<(), NoMemory> {
+fn push_some(alloc: Global, out: &mut String, number: &Ratio) -> Done {
     out.push_str("<td>")?;
     if !number.is_zero() {
         push_number(alloc, out, number)?;
@@ -111,10 +119,12 @@ fn push_some(alloc: Global, out: &mut String, number: &Ratio) -> Result<(), NoMe
     Ok(())
 }
 
-fn push_goods(alloc: Global, out: &mut String, shown: &Shown<'_>) -> Result<(), NoMemory>
+fn push_goods(alloc: Global, out: &mut String, shown: &Shown<'_>) -> Done
     requires { IsSound shown.now.game.now }
 {
-    out.push_str("<div class=\"wide\"><table class=\"goods\"><thead><tr><th>good</th><th>wanted/s</th><th>import/s</th><th>surplus/s</th><th>price</th></tr></thead><tbody>\n")?;
+    out.push_str(
+        "<div class=\"wide\"><table class=\"goods\"><thead><tr><th>good</th><th>wanted/s</th><th>import/s</th><th>surplus/s</th><th>price</th></tr></thead><tbody>\n",
+    )?;
     for (good, (want, price)) in shown.linear.goods.as_slice().iter().zip(
         shown
             .linear
@@ -138,16 +148,22 @@ fn push_goods(alloc: Global, out: &mut String, shown: &Shown<'_>) -> Result<(), 
 }
 
 /// A plan: its drawing, its rows and its goods with their prices.
-pub fn push_plan(alloc: Global, out: &mut String, line: u32, shown: &Shown<'_>) -> Result<(), NoMemory>
+pub fn push_plan(alloc: Global, out: &mut String, line: u32, shown: &Shown<'_>) -> Done
     requires { IsSound shown.now.game.now }
 {
     let name = escaped(alloc, shown.table.name.as_str())?;
-    write!(out, "<details open class=\"plan\" id=\"line{line}\"><summary><h2>{name}</h2> <span>costs ")?;
+    write!(
+        out,
+        "<details open class=\"plan\" id=\"line{line}\"><summary><h2>{name}</h2> <span>costs "
+    )?;
     push_number(alloc, out, &shown.plan.cost)?;
     write!(out, "</span> <small>line {line}</small></summary>\n")?;
     let chart = chart_of(alloc, shown)?;
     let picture = drawing(alloc, shown.table.name.as_str(), &chart)?;
-    write!(out, "<div class=\"wide chart\" tabindex=\"0\">{picture}</div>\n")?;
+    write!(
+        out,
+        "<div class=\"wide chart\" tabindex=\"0\">{picture}</div>\n"
+    )?;
     push_rows(alloc, out, shown)?;
     push_goods(alloc, out, shown)?;
     out.push_str("</details>\n")?;
@@ -156,23 +172,25 @@ pub fn push_plan(alloc: Global, out: &mut String, line: u32, shown: &Shown<'_>) 
 
 /// That a table has no plan, and the prices that show it.
 pub fn push_infeasible(
-    alloc: Global,
+    at: &Site<'_>,
     out: &mut String,
-    line: u32,
-    game: &Game,
     table: &str,
     goods: &[GoodId],
     prices: &[Ratio],
-) -> Result<(), NoMemory>
-    requires { IsSound game.now }
+) -> Done
+    requires { IsSound at.now.game.now }
 {
-    let name = escaped(alloc, table)?;
-    write!(out, "<details class=\"plan\" id=\"line{line}\"><summary><h2>{name}</h2> <span class=\"bad\">no plan</span> <small>line {line}</small></summary>\n<p>By these prices no row gains, and what is wanted is worth something: so there is no plan.</p>\n<div class=\"wide\"><table class=\"goods\"><thead><tr><th>good</th><th>price</th></tr></thead><tbody>\n")?;
+    let line = at.line;
+    let name = escaped(at.alloc, table)?;
+    write!(
+        out,
+        "<details class=\"plan\" id=\"line{line}\"><summary><h2>{name}</h2> <span class=\"bad\">no plan</span> <small>line {line}</small></summary>\n<p>By these prices no row gains, and what is wanted is worth something: so there is no plan.</p>\n<div class=\"wide\"><table class=\"goods\"><thead><tr><th>good</th><th>price</th></tr></thead><tbody>\n"
+    )?;
     for (good, price) in goods.iter().zip(prices) {
         out.push_str("<tr data-f><th>")?;
-        push_good(alloc, out, game, *good)?;
+        push_good(at.alloc, out, at.game, *good)?;
         out.push_str("</th><td>")?;
-        push_number(alloc, out, price)?;
+        push_number(at.alloc, out, price)?;
         out.push_str("</td></tr>\n")?;
     }
     out.push_str("</tbody></table></div></details>\n")?;

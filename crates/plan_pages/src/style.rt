@@ -9,7 +9,8 @@ pub const HEAD: &str = "<!DOCTYPE html>
 ";
 
 /// Colours for light and for dark.
-pub const STYLE: &str = ":root{color-scheme:light dark;--back:#fbfbfa;--card:#fff;--ink:#1c1c1c;--soft:#6a6a6a;--line:#d9d7d2;--mark:#f0eee8;--bad:#b3261e;--item:#4a6785;--fluid:#1f7fae;--special:#b07a00;--tech:#7a4fb5;--recipe:#3d7a4a;--source:#8a6a3a;--machine:#5a5a5a}
+pub const STYLE: &str =
+    ":root{color-scheme:light dark;--back:#fbfbfa;--card:#fff;--ink:#1c1c1c;--soft:#6a6a6a;--line:#d9d7d2;--mark:#f0eee8;--bad:#b3261e;--item:#4a6785;--fluid:#1f7fae;--special:#b07a00;--tech:#7a4fb5;--recipe:#3d7a4a;--source:#8a6a3a;--machine:#5a5a5a}
 @media(prefers-color-scheme:dark){:root{--back:#16171a;--card:#202226;--ink:#e8e6e1;--soft:#9d9a94;--line:#3a3c42;--mark:#2a2c31;--bad:#ff8a80;--item:#9db8d4;--fluid:#5bb8e6;--special:#e6b450;--tech:#bd9aee;--recipe:#86c795;--source:#cda971;--machine:#b5b5b5}}
 *{box-sizing:border-box}
 body{margin:0 auto;padding:0 1rem 3rem;max-width:90rem;background:var(--back);color:var(--ink);font:15px/1.45 system-ui,sans-serif}
