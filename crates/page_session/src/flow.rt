@@ -19,35 +19,41 @@ use std::alloc::Global;
 // The most exchanges of columns.
 const BUDGET: u32 = 20_000;
 
-// What is known of a table's plan behind a line: a line that may change something ends what was known.
-fn known_after(known: Option<Reply>, reply: Reply, name: &str) -> Option<Reply> {
+// What a reply says of the plan of a table.
+enum News {
+    /// Nothing.
+    Old,
+    /// The table may have changed.
+    Gone,
+    /// This is its plan.
+    New,
+}
+
+fn is_plan(answer: &SolveAnswer) -> bool {
+    matches!(answer, SolveAnswer::Planned(_))
+}
+
+fn news_of(reply: &Reply, name: &str) -> News {
     match reply {
-        Reply::Ok => None,
-        Reply::Nothing => None,
-        Reply::Solved {
-            table,
-            labels,
-            goods,
-            columns,
-            rows,
-            total,
-            answer: SolveAnswer::Planned(plan),
-        } => {
-            if table.as_str() == name {
-                Some(Reply::Solved {
-                    table,
-                    labels,
-                    goods,
-                    columns,
-                    rows,
-                    total,
-                    answer: SolveAnswer::Planned(plan),
-                })
+        Reply::Ok => News::Gone,
+        Reply::Nothing => News::Gone,
+        Reply::Solved { table, answer, .. } => {
+            if table.as_str() == name && is_plan(answer) {
+                News::New
             } else {
-                known
+                News::Old
             }
         }
-        _ => known,
+        _ => News::Old,
+    }
+}
+
+// The plan that is known of a table behind a line.
+fn known_after(known: Option<Reply>, reply: Reply, name: &str) -> Option<Reply> {
+    match news_of(&reply, name) {
+        News::Old => known,
+        News::Gone => None,
+        News::New => Some(reply),
     }
 }
 

@@ -59,7 +59,10 @@ fn loaded<R: Files, L>(
     ensures { IfOk result (λ ready. (game : Game) × (ready.planner ≡ first_planned game)) }
 {
     let mut store = HostStore::make(rt);
-    read_files(alloc, names.dump, names.script, &mut store, steps)
+    match read_files(alloc, names.dump, names.script, &mut store, steps) {
+        Ok(ready) => Ok(ready),
+        Err(status) => Err(status),
+    }
 }
 
 // Prints what a run made.
