@@ -4,13 +4,13 @@ ghost use Rattle.game_types.specs.declared.games.Game.{Game};
 ghost use Rattle.planning_state.specs.States.{State};
 ghost use Rattle.planner_core.specs.Lines.{first_planned, IsSessionOf};
 
-use crate::session::{answered, linear_form, place_of};
+use crate::session::{LINES, answered, form_at, place_of};
 use crate::told::PageFault;
 use linear_table::SolveAnswer;
 use plan_base::{NoMemory, Steps, Text};
 use plan_pages::{Shown, chart_of, dot_text};
 use plan_report::Reply;
-use planner_cli::{LINE_LIMIT, Ready};
+use planner_cli::Ready;
 use planner_core::{Planner, state_is_of_the_active_edits};
 use script_reader::Command;
 use script_runner::{split_line, trim_return};
@@ -72,7 +72,7 @@ fn answer_lines<L>(
     let mut number: u32 = 0;
     let mut known = None;
     while !rest.is_empty() {
-        if number as usize >= LINE_LIMIT {
+        if number >= LINES {
             return Err(PageFault::TooManyLines);
         }
         number += 1;
@@ -126,13 +126,12 @@ fn graph_of(alloc: Global, planner: &Planner, reply: &Reply) -> Result<String, P
     let Some(place) = place_of(tables, name.as_str()) else {
         return Err(PageFault::NoPlan);
     };
-    let table = &tables[place];
-    let Some(linear) = linear_form(alloc, game, table)? else {
+    let Some(linear) = form_at(alloc, game, tables, place)? else {
         return Err(PageFault::NoPlan);
     };
     let shown = Shown {
         game,
-        table,
+        table: &tables[place],
         linear: &linear,
         plan,
         rows: rows.as_slice(),
@@ -156,7 +155,7 @@ pub fn flow_of<L>(
     name: &str,
     steps: &mut Steps<L>,
 ) -> Result<String, PageFault>
-    requires { (game : Game) × (ready.planner ≡ first_planned game) }
+    requires loaded { (game : Game) × (ready.planner ≡ first_planned game) }
 {
     // A planner that was just loaded has a history.
     state_is_of_the_active_edits();

@@ -1,10 +1,10 @@
 //! The lines of a script, and the page of their replies.
-ghost use Rattle.std.specs.Prelude.{◌≡◌, ◌<◌, length};
+ghost use Rattle.std.specs.Prelude.{◌≡◌, ◌<◌, IfSome, length};
 ghost use Rattle.game_types.specs.declared.games.Game.{Game};
 ghost use Rattle.game_types.specs.Sound.{IsSound};
 ghost use Rattle.planning_state.specs.States.{State};
 ghost use Rattle.planner_core.specs.Lines.{first_planned, IsSessionOf};
-ghost use Rattle.planner_tables.specs.Effects.{IsSoundOn};
+ghost use Rattle.planner_tables.specs.Effects.{AreSoundTables, IsSoundOn};
 
 use crate::told::PageFault;
 use game_types::Game;
@@ -12,12 +12,15 @@ use linear_table::Linear;
 use plan_base::{NoMemory, Steps};
 use plan_pages::Page;
 use plan_report::Reply;
-use planner_cli::{LINE_LIMIT, Ready};
+use planner_cli::Ready;
 use planner_core::{Planner, state_is_of_the_active_edits};
 use production_table::{Table, TableFault};
 use script_runner::{is_refusal, reading_of, reply_to, split_line, trim_return};
 use std::alloc::Global;
 use std::str::from_utf8;
+
+/// The most lines that a script may have.
+pub const LINES: u32 = 100_000;
 
 /// The reply to a line.
 pub fn answered<L>(
@@ -34,8 +37,8 @@ pub fn answered<L>(
     reply_to(planner, number, reading, steps)
 }
 
-/// The linear form of a table, where it has one.
-pub fn linear_form(alloc: Global, game: &Game, table: &Table) -> Result<Option<Linear>, NoMemory>
+// The linear form of a table, where it has one.
+fn linear_form(alloc: Global, game: &Game, table: &Table) -> Result<Option<Linear>, NoMemory>
     requires sound { IsSound game.now }
     requires table { IsSoundOn game.now table.now }
 {
@@ -46,8 +49,24 @@ pub fn linear_form(alloc: Global, game: &Game, table: &Table) -> Result<Option<L
     }
 }
 
+/// The linear form of the table at a place, where it has one.
+pub fn form_at(
+    alloc: Global,
+    game: &Game,
+    tables: &[Table],
+    place: usize,
+) -> Result<Option<Linear>, NoMemory>
+    requires sound { IsSound game.now }
+    requires tables { AreSoundTables game.now tables.now }
+    requires within { place < length tables.now }
+{
+    linear_form(alloc, game, &tables[place])
+}
+
 /// The place of the table of a name.
-pub fn place_of(tables: &[Table], name: &str) -> Option<usize> {
+pub fn place_of(tables: &[Table], name: &str) -> Option<usize>
+    ensures { IfSome result (λ place. place < length tables.now) }
+{
     tables.iter().position(|table| table.name.as_str() == name)
 }
 
@@ -66,10 +85,16 @@ fn add_solved(
     let Some(place) = place_of(tables, name) else {
         return Ok(());
     };
-    let table = &tables[place];
-    let linear = linear_form(alloc, game, table)?;
+    let linear = form_at(alloc, game, tables, place)?;
     match &linear {
-        Some(linear) => page.add(alloc, number, words, game, Some((table, linear)), reply),
+        Some(linear) => page.add(
+            alloc,
+            number,
+            words,
+            game,
+            Some((&tables[place], linear)),
+            reply,
+        ),
         None => page.add(alloc, number, words, game, None, reply),
     }
 }
@@ -111,7 +136,7 @@ fn add_lines<L>(
     let mut number: u32 = 0;
     let mut refused = false;
     while !rest.is_empty() {
-        if number as usize >= LINE_LIMIT {
+        if number >= LINES {
             return Err(PageFault::TooManyLines);
         }
         number += 1;
@@ -132,7 +157,7 @@ pub fn page_of<L>(
     ready: Ready,
     steps: &mut Steps<L>,
 ) -> Result<(String, bool), PageFault>
-    requires { (game : Game) × (ready.planner ≡ first_planned game) }
+    requires loaded { (game : Game) × (ready.planner ≡ first_planned game) }
 {
     // A planner that was just loaded has a history.
     state_is_of_the_active_edits();
