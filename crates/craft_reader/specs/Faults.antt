@@ -1,5 +1,5 @@
 -- What is wrong with a dump, and where.
-use Rattle.std.specs.Prelude.{◌≡◌, ◌≢◌, ℕ, List, Result, Ok, Err}
+use Rattle.std.specs.Prelude.{◌≡◌, ◌≢◌, ℕ, List, [], Result, Ok, Err}
 use Rattle.prototype_fields.specs.declared.fault.FieldCode.{FieldCode}
 use Rattle.prototype_fields.specs.declared.fault.FieldCode.TheVariants as f
 use Rattle.prototype_fields.specs.declared.fault.FieldFault.{FieldFault}
@@ -32,3 +32,10 @@ in_prototype section name (Err fault) = Err (fault_in section name fault)
 abbrev pub GivesDump : {A : Type 0} → Result A DumpFault → Result A DumpFault → Type 0
 GivesDump meant (Ok value) = meant ≡ Ok value
 GivesDump meant (Err fault) = fault.code ≢ d.NoMemory → meant ≡ Err fault
+
+-- of want of memory nothing else is said
+abbrev pub out_of_memory : DumpFault
+out_of_memory = record { code = d.NoMemory; section = []; name = []; field = [] }
+
+abbrev pub IsBare : DumpFault → Type 0
+IsBare fault = fault.code ≡ d.NoMemory → fault ≡ out_of_memory

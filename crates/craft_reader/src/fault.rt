@@ -1,6 +1,6 @@
 //! What is wrong with a dump, and where.
 ghost use Rattle.std.specs.Prelude.{◌≡◌, ◌≢◌, [], IfOk};
-ghost use Rattle.craft_reader.specs.Faults.{code_of, fault_in};
+ghost use Rattle.craft_reader.specs.Faults.{IsBare, code_of, fault_in};
 
 use json_text::JsonFault;
 use plan_base::{NoMemory, Text};
@@ -86,13 +86,26 @@ impl DumpFault {
         })
     }
 
-    /// A fault of a prototype of a section. Where memory could not be had, that is the fault.
+    /// A fault of a prototype of a section. Where memory could not be had, that alone is the fault.
     pub fn of_field(alloc: Global, section: &str, name: &str, fault: FieldFault) -> DumpFault
-        ensures { result.code ≢ DumpCode.NoMemory → result ≡ fault_in section.now name.now fault }
+        ensures fault { result.code ≢ DumpCode.NoMemory → result ≡ fault_in section.now name.now fault }
+        ensures bare { IsBare result }
     {
         match DumpFault::placed(alloc, section, name, fault) {
-            Ok(placed) => placed,
+            Ok(placed) => placed.settled(alloc),
             Err(NoMemory) => DumpFault::of_code(alloc, DumpCode::NoMemory),
+        }
+    }
+
+    /// The fault as a call answers it: of want of memory nothing else is said.
+    pub fn settled(self, alloc: Global) -> DumpFault
+        ensures code { result.code ≡ self.code }
+        ensures same { self.code ≢ DumpCode.NoMemory → result ≡ self }
+        ensures bare { IsBare result }
+    {
+        match self.code {
+            DumpCode::NoMemory => DumpFault::of_code(alloc, DumpCode::NoMemory),
+            _ => self,
         }
     }
 }

@@ -314,7 +314,7 @@ fn each_item_product(
 ) -> Result<Items<RawProduct>, FieldFault>
     ensures { Gives (each (item_product within) (spans_seen elements.now)) result }
 {
-    let mut products = Vec::new(alloc);
+    let mut products = Vec::with_capacity(alloc, elements.len())?;
     for element in elements {
         let product = item_product(alloc, within, element)?;
         products.push(product)?;
@@ -394,7 +394,7 @@ pub fn ingredients(
 ) -> Result<Items<RawPart>, FieldFault>
     ensures { Gives (each (ingredient within) (spans_seen elements.now)) result }
 {
-    let mut parts = Vec::new(alloc);
+    let mut parts = Vec::with_capacity(alloc, elements.len())?;
     for element in elements {
         let part = ingredient(alloc, within, element)?;
         parts.push(part)?;
@@ -414,7 +414,7 @@ pub fn packs(
 ) -> Result<Items<RawPack>, FieldFault>
     ensures { Gives (each (pack within) (spans_seen elements.now)) result }
 {
-    let mut packs = Vec::new(alloc);
+    let mut packs = Vec::with_capacity(alloc, elements.len())?;
     for element in elements {
         let pack = pack(alloc, within, element)?;
         packs.push(pack)?;
@@ -429,7 +429,7 @@ fn each_product(
 ) -> Result<Items<RawProduct>, FieldFault>
     ensures { Gives (each (product within) (spans_seen elements.now)) result }
 {
-    let mut products = Vec::new(alloc);
+    let mut products = Vec::with_capacity(alloc, elements.len())?;
     for element in elements {
         let product = product(alloc, within, element)?;
         products.push(product)?;
@@ -447,7 +447,7 @@ fn lone_products(
     ensures { Gives (lone_product (object_seen fields.now) count name.now ▸ λ product. Ok (product ∷ [])) result }
 {
     let product = lone_product(alloc, fields, count, name)?;
-    let mut products = Vec::new(alloc);
+    let mut products = Vec::with_capacity(alloc, 1)?;
     products.push(product)?;
     Ok(Items::from_vec(products))
 }

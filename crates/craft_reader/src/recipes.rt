@@ -1,10 +1,10 @@
 //! Recipes.
-ghost use Rattle.std.specs.Prelude.{◌≡◌, Some, codes, option_map, pos};
+ghost use Rattle.std.specs.Prelude.{◌≡◌, IfErr, Some, codes, option_map, pos};
 ghost use Rattle.json_text.specs.SpanSeen.{span_seen};
 ghost use Rattle.fractions.specs.Fraction.{frac};
 ghost use Rattle.prototype_fields.specs.Seen.{object_seen};
 ghost use Rattle.prototype_fields.specs.Values.{Extends, Gives, seen_as, with_names};
-ghost use Rattle.craft_reader.specs.Faults.{GivesDump, in_prototype};
+ghost use Rattle.craft_reader.specs.Faults.{GivesDump, IsBare, in_prototype};
 ghost use Rattle.craft_reader.specs.Recipes.{chosen, ingredients_of, is_false, is_switched_off, object_under, products_of, raw_recipe, recipe_of};
 
 use crate::{DumpFault, RawPart, RawProduct, ingredients, products};
@@ -168,6 +168,7 @@ pub fn read_recipe(
 ) -> Result<RawRecipe, DumpFault>
     ensures gives { GivesDump (in_prototype (codes "recipe") name.now (recipe_of (span_seen tree.now) categories.old)) (seen_as (λ recipe. (recipe, categories.new)) result) }
     ensures names { Extends categories.old categories.new }
+    ensures bare { IfErr result IsBare }
 {
     match recipe_of(alloc, tree, categories) {
         Ok(recipe) => Ok(recipe),

@@ -1,9 +1,9 @@
 //! Technologies.
-ghost use Rattle.std.specs.Prelude.{◌≡◌, codes, option_map};
+ghost use Rattle.std.specs.Prelude.{◌≡◌, IfErr, codes, option_map};
 ghost use Rattle.json_text.specs.SpanSeen.{span_seen, spans_seen};
 ghost use Rattle.prototype_fields.specs.Seen.{object_seen};
 ghost use Rattle.prototype_fields.specs.Values.{Gives, each_found, seen_as};
-ghost use Rattle.craft_reader.specs.Faults.{GivesDump, in_prototype};
+ghost use Rattle.craft_reader.specs.Faults.{GivesDump, IsBare, in_prototype};
 ghost use Rattle.craft_reader.specs.Technologies.{packs_of, prerequisites_of, raw_tech, tech_of, unlock, unlocks_of};
 
 use crate::{DumpFault, RawPack, chosen, is_switched_off, packs};
@@ -123,7 +123,8 @@ fn tech_of(alloc: Global, tree: &SpanTree<'_>) -> Result<RawTech, FieldFault>
 /// The first fault of the prototype or of its fields, in the order in which they are read. `NoMemory` where memory could
 /// not be had.
 pub fn read_tech(alloc: Global, name: &str, tree: &SpanTree<'_>) -> Result<RawTech, DumpFault>
-    ensures { GivesDump (in_prototype (codes "technology") name.now (tech_of (span_seen tree.now))) result }
+    ensures gives { GivesDump (in_prototype (codes "technology") name.now (tech_of (span_seen tree.now))) result }
+    ensures bare { IfErr result IsBare }
 {
     match tech_of(alloc, tree) {
         Ok(tech) => Ok(tech),

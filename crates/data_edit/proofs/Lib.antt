@@ -4,3 +4,4 @@ pub mod Soundness
 pub mod Sameness
 pub mod EffectLaw
 pub mod NamesKept
+pub mod GameKept

@@ -9,10 +9,9 @@ use Rattle.plan_base.specs.declared.GoodId.{GoodId}
 use Rattle.plan_base.specs.declared.NodeId.{NodeId}
 use Rattle.plan_base.specs.declared.RecipeId.{RecipeId}
 use Rattle.plan_base.specs.declared.TechId.{TechId}
-use Rattle.game_types.specs.Nodes.{shape_of}
+use Rattle.game_types.specs.Nodes.{node_limit, shape_of}
 use Rattle.game_types.specs.Sound.{IsItem, IsGood, IsFluid, IsSound, IsSoundItem, IsSoundModule, IsSoundRecipe, IsSoundSource, IsSoundKind, IsSoundEnergy, IsSoundBurning, IsSoundMachine, IsSoundTech}
 use Rattle.game_types.specs.declared.games.Game.{Game}
-use Rattle.game_types.specs.declared.games.TheConstants.{NODE_LIMIT}
 use Rattle.game_types.specs.declared.goods.Item.{Item}
 use Rattle.game_types.specs.declared.goods.Module.{Module}
 use Rattle.game_types.specs.declared.machinery.Machine.{Machine}
@@ -126,7 +125,7 @@ module _ (g : Game) (recipes : List Recipe) (techs : List Tech) (same : length g
     source_names = h.source_names;
     machine_names = h.machine_names;
     tech_names = h.tech_names ∙ same_techs;
-    nodes = subst (λ (n : ℕ). n ≤ NODE_LIMIT) (sym nodes_same) h.nodes;
+    nodes = subst (λ (n : ℕ). n ≤ node_limit) (sym nodes_same) h.nodes;
     items = All-weaker (IsSoundItem g) (IsSoundItem (changed_game g recipes techs)) of_item g.items h.items;
     fluids = h.fluids;
     apart = h.apart;

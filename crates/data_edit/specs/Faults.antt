@@ -1,5 +1,6 @@
 -- Edits that may be refused: one step after another, where the first refusal stands.
 use Rattle.std.specs.Prelude.{◌≡◌, ◌≢◌, ℕ, Bool, true, false, List, length, nat_lt, Option, Some, None, Result, Ok, Err, if◌then◌else◌}
+pub use Rattle.plan_base.specs.Binds.{◌▸◌}
 use Rattle.fractions.specs.Fraction.{Fraction}
 use Rattle.game_types.specs.Making.{is_positive}
 use Rattle.data_edit.specs.declared.edits.EditFault.{EditFault}
@@ -9,12 +10,6 @@ use Rattle.data_edit.specs.Lists.{same_lists, is_fraction}
 -- a value, or why there is none
 abbrev pub Outcome : Type 0 → Type 0
 Outcome A = Result A EditFault
-
--- first this, and then what its value gives
-infixr 1 ◌▸◌
-abbrev pub ◌▸◌ : {A B : Type 0} → Outcome A → (A → Outcome B) → Outcome B
-(Ok value) ▸ next = next value
-(Err fault) ▸ next = Err fault
 
 -- what a call answers that takes memory: what is meant, unless memory could not be had
 abbrev pub Gives : {A : Type 0} → Outcome A → Outcome A → Type 0

@@ -2,7 +2,7 @@
 ghost use Rattle.std.specs.Prelude.{◌≡◌, Ok};
 ghost use Rattle.data_edit.specs.CarriedOut.{Accepts, RefusesNoChange, carried_out};
 ghost use Rattle.data_edit.specs.Edits.{effect, restored};
-ghost use Rattle.data_edit.specs.Names.{KeepsNames};
+ghost use Rattle.data_edit.specs.Names.{KeepsGame, KeepsNames};
 
 use crate::{Book, Edit, Inverse};
 
@@ -17,4 +17,11 @@ pub fn effects_are_changes()
 pub fn edits_keep_names()
     ensures edits { (edit : Edit) (book new : Book) → effect edit book ≡ Ok new → KeepsNames book.game new.game }
     ensures parts { (part : Inverse) (book : Book) → KeepsNames book.game (restored part book).game }
+{}
+
+/// No edit changes an item, a fluid, a source, a machine, the character or of which category a recipe is, and no part that is
+/// put back does.
+pub fn edits_keep_the_rest()
+    ensures edits { (edit : Edit) (book new : Book) → effect edit book ≡ Ok new → KeepsGame book.game new.game }
+    ensures parts { (part : Inverse) (book : Book) → KeepsGame book.game (restored part book).game }
 {}

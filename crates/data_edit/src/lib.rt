@@ -17,5 +17,5 @@ pub use applying::{apply_edit, restore};
 pub use books::Book;
 pub use edits::{Edit, EditFault, LIST_LIMIT};
 pub use exchanges::exchange;
-pub use laws::{edits_keep_names, effects_are_changes};
+pub use laws::{edits_keep_names, edits_keep_the_rest, effects_are_changes};
 pub use parts::{Inverse, RecipePart};

@@ -47,7 +47,7 @@ has_none k (n ∷ nodes) none =
     let other : (n.0 == k) ≡ false = grind (arith, first) in
     ap (λ b. b || has_node nodes k) other ∙ has_none k nodes (λ i within. none (suc i) (omega (arith, within)))
 
-has_one : (k : ℕ) → (nodes : List NodeId) (i : ℕ) → i < length nodes → number_at nodes i ≡ k → has_node nodes k ≡ true
+pub has_one : (k : ℕ) → (nodes : List NodeId) (i : ℕ) → i < length nodes → number_at nodes i ≡ k → has_node nodes k ≡ true
 has_one k [] i within is = absurd (omega (arith, within))
 has_one k (n ∷ nodes) zero within is = let same : (n.0 == k) ≡ true = grind (arith, is) in ap (λ b. b || has_node nodes k) same
 has_one k (n ∷ nodes) (suc i) within is = either_last (n.0 == k) (has_node nodes k) (has_one k nodes i (omega (arith, within)) is)
@@ -202,7 +202,7 @@ has_first p k n nodes rest more false passes true is =
     more ∙ ap (λ b. has_node nodes k && b) fails ∙ never (has_node nodes k) ∙ sym fails
 has_first p k n nodes rest more false passes false is = more
 
-has_filtered : (p : ℕ → Bool) (k : ℕ) (nodes : List NodeId) → has_node (filter (λ n. p n.0) nodes) k ≡ (has_node nodes k && p k)
+pub has_filtered : (p : ℕ → Bool) (k : ℕ) (nodes : List NodeId) → has_node (filter (λ n. p n.0) nodes) k ≡ (has_node nodes k && p k)
 has_filtered p k [] = refl
 has_filtered p k (n ∷ nodes) = has_first p k n nodes (filter (λ n. p n.0) nodes) (has_filtered p k nodes) (p n.0) refl (n.0 == k) refl
 

@@ -15,3 +15,9 @@ pub mod Walks
 pub mod TouchedNodes
 pub mod BaseLemmas
 pub mod FoundLemmas
+pub mod PutLemmas
+pub mod AmongLemmas
+pub mod NoteLemmas
+pub mod AlikeLemmas
+pub mod AlikeLaw
+pub mod WordLemmas

@@ -42,7 +42,7 @@ same_rising low (x ∷ xs) (y ∷ ys) rx ry same =
     let others : (k : ℕ) → is_among xs k ≡ is_among ys k = λ k. same_behind x y k xs ys at rx.1 rest (same k) (x == k) refl in
     ap (λ k. k ∷ xs) at ∙ ap (λ l. y ∷ l) (same_rising (x + 1) xs ys rx.1 rest others)
 
-rising_lower : (low lower : ℕ) → lower ≤ low → (ks : List ℕ) → Rising low ks → Rising lower ks
+pub rising_lower : (low lower : ℕ) → lower ≤ low → (ks : List ℕ) → Rising low ks → Rising lower ks
 unfolding Rising
 rising_lower low lower less [] rise = tt
 rising_lower low lower less (k ∷ ks) rise = (omega (arith, less, rise.0), rise.1)
@@ -57,7 +57,7 @@ unfolding Rising
 those_rise test [] first = tt
 those_rise test (x ∷ xs) first = rise_where (test x) first (those test (first + 1) xs) (those_rise test xs (first + 1))
 
-increasing : (low : ℕ) → (ks : List ℕ) → Rising low ks → (i : ℕ) → i + 1 < length ks → slice_index ks i < slice_index ks (i + 1)
+pub increasing : (low : ℕ) → (ks : List ℕ) → Rising low ks → (i : ℕ) → i + 1 < length ks → slice_index ks i < slice_index ks (i + 1)
 unfolding Rising
 increasing low [] rise i within = absurd (omega (arith, within))
 increasing low (k ∷ []) rise i within = absurd (omega (arith, within))

@@ -44,10 +44,10 @@ use Rattle.depend_rows.specs.Rows.{row_of, special_row, tech_at, no_tech}
 use Rattle.depend_rows.specs.Touched.{good_node_in, recipe_node, touched_by, StaysAs, TouchesAll}
 
 -- ---- a list with one element changed
-with_at-nil : {A : Type 0} (f : A → A) (p : ℕ) → with_at f p [] ≡ []
+pub with_at-nil : {A : Type 0} (f : A → A) (p : ℕ) → with_at f p [] ≡ []
 with_at-nil f p = with_at-past f p [] (omega arith)
 
-with_at-zero : {A : Type 0} (f : A → A) (x : A) (xs : List A) → with_at f zero (x ∷ xs) ≡ f x ∷ xs
+pub with_at-zero : {A : Type 0} (f : A → A) (x : A) (xs : List A) → with_at f zero (x ∷ xs) ≡ f x ∷ xs
 unfolding with_at
 with_at-zero f x xs = refl
 
@@ -55,7 +55,7 @@ changed-suc : {A : Type 0} (f : A → A) (p : ℕ) (x : A) (xs : List A) (o : Op
 changed-suc f p x xs None = refl
 changed-suc f p x xs (Some old) = refl
 
-with_at-suc : {A : Type 0} (f : A → A) (p : ℕ) (x : A) (xs : List A) → with_at f (suc p) (x ∷ xs) ≡ x ∷ with_at f p xs
+pub with_at-suc : {A : Type 0} (f : A → A) (p : ℕ) (x : A) (xs : List A) → with_at f (suc p) (x ∷ xs) ≡ x ∷ with_at f p xs
 unfolding with_at
 with_at-suc f p x xs = changed-suc f p x xs (slice_get xs p)
 
@@ -85,7 +85,7 @@ read-with_at read f (suc p) zero d (x ∷ xs) same = ap (λ l. read (get_or l ze
 read-with_at read f (suc p) (suc n) d (x ∷ xs) same = ap (λ l. read (get_or l (suc n) d)) (with_at-suc f p x xs) ∙ read-with_at read f p n d xs (λ is within. same (ap suc is) (omega (arith, within)))
 
 -- ---- tests of lists that an edit changed
-any-without : {E : Type 0} (test : E → Bool) (key : E → ℕ) (number : ℕ) → ((e : E) → key e ≡ number → test e ≡ false) → (entries : List E) → list_any test (without key number entries) ≡ list_any test entries
+pub any-without : {E : Type 0} (test : E → Bool) (key : E → ℕ) (number : ℕ) → ((e : E) → key e ≡ number → test e ≡ false) → (entries : List E) → list_any test (without key number entries) ≡ list_any test entries
 any-without test key number fails [] = refl
 any-without test key number fails (e ∷ entries) = by_key (key e == number) refl (any-without test key number fails entries)
   where
@@ -93,7 +93,7 @@ any-without test key number fails (e ∷ entries) = by_key (key e == number) ref
     by_key true is rest = rest ∙ ap (λ b. b || list_any test entries) (sym (fails e (grind (arith, is))))
     by_key false is rest = ap (λ b. test e || b) rest
 
-any-with_entry : {E : Type 0} (test : E → Bool) (key : E → ℕ) (entry : E) → test entry ≡ false → ((e : E) → key e ≡ key entry → test e ≡ false) → (entries : List E) → list_any test (with_entry key entry entries) ≡ list_any test entries
+pub any-with_entry : {E : Type 0} (test : E → Bool) (key : E → ℕ) (entry : E) → test entry ≡ false → ((e : E) → key e ≡ key entry → test e ≡ false) → (entries : List E) → list_any test (with_entry key entry entries) ≡ list_any test entries
 any-with_entry test key entry none fails [] = ap (λ b. b || false) none
 any-with_entry test key entry none fails (e ∷ entries) = by_key (key e == key entry) refl (any-with_entry test key entry none fails entries)
   where
@@ -329,10 +329,10 @@ unlock_stays book tech change n recipes rows = record {
 }
 
 -- products of another good
-other_product : (good k : ℕ) → k ≢ good → (product : Product) → product.good.0 ≡ good → ((product.good.0 == k) && is_positive (expected_amount product)) ≡ false
+pub other_product : (good k : ℕ) → k ≢ good → (product : Product) → product.good.0 ≡ good → ((product.good.0 == k) && is_positive (expected_amount product)) ≡ false
 other_product good k other product is = let differs : (product.good.0 == k) ≡ false = grind (arith, other, is) in ap (λ b. b && is_positive (expected_amount product)) differs
 
-switched : (recipe : RecipeId) (k : ℕ) → k ≢ recipe.0 → (on : Bool) (unlocks : List RecipeId) → list_any (λ r. r.0 == k) (unlocks_switched recipe on unlocks) ≡ list_any (λ r. r.0 == k) unlocks
+pub switched : (recipe : RecipeId) (k : ℕ) → k ≢ recipe.0 → (on : Bool) (unlocks : List RecipeId) → list_any (λ r. r.0 == k) (unlocks_switched recipe on unlocks) ≡ list_any (λ r. r.0 == k) unlocks
 switched recipe k other true unlocks = by_names (names_recipe unlocks recipe)
   where
     by_names : (b : Bool) → list_any (λ r. r.0 == k) (if b then unlocks else unlocks ++ recipe ∷ []) ≡ list_any (λ r. r.0 == k) unlocks

@@ -2,7 +2,9 @@ pub mod Members
 pub mod Making
 pub mod Doing
 pub mod Lists
+pub mod Words
 pub mod Kinds
 pub mod Indexed
+pub mod Alike
 pub mod Rows
 pub mod Touched

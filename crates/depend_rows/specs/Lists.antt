@@ -1,9 +1,10 @@
 -- Lists of nodes by number: the nodes of the things that are about each number.
-use Rattle.std.specs.Prelude.{ℕ, ◌≡◌, ◌<◌, ◌≤◌, ◌==◌, Bool, false, List, [], ◌∷◌, ◌++◌, Vec, length, map, slice_index, slice_index_or}
+use Rattle.std.specs.Prelude.{ℕ, ◌≡◌, ◌<◌, ◌≤◌, ◌==◌, Bool, false, List, [], ◌∷◌, ◌++◌, Vec, length, map, slice_index, slice_index_or, true}
 use Rattle.std.specs.Global.{Global}
 use Rattle.std.specs.List.{list_all, list_any}
 use Rattle.std.specs.List.Sorted.{IsStrictlyIncreasing}
 use Rattle.plan_base.specs.declared.ids.NodeId.{NodeId}
+use Rattle.depend_rows.specs.Members.{those}
 
 -- what lists hold
 abbrev pub contents : List (Vec NodeId Global) → List (List NodeId)
@@ -63,6 +64,20 @@ is_in_all lists numbers k = list_all (λ j. has_node (list_at lists j) k) number
 pub record AreCommon (lists : List (Vec NodeId Global)) (numbers : List ℕ) (nodes : List NodeId) : Type 0 where
   pub rise : Rise nodes
   pub same : (k : ℕ) → has_node nodes k ≡ is_in_all lists numbers k
+
+-- There are so many lists, and each rises and holds the nodes, numbered from the first on, of all things that are about its
+-- number. It may hold other nodes too; where the lists are said to be exact it holds none.
+pub record HoldThose {A : Type 0} (exact : Bool) (about : A → ℕ → Bool) (first : ℕ) (things : List A) (count : ℕ) (lists : List (Vec NodeId Global)) : Type 0 where
+  pub as_long : length lists ≡ count
+  pub rise : (k : ℕ) → k < count → Rise (list_at lists k)
+  pub all : (k n : ℕ) → k < count → has_node (those (λ thing. about thing k) first things) n ≡ true → has_node (list_at lists k) n ≡ true
+  pub exactly : exact ≡ true → (k : ℕ) → k < count → list_at lists k ≡ those (λ thing. about thing k) first things
+
+-- there are as many lists; what rose rises still, and what was in a list is there still
+pub record Widen (old new : List (Vec NodeId Global)) : Type 0 where
+  pub as_long : length new ≡ length old
+  pub rise : (k : ℕ) → k < length old → Rise (list_at old k) → Rise (list_at new k)
+  pub kept : (k n : ℕ) → has_node (list_at old k) n ≡ true → has_node (list_at new k) n ≡ true
 
 -- ---- marks
 -- each mark says whether its number is among these

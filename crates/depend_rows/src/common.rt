@@ -13,9 +13,9 @@ fn is_below(nodes: &[NodeId], place: usize, node: NodeId) -> bool
     nodes[place].0 < node.0
 }
 
-// The place of a node in a list that rises, from a place on before which all are below it. It goes in steps that double, and
+/// The place of a node in a list that rises, from a place on before which all are below it. It goes in steps that double, and
 // then halves what is left: the time is about the logarithm of how far it goes.
-fn place_of(nodes: &[NodeId], from: usize, node: NodeId) -> usize
+pub fn place_of(nodes: &[NodeId], from: usize, node: NodeId) -> usize
     requires rise { Rise nodes.now }
     requires within { from ≤ length nodes.now }
     requires below { (i : ℕ) → i < from → number_at nodes.now i < node.0 }
@@ -36,8 +36,8 @@ fn place_of(nodes: &[NodeId], from: usize, node: NodeId) -> usize
     low
 }
 
-// Whether a node is at its place in a list that rises.
-fn is_there(nodes: &[NodeId], place: usize, node: NodeId) -> bool
+/// Whether a node is at its place in a list that rises.
+pub fn is_there(nodes: &[NodeId], place: usize, node: NodeId) -> bool
     requires rise { Rise nodes.now }
     requires place { IsPlaceOf node.0 nodes.now place }
     ensures { result ≡ has_node nodes.now node.0 }

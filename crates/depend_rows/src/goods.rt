@@ -1,11 +1,13 @@
 //! What goods need: any that gives them.
-ghost use Rattle.std.specs.Prelude.{◌≡◌, ◌<◌, ◌++◌, IfOk, length, nat_lt};
+ghost use Rattle.std.specs.Prelude.{◌≡◌, ◌<◌, ◌++◌, IfOk, OnOk, length, nat_lt};
 ghost use Rattle.game_types.specs.Making.{expected_amount, is_positive};
+ghost use Rattle.game_types.specs.Sound.{IsSound};
 ghost use Rattle.depend_rows.specs.Indexed.{IsIndex};
 ghost use Rattle.game_types.specs.Temperatures.{is_base};
 ghost use Rattle.depend_rows.specs.Lists.{list_at};
 ghost use Rattle.depend_rows.specs.Making.{givers, good_count, good_row, leavers, makers, putters, variants};
 
+use crate::among::recipes_giving;
 use crate::index::Index;
 use crate::lists::list_at;
 use crate::members::{any_of, row_with};
@@ -59,6 +61,25 @@ fn push_list_at(nodes: &mut Vec<NodeId>, lists: &[Vec<NodeId>], number: u32) -> 
     Ok(())
 }
 
+// Appends the recipes and the sources that give a good.
+#[tactic(auto, unfolding(crate::specs::Making::makers))]
+fn push_makers(
+    alloc: Global,
+    nodes: &mut Vec<NodeId>,
+    game: &Game,
+    index: &Index,
+    good: u32,
+) -> Result<(), NoMemory>
+    requires sound { IsSound game.now }
+    requires index { IsIndex game.now index.now }
+    requires good { good < good_count game.now }
+    ensures { OnOk result (nodes.new.items ≡ nodes.old.items ++ makers game.now good) }
+{
+    let recipes = recipes_giving(alloc, game, index, good)?;
+    nodes.extend_from_slice(recipes.as_slice())?;
+    push_list_at(nodes, index.source_makers.as_slice(), good)
+}
+
 // What gives a base.
 fn base_givers(
     alloc: Global,
@@ -66,13 +87,13 @@ fn base_givers(
     index: &Index,
     good: u32,
 ) -> Result<Vec<NodeId>, NoMemory>
+    requires sound { IsSound game.now }
     requires index { IsIndex game.now index.now }
     requires good { good < good_count game.now }
     ensures { IfOk result (λ nodes. nodes.items ≡ variants game.now good ++ makers game.now good) }
 {
-    let _game = game;
     let mut nodes = list_at(alloc, index.variants.as_slice(), good)?;
-    push_list_at(&mut nodes, index.makers.as_slice(), good)?;
+    push_makers(alloc, &mut nodes, game, index, good)?;
     Ok(nodes)
 }
 
@@ -83,13 +104,13 @@ fn plain_givers(
     index: &Index,
     good: u32,
 ) -> Result<Vec<NodeId>, NoMemory>
+    requires sound { IsSound game.now }
     requires index { IsIndex game.now index.now }
     requires good { good < good_count game.now }
     ensures { IfOk result (λ nodes. nodes.items ≡ leavers game.now good ++ makers game.now good ++ putters game.now good) }
 {
-    let _game = game;
     let mut nodes = list_at(alloc, index.leavers.as_slice(), good)?;
-    push_list_at(&mut nodes, index.makers.as_slice(), good)?;
+    push_makers(alloc, &mut nodes, game, index, good)?;
     push_list_at(&mut nodes, index.putters.as_slice(), good)?;
     Ok(nodes)
 }
@@ -97,6 +118,7 @@ fn plain_givers(
 // What gives a good.
 #[tactic(auto, unfolding(crate::specs::Making::givers))]
 fn givers(alloc: Global, game: &Game, index: &Index, good: u32) -> Result<Vec<NodeId>, NoMemory>
+    requires sound { IsSound game.now }
     requires index { IsIndex game.now index.now }
     requires good { good < good_count game.now }
     ensures { IfOk result (λ nodes. nodes.items ≡ givers game.now good) }
@@ -111,6 +133,7 @@ fn givers(alloc: Global, game: &Game, index: &Index, good: u32) -> Result<Vec<No
 /// The row of a good.
 #[tactic(auto, unfolding(crate::specs::Making::good_row))]
 pub fn good_row(alloc: Global, game: &Game, index: &Index, good: u32) -> Result<Row, NoMemory>
+    requires sound { IsSound game.now }
     requires index { IsIndex game.now index.now }
     requires good { good < good_count game.now }
     ensures { IfOk result (λ row. row ≡ good_row game.now good) }

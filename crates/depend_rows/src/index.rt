@@ -1,24 +1,26 @@
 //! The nodes that rows are put together from, made once in time in proportion to the game.
-ghost use Rattle.std.specs.Prelude.{◌≡◌, ℕ, ◌==◌, ◌&&◌, IfOk, OnOk, length, slice_get};
+ghost use Rattle.std.specs.Prelude.{◌≡◌, ℕ, ◌==◌, ◌&&◌, IfOk, length, slice_get, true};
 ghost use Rattle.std.specs.List.{list_any};
 ghost use Rattle.std.specs.Option.{option_copied, option_to_list};
 ghost use Rattle.game_types.specs.Making.{gives};
 ghost use Rattle.game_types.specs.Sound.{IsSound};
 ghost use Rattle.game_types.specs.Temperatures.{is_good};
 ghost use Rattle.depend_rows.specs.Members.{those};
-ghost use Rattle.depend_rows.specs.Making.{first_machine, first_recipe, first_source, good_count, leavers, makers, putters, puts_out, unlockers, variants};
+ghost use Rattle.depend_rows.specs.Making.{first_machine, first_recipe, first_source, first_tech, good_count, leavers, putters, puts_out, variants};
 ghost use Rattle.depend_rows.specs.Doing.{burning_fluids, is_machine, names_good, placers};
 ghost use Rattle.depend_rows.specs.Kinds.{crafts_all_of, crafts_alone, has_category, is_drill_of, is_fuel_of, takes};
-ghost use Rattle.depend_rows.specs.Lists.{AreLists, Extends, is_among};
+ghost use Rattle.depend_rows.specs.Lists.{AreLists, HoldThose, is_among};
+ghost use Rattle.depend_rows.specs.Words.{AreWords};
 
 use crate::goods::is_expected;
-use crate::lists::{Keys, empty_lists, extend_lists, lists_of};
+use crate::lists::{Keys, lists_of};
 use crate::machines::burning_fluids;
 use crate::marks::marks_of;
 use crate::places::{
     first_fluid, first_machine, first_recipe, first_source, first_tech, good_count,
 };
 use crate::techs::all_labs;
+use crate::words::words_of_all;
 use game_types::{
     Fluid, Fuel, Game, Item, Machine, MachineKind, Product, Recipe, Source, Tech, holds,
     is_positive,
@@ -33,12 +35,16 @@ pub struct Index {
     pub leavers: Vec<Vec<NodeId>>,
     /// For each good, its variants.
     pub variants: Vec<Vec<NodeId>>,
-    /// For each good, the recipes and sources that give it.
-    pub makers: Vec<Vec<NodeId>>,
+    /// For each good, the recipes that give it, and perhaps others.
+    pub recipe_makers: Vec<Vec<NodeId>>,
+    /// For each good, the sources that give it.
+    pub source_makers: Vec<Vec<NodeId>>,
     /// For each good, the machines that put it out.
     pub putters: Vec<Vec<NodeId>>,
-    /// For each recipe, the technologies that unlock it.
+    /// For each recipe, the technologies that unlock it, and perhaps others.
     pub unlockers: Vec<Vec<NodeId>>,
+    /// Whether there are none of these others.
+    pub exact: bool,
     /// For each machine, the items that are placed as it.
     pub placers: Vec<Vec<NodeId>>,
     /// For each category, the machines that craft all its recipes.
@@ -57,6 +63,8 @@ pub struct Index {
     pub labs: Vec<NodeId>,
     /// For each item, the labs that take it.
     pub takers: Vec<Vec<NodeId>>,
+    /// For each item, those labs as bits, from the first machine on, where they are many.
+    pub taker_words: Vec<Vec<u64>>,
     /// For each category, whether the character crafts its recipes.
     pub crafting: Vec<bool>,
     /// For each category, whether the character mines its sources.
@@ -410,54 +418,43 @@ fn putters(alloc: Global, game: &Game) -> Result<Vec<Vec<NodeId>>, NoMemory>
     )
 }
 
-fn extend_by_recipes(alloc: Global, game: &Game, lists: &mut [Vec<NodeId>]) -> Result<(), NoMemory>
+fn recipes_by_good(alloc: Global, game: &Game) -> Result<Vec<Vec<NodeId>>, NoMemory>
     requires { IsSound game.now }
-    ensures { OnOk result (Extends (λ good. those (λ recipe. gives recipe.products good) (first_recipe game.now) game.now.recipes) lists.old lists.new) }
+    ensures { IfOk result (λ lists. AreLists (λ good. those (λ recipe. gives recipe.products good) (first_recipe game.now) game.now.recipes) (good_count game.now) lists.items) }
 {
-    extend_lists(
+    lists_of(
         alloc,
-        lists,
+        good_count(game),
         first_recipe(game),
         game.recipes.as_slice(),
         &Given,
     )
 }
 
-fn extend_by_sources(alloc: Global, game: &Game, lists: &mut [Vec<NodeId>]) -> Result<(), NoMemory>
+fn recipe_makers(alloc: Global, game: &Game) -> Result<Vec<Vec<NodeId>>, NoMemory>
     requires { IsSound game.now }
-    ensures { OnOk result (Extends (λ good. those (λ source. gives source.products good) (first_source game.now) game.now.sources) lists.old lists.new) }
+    ensures { IfOk result (λ lists. HoldThose true (λ recipe good. gives recipe.products good) (first_recipe game.now) game.now.recipes (good_count game.now) lists.items) }
 {
-    extend_lists(
+    let lists = recipes_by_good(alloc, game)?;
+    Ok(lists)
+}
+
+fn source_makers(alloc: Global, game: &Game) -> Result<Vec<Vec<NodeId>>, NoMemory>
+    requires { IsSound game.now }
+    ensures { IfOk result (λ lists. AreLists (λ good. those (λ source. gives source.products good) (first_source game.now) game.now.sources) (good_count game.now) lists.items) }
+{
+    lists_of(
         alloc,
-        lists,
+        good_count(game),
         first_source(game),
         game.sources.as_slice(),
         &Given,
     )
 }
 
-fn extend_by_makers(alloc: Global, game: &Game, lists: &mut [Vec<NodeId>]) -> Result<(), NoMemory>
+fn techs_by_recipe(alloc: Global, game: &Game) -> Result<Vec<Vec<NodeId>>, NoMemory>
     requires { IsSound game.now }
-    ensures { OnOk result (Extends (makers game.now) lists.old lists.new) }
-{
-    extend_by_recipes(alloc, game, lists)?;
-    extend_by_sources(alloc, game, lists)?;
-    Ok(())
-}
-
-fn makers(alloc: Global, game: &Game) -> Result<Vec<Vec<NodeId>>, NoMemory>
-    requires { IsSound game.now }
-    ensures { IfOk result (λ lists. AreLists (makers game.now) (good_count game.now) lists.items) }
-{
-    let mut lists = empty_lists(alloc, good_count(game))?;
-    extend_by_makers(alloc, game, lists.as_mut_slice())?;
-    Ok(lists)
-}
-
-#[tactic(auto, unfolding(crate::specs::Making::unlockers))]
-fn unlockers(alloc: Global, game: &Game) -> Result<Vec<Vec<NodeId>>, NoMemory>
-    requires { IsSound game.now }
-    ensures { IfOk result (λ lists. AreLists (unlockers game.now) (length game.now.recipes) lists.items) }
+    ensures { IfOk result (λ lists. AreLists (λ number. those (λ tech. list_any (λ r. r.0 == number) tech.unlocks) (first_tech game.now) game.now.techs) (length game.now.recipes) lists.items) }
 {
     let count = game.shape().recipes;
     lists_of(
@@ -467,6 +464,14 @@ fn unlockers(alloc: Global, game: &Game) -> Result<Vec<Vec<NodeId>>, NoMemory>
         game.techs.as_slice(),
         &Unlocked,
     )
+}
+
+fn unlockers(alloc: Global, game: &Game) -> Result<Vec<Vec<NodeId>>, NoMemory>
+    requires { IsSound game.now }
+    ensures { IfOk result (λ lists. HoldThose true (λ tech number. list_any (λ r. r.0 == number) tech.unlocks) (first_tech game.now) game.now.techs (length game.now.recipes) lists.items) }
+{
+    let lists = techs_by_recipe(alloc, game)?;
+    Ok(lists)
 }
 
 #[tactic(auto, unfolding(crate::specs::Doing::placers))]
@@ -545,6 +550,19 @@ fn takers(alloc: Global, game: &Game) -> Result<Vec<Vec<NodeId>>, NoMemory>
     )
 }
 
+// A word holds 64 machines.
+fn words_of_takers(
+    alloc: Global,
+    game: &Game,
+    takers: &[Vec<NodeId>],
+) -> Result<Vec<Vec<u64>>, NoMemory>
+    requires { IsSound game.now }
+    ensures { IfOk result (λ words. AreWords (first_machine game.now) takers.now words.items) }
+{
+    let count = game.machines.len() / 64 + 1;
+    words_of_all(alloc, count, first_machine(game), takers)
+}
+
 impl Index {
     ghost use Rattle.depend_rows.specs.Indexed.{IsIndex};
 
@@ -559,7 +577,8 @@ impl Index {
     {
         let leavers = leavers(alloc, game)?;
         let variants = variants(alloc, game)?;
-        let makers = makers(alloc, game)?;
+        let recipe_makers = recipe_makers(alloc, game)?;
+        let source_makers = source_makers(alloc, game)?;
         let putters = putters(alloc, game)?;
         let unlockers = unlockers(alloc, game)?;
         let placers = placers(alloc, game)?;
@@ -571,15 +590,18 @@ impl Index {
         let burning = burning_fluids(alloc, game)?;
         let labs = all_labs(alloc, game)?;
         let takers = takers(alloc, game)?;
+        let taker_words = words_of_takers(alloc, game, takers.as_slice())?;
         let categories = game.categories.len();
         let crafting = marks_of(alloc, categories, game.character.crafting.as_slice())?;
         let mining = marks_of(alloc, categories, game.character.mining.as_slice())?;
         Ok(Index {
             leavers,
             variants,
-            makers,
+            recipe_makers,
+            source_makers,
             putters,
             unlockers,
+            exact: true,
             placers,
             crafters,
             fixed,
@@ -589,6 +611,7 @@ impl Index {
             burning,
             labs,
             takers,
+            taker_words,
             crafting,
             mining,
         })

@@ -10,6 +10,7 @@ ghost use Rattle.depend_rows.specs.Kinds.{is_drill_of};
 ghost use Rattle.depend_rows.specs.Members.{named, those};
 ghost use Rattle.depend_rows.specs.Making.{bounded_group, bounded_groups, crafters, crafters_by, first_machine, fits, free_good, good_count, ingredients, is_free, miners, recipe_row, source_row};
 
+use crate::among::techs_unlocking;
 use crate::goods::is_base;
 use crate::index::Index;
 use crate::lists::list_at;
@@ -362,7 +363,7 @@ pub fn recipe_row(
     )?;
     groups.push(makers)?;
     if !recipe.enabled {
-        groups.push(any_of(list_at(alloc, index.unlockers.as_slice(), number)?))?;
+        groups.push(any_of(techs_unlocking(alloc, game, index, number)?))?;
     }
     Ok(row_with(groups))
 }

@@ -153,7 +153,7 @@ pub fn rows_all<L>(alloc: Global, book: &Book, steps: &mut Steps<L>) -> Result<V
     Ok(rows)
 }
 
-/// The same, where the rows have few enough members. No more memory is taken than for `MEMBER_LIMIT` members and one row.
+/// The same, where the rows have few enough members, and the index that they were put together from. No more memory is taken than for `MEMBER_LIMIT` members and one row.
 ///
 /// # Errors
 ///
@@ -162,12 +162,13 @@ pub fn rows_within<L>(
     alloc: Global,
     book: &Book,
     steps: &mut Steps<L>,
-) -> Result<Vec<Row>, RowsFault>
+) -> Result<(Vec<Row>, Index), RowsFault>
     requires { IsSoundBook book.now }
     ensures rows { MatchResult result
-        (λ rows. (rows.items ≡ rows_of book.now.game) × (member_count (rows_of book.now.game) ≤ MEMBER_LIMIT))
+        (λ made. (made.0.items ≡ rows_of book.now.game) × (member_count (rows_of book.now.game) ≤ MEMBER_LIMIT))
         (λ fault. fault ≡ RowsFault.TooMany → MEMBER_LIMIT < member_count (rows_of book.now.game)) }
-    ensures graph { IfOk result (λ rows. (length rows.items ≡ node_count (shape_of book.now.game)) × AreMembersBelow (length rows.items) rows.items) }
+    ensures index { IfOk result (λ made. IsIndex book.now.game made.1) }
+    ensures graph { IfOk result (λ made. (length made.0.items ≡ node_count (shape_of book.now.game)) × AreMembersBelow (length made.0.items) made.0.items) }
     ensures steps { IfOk result (λ _. steps.new ≡ min (steps.old + node_count (shape_of book.now.game)) (2 ^ 64 - 1)) }
     ensures later { steps.old ≤ steps.new }
 {
@@ -190,10 +191,10 @@ pub fn rows_within<L>(
             return Err(RowsFault::NoMemory);
         };
     }
-    Ok(rows)
+    Ok((rows, index))
 }
 
-/// The row of a node. It is one step.
+/// The row of a node, by the index of its game. It is one step.
 ///
 /// # Errors
 ///
@@ -201,23 +202,24 @@ pub fn rows_within<L>(
 pub fn row_of<L>(
     alloc: Global,
     book: &Book,
+    index: &Index,
     node: NodeId,
     steps: &mut Steps<L>,
 ) -> Result<Row, NoMemory>
     requires sound { IsSoundBook book.now }
+    requires index { IsIndex book.now.game index.now }
     requires node { node.0 < node_count (shape_of book.now.game) }
     ensures row { IfOk result (λ row. row ≡ row_of book.now.game node.0) }
     ensures members { IfOk result (HasMembersBelow (node_count (shape_of book.now.game))) }
     ensures steps { IfOk result (λ _. steps.new ≡ min (steps.old + 1) (2 ^ 64 - 1)) }
     ensures later { steps.old ≤ steps.new }
 {
-    let index = Index::make(alloc, &book.game)?;
-    let row = row_at(alloc, &book.game, &index, node.0)?;
+    let row = row_at(alloc, &book.game, index, node.0)?;
     steps.tick();
     Ok(row)
 }
 
-/// The rows of these nodes, each beside its node. Each row is one step.
+/// The rows of these nodes, each beside its node, by the index of their game. Each row is one step.
 ///
 /// # Errors
 ///
@@ -225,22 +227,20 @@ pub fn row_of<L>(
 pub fn rows_for<L>(
     alloc: Global,
     book: &Book,
+    index: &Index,
     nodes: &[NodeId],
     steps: &mut Steps<L>,
 ) -> Result<Vec<(NodeId, Row)>, NoMemory>
     requires sound { IsSoundBook book.now }
+    requires index { IsIndex book.now.game index.now }
     requires nodes { All (λ n. n.0 < node_count (shape_of book.now.game)) nodes.now }
     ensures rows { IfOk result (λ rows. rows.items ≡ map (row_beside book.now.game) nodes.now) }
     ensures steps { IfOk result (λ _. steps.new ≤ steps.old + length nodes.now) }
     ensures later { steps.old ≤ steps.new }
 {
     let mut rows = Vec::new(alloc);
-    if nodes.is_empty() {
-        return Ok(rows);
-    }
-    let index = Index::make(alloc, &book.game)?;
     for node in nodes {
-        let row = row_at(alloc, &book.game, &index, node.0)?;
+        let row = row_at(alloc, &book.game, index, node.0)?;
         steps.tick();
         rows.push((*node, row))?;
     }

@@ -7,10 +7,10 @@ ghost use Rattle.depend_rows.specs.Making.{first_machine};
 ghost use Rattle.depend_rows.specs.Members.{those};
 ghost use Rattle.depend_rows.specs.Doing.{labs, prerequisites, science_packs, tech_row};
 
-use crate::common::in_all;
 use crate::index::Index;
 use crate::members::{Test, all_of, any_of, named, row_with, those};
 use crate::places::{first_machine, first_tech, good_count};
+use crate::words::in_each;
 use fractions::Ratio;
 use game_types::{Game, Machine, MachineKind, Tech};
 use graph_store::Row;
@@ -99,12 +99,17 @@ fn labs(alloc: Global, game: &Game, index: &Index, tech: &Tech) -> Result<Vec<No
     requires tech { IsSoundTech game.now tech.now }
     ensures { IfOk result (λ nodes. nodes.items ≡ labs game.now tech.now) }
 {
-    let _game = game;
     let goods = goods_of_parts(alloc, tech.ingredients.as_slice())?;
     if goods.is_empty() {
         Ok(Vec::from_slice(alloc, index.labs.as_slice())?)
     } else {
-        let nodes = in_all(alloc, index.takers.as_slice(), goods.as_slice())?;
+        let nodes = in_each(
+            alloc,
+            first_machine(game),
+            index.takers.as_slice(),
+            index.taker_words.as_slice(),
+            goods.as_slice(),
+        )?;
         Ok(nodes)
     }
 }

@@ -1,5 +1,5 @@
 //! Which nodes an edit touches.
-ghost use Rattle.std.specs.Prelude.{◌≡◌, ◌≢◌, ℕ, ◌<◌, ◌^◌, ◌++◌, All, AllPairs, List, IfOk, OnOk};
+ghost use Rattle.std.specs.Prelude.{◌≡◌, ◌≢◌, ℕ, ◌<◌, ◌^◌, ◌++◌, ◌∷◌, [], All, AllPairs, List, IfOk, Ok, OnOk};
 ghost use Rattle.std.specs.List.{list_any};
 ghost use Rattle.plan_base.specs.Shape.{node_count};
 ghost use Rattle.data_edit.specs.declared.books.Book.{Book};
@@ -7,6 +7,8 @@ ghost use Rattle.data_edit.specs.declared.edits.Edit.{Edit};
 ghost use Rattle.data_edit.specs.Books.{IsSoundBook};
 ghost use Rattle.plan_base.specs.declared.shape.Shape.{Shape};
 ghost use Rattle.graph_store.specs.Rows.{has_node};
+ghost use Rattle.data_edit.specs.Edits.{effect};
+ghost use Rattle.depend_rows.specs.Alike.{AlikeBut};
 ghost use Rattle.depend_rows.specs.Touched.{TouchesAll, good_node_in, numbers_below, recipe_node, touched_by, touched_by_all, touched_numbers};
 
 use crate::members::named;
@@ -121,4 +123,9 @@ pub fn touched_nodes_are_of_the_edits()
 /// An accepted edit of a sound book leaves the row and the marks of each node that it doesn't touch as they were.
 pub fn edits_touch_no_others()
     ensures { (edit : Edit) (book : Book) → IsSoundBook book → TouchesAll edit book }
+{}
+
+/// An accepted edit leaves all of a game but what it names.
+pub fn edits_leave_the_rest()
+    ensures { (edit : Edit) (book new : Book) → effect edit book ≡ Ok new → AlikeBut (edit ∷ []) book.game new.game }
 {}

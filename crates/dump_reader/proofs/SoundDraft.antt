@@ -4,8 +4,8 @@ use Rattle.std.proofs.Common.{refl, ap, ◌∙◌, arith, length-append}
 use Rattle.std.proofs.lemmas.Bool.Decides.{nat_tests}
 use Rattle.std.proofs.lemmas.List.Elements.{All-push}
 use Rattle.name_table.specs.Names.{place_of, with_name}
-use Rattle.game_types.specs.declared.games.TheConstants.{NODE_LIMIT}
 use Rattle.game_types.specs.declared.goods.Fluid.{Fluid}
+use Rattle.game_types.specs.Nodes.{node_limit}
 use Rattle.prototype_fields.specs.declared.fault.FieldCode.TheVariants.{Twice, Limit}
 use Rattle.prototype_fields.specs.declared.names.Key.TheVariants.{Minable, Autoplace, CraftingCategories, MiningCategories}
 use Rattle.prototype_fields.specs.declared.names.Within.TheVariants as within
@@ -34,7 +34,7 @@ use Rattle.dump_reader.proofs.SoundMachines.{machine_sound}
 record IsTaken (there : Bool) (names : Names) (nodes : ℕ) (t : Taken) : Type 0 where
   named : length t.0 ≡ length names + cond there 1 0
   counted : t.1 ≡ nodes + cond there 1 0
-  few : t.1 ≤ NODE_LIMIT
+  few : t.1 ≤ node_limit
 
 longer : {X : Type 0} (xs : List X) (x : X) → length (xs ++ x ∷ []) ≡ length xs + 1
 longer xs x = length-append xs (x ∷ [])
@@ -42,17 +42,17 @@ longer xs x = length-append xs (x ∷ [])
 below_limit : (limit nodes : ℕ) → nat_le limit nodes ≡ false → nodes + 1 ≤ limit
 below_limit limit nodes h = grind (arith, nat_tests)
 
-new_name : (names : Names) (nodes : ℕ) (name : List ℕ) → is_some (place_of names name) ≡ false → nat_le NODE_LIMIT nodes ≡ false → IsTaken true names nodes (with_name names name, nodes + 1)
+new_name : (names : Names) (nodes : ℕ) (name : List ℕ) → is_some (place_of names name) ≡ false → nat_le node_limit nodes ≡ false → IsTaken true names nodes (with_name names name, nodes + 1)
 new_name names nodes name new room =
     record {
       named = ap (λ test. length (if test then names else names ++ name ∷ [])) new ∙ longer names name;
       counted = refl;
-      few = below_limit NODE_LIMIT nodes room;
+      few = below_limit node_limit nodes room;
     }
 
 taken_yields : (names : Names) (nodes : ℕ) (name : List ℕ) → Yields (taken names nodes name) (IsTaken true names nodes)
 unfolding taken
-taken_yields names nodes name = by_tests (is_some (place_of names name)) (nat_le NODE_LIMIT nodes) (nat_le 131072 (length names)) (new_name names nodes name)
+taken_yields names nodes name = by_tests (is_some (place_of names name)) (nat_le node_limit nodes) (nat_le 131072 (length names)) (new_name names nodes name)
   where
     by_tests : (there full long : Bool) → (there ≡ false → full ≡ false → IsTaken true names nodes (with_name names name, nodes + 1))
         → Yields (if there then wrong_element Twice within.Prototype else if full || long then wrong_element Limit within.Prototype else Ok (with_name names name, nodes + 1)) (IsTaken true names nodes)
@@ -69,7 +69,7 @@ beside_yields names others nodes name = by_test (is_some (place_of others name))
     by_test true = record { holds = tt }
     by_test false = taken_yields names nodes name
 
-source_taken_yields : (object : Object) (name : List ℕ) (g : RawGame) → g.nodes ≤ NODE_LIMIT → Yields (source_taken object name g) (IsTaken (is_some (field object Minable)) g.source_names g.nodes)
+source_taken_yields : (object : Object) (name : List ℕ) (g : RawGame) → g.nodes ≤ node_limit → Yields (source_taken object name g) (IsTaken (is_some (field object Minable)) g.source_names g.nodes)
 unfolding source_taken
 source_taken_yields object name g few = by_test (is_some (field object Minable))
   where

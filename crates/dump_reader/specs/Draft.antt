@@ -12,7 +12,7 @@ use Rattle.craft_reader.specs.Technologies.{raw_tech}
 use Rattle.craft_reader.specs.declared.recipes.RawRecipe.{RawRecipe}
 use Rattle.craft_reader.specs.declared.technologies.RawTech.{RawTech}
 use Rattle.game_types.specs.declared.goods.Fluid.{Fluid}
-use Rattle.game_types.specs.declared.games.TheConstants.{NODE_LIMIT}
+use Rattle.game_types.specs.Nodes.{node_limit}
 use Rattle.dump_reader.specs.declared.draft.Draft.{Draft}
 use Rattle.dump_reader.specs.declared.raw.RawItem.{RawItem}
 use Rattle.dump_reader.specs.declared.raw.RawMachine.{RawMachine}
@@ -84,14 +84,14 @@ empty_game = record {
   nodes = 3;
 }
 
--- ---- a new name of a family, and one node more
+-- ---- a new name of a family, and one node more: there may be 131,072 nodes, and as many names in a family
 abbrev pub Taken : Type 0
 Taken = Names × ℕ
 
 unfoldable pub taken : Names → ℕ → List ℕ → Reading Taken
 taken names nodes name =
     if is_some (place_of names name) then wrong_element Twice within.Prototype
-    else if nat_le NODE_LIMIT nodes || nat_le 131072 (length names) then wrong_element Limit within.Prototype
+    else if nat_le node_limit nodes || nat_le 131072 (length names) then wrong_element Limit within.Prototype
     else Ok (with_name names name, nodes + 1)
 
 -- the same where two lists are of one family

@@ -2,8 +2,8 @@
 -- within their ranges, and no variants of fluids.
 use Rattle.std.specs.Prelude.{◌≡◌, ◌+◌, ◌≤◌, All, IfSome, length}
 use Rattle.fractions.specs.Fraction.{◌<ʳ◌, zero_fraction}
+use Rattle.game_types.specs.Nodes.{node_limit}
 use Rattle.game_types.specs.Sound.{ArePlain, IsSoundBonus}
-use Rattle.game_types.specs.declared.games.TheConstants.{NODE_LIMIT}
 use Rattle.dump_reader.specs.declared.raw.RawEnergy.{RawEnergy}
 use Rattle.dump_reader.specs.declared.raw.RawEnergy.TheVariants as energy
 use Rattle.dump_reader.specs.declared.raw.RawItem.{RawItem}
@@ -53,7 +53,7 @@ pub record IsSoundDraft (g : RawGame) : Type 0 where
   pub machine_names : length g.machine_names ≡ length g.machines
   pub tech_names : length g.tech_names ≡ length g.techs
   pub counted : g.nodes ≡ 3 + length g.items + length g.fluids + length g.recipes + length g.sources + length g.machines + length g.techs
-  pub few : g.nodes ≤ NODE_LIMIT
+  pub few : g.nodes ≤ node_limit
   pub items : All IsSoundRawItem g.items
   pub fluids : ArePlain g.fluids
   pub machines : All IsSoundRawMachine g.machines

@@ -11,6 +11,6 @@ mod sections;
 mod sources;
 
 pub use draft::Draft;
-pub use passes::read_game;
+pub use passes::read_draft;
 pub use raw::{RawEnergy, RawItem, RawKind, RawMachine, RawModule, RawSource};
 pub use sections::{Class, Section};

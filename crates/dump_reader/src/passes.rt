@@ -1,8 +1,8 @@
 //! The first pass over the tree of a dump.
-ghost use Rattle.std.specs.Prelude.{◌≡◌, ◌≢◌, [], IfOk, option_map, map};
+ghost use Rattle.std.specs.Prelude.{◌≡◌, ◌≢◌, [], IfErr, IfOk, option_map, map};
 ghost use Rattle.json_text.specs.SpanSeen.{members_seen, span_seen, text_seen};
 ghost use Rattle.prototype_fields.specs.Values.{Gives, seen_as};
-ghost use Rattle.craft_reader.specs.Faults.{GivesDump, fault_in};
+ghost use Rattle.craft_reader.specs.Faults.{GivesDump, IsBare, fault_in};
 ghost use Rattle.dump_reader.specs.Draft.{draft_seen};
 ghost use Rattle.dump_reader.specs.Dump.{each_after, member_of, named_of, no_object, prototype_of, section_of, sections, raw_game};
 ghost use Rattle.dump_reader.specs.Sections.{section_text};
@@ -44,7 +44,8 @@ fn add_value(
 
 // What is no object.
 fn no_object(alloc: Global, section: &str) -> DumpFault
-    ensures { result.code ≢ DumpCode.NoMemory → result ≡ fault_in section.now [] no_object }
+    ensures fault { result.code ≢ DumpCode.NoMemory → result ≡ fault_in section.now [] no_object }
+    ensures bare { IsBare result }
 {
     let fault = FieldFault::of_element(FieldCode::WrongKind, Within::Prototype);
     DumpFault::of_field(alloc, section, "", fault)
@@ -59,7 +60,8 @@ fn add_named(
     value: &SpanTree<'_>,
     draft: &mut Draft,
 ) -> Result<(), DumpFault>
-    ensures { GivesDump (named_of section name.now (span_seen value.now) (draft_seen draft.old)) (seen_as (λ done. draft_seen draft.new) result) }
+    ensures gives { GivesDump (named_of section name.now (span_seen value.now) (draft_seen draft.old)) (seen_as (λ done. draft_seen draft.new) result) }
+    ensures bare { IfErr result IsBare }
 {
     match add_value(alloc, section, name, value, draft) {
         Ok(()) => Ok(()),
@@ -75,7 +77,8 @@ fn add_member(
     member: &SpanMember<'_>,
     draft: &mut Draft,
 ) -> Result<(), DumpFault>
-    ensures { GivesDump (member_of section (text_seen member.now.key, span_seen member.now.value) (draft_seen draft.old)) (seen_as (λ done. draft_seen draft.new) result) }
+    ensures gives { GivesDump (member_of section (text_seen member.now.key, span_seen member.now.value) (draft_seen draft.old)) (seen_as (λ done. draft_seen draft.new) result) }
+    ensures bare { IfErr result IsBare }
 {
     match if_utf8(member.key.as_bytes()) {
         Some(name) => add_named(alloc, section, name, &member.value, draft),
@@ -90,7 +93,8 @@ fn add_members(
     members: &[SpanMember<'_>],
     draft: &mut Draft,
 ) -> Result<(), DumpFault>
-    ensures { GivesDump (each_after (member_of section) (members_seen members.now) (draft_seen draft.old)) (seen_as (λ done. draft_seen draft.new) result) }
+    ensures gives { GivesDump (each_after (member_of section) (members_seen members.now) (draft_seen draft.old)) (seen_as (λ done. draft_seen draft.new) result) }
+    ensures bare { IfErr result IsBare }
 {
     for member in members {
         match add_member(alloc, section, member, draft) {
@@ -109,7 +113,8 @@ fn add_section(
     section: Section,
     draft: &mut Draft,
 ) -> Result<(), DumpFault>
-    ensures { GivesDump (section_of (members_seen top.now) section (draft_seen draft.old)) (seen_as (λ done. draft_seen draft.new) result) }
+    ensures gives { GivesDump (section_of (members_seen top.now) section (draft_seen draft.old)) (seen_as (λ done. draft_seen draft.new) result) }
+    ensures bare { IfErr result IsBare }
 {
     let Some(value) = value_at(section.text(), top) else {
         return Ok(());
@@ -171,7 +176,8 @@ fn add_sections(
     sections: &[Section],
     draft: &mut Draft,
 ) -> Result<(), DumpFault>
-    ensures { GivesDump (each_after (section_of (members_seen top.now)) sections.now (draft_seen draft.old)) (seen_as (λ done. draft_seen draft.new) result) }
+    ensures gives { GivesDump (each_after (section_of (members_seen top.now)) sections.now (draft_seen draft.old)) (seen_as (λ done. draft_seen draft.new) result) }
+    ensures bare { IfErr result IsBare }
 {
     for section in sections {
         match add_section(alloc, top, *section, draft) {
@@ -189,9 +195,10 @@ fn add_sections(
 ///
 /// The first fault of the first pass, with its section and the name of its prototype.
 #[tactic(auto, unfolding(crate::specs::Dump::raw_game))]
-pub fn read_game(alloc: Global, tree: &SpanTree<'_>) -> Result<Draft, DumpFault>
+pub fn read_draft(alloc: Global, tree: &SpanTree<'_>) -> Result<Draft, DumpFault>
     ensures gives { GivesDump (raw_game (span_seen tree.now)) (seen_as draft_seen result) }
     ensures sound { IfOk result (λ draft. IsSoundDraft (draft_seen draft)) }
+    ensures bare { IfErr result IsBare }
 {
     let Some(top) = as_object(tree) else {
         return Err(no_object(alloc, ""));

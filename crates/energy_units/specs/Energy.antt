@@ -66,11 +66,11 @@ pub record IsModerate (e : Energy) : Type 0 where
   pub prefixed_below : prefixed e <ʳ whole_fraction (pos (10 ^ 30))
 
 -- what an energy is read as
-abbrev pub Gives : Result Fraction EnergyFault → Energy → Type 0
-Gives (Ok x) e = IsModerate e × (x ≡ energy_value e)
-Gives (Err TooLarge) e = ¬ IsModerate e
-Gives (Err NoNumber) e = ⊥
-Gives (Err NoUnit) e = ⊥
+abbrev pub GivesEnergy : Result Fraction EnergyFault → Energy → Type 0
+GivesEnergy (Ok x) e = IsModerate e × (x ≡ energy_value e)
+GivesEnergy (Err TooLarge) e = ¬ IsModerate e
+GivesEnergy (Err NoNumber) e = ⊥
+GivesEnergy (Err NoUnit) e = ⊥
 
 pub record BeginsWithNumber (text : List ℕ) : Type 0 where
   pub number_text : List ℕ
@@ -81,7 +81,7 @@ pub record BeginsWithNumber (text : List ℕ) : Type 0 where
 
 -- what a text is read as
 abbrev pub Reads : Measure → List ℕ → Result Fraction EnergyFault → Type 0
-Reads measure text (Ok x) = (e : Energy) × WritesEnergy measure text e × Gives (Ok x) e
-Reads measure text (Err TooLarge) = (e : Energy) × WritesEnergy measure text e × Gives (Err TooLarge) e
+Reads measure text (Ok x) = (e : Energy) × WritesEnergy measure text e × GivesEnergy (Ok x) e
+Reads measure text (Err TooLarge) = (e : Energy) × WritesEnergy measure text e × GivesEnergy (Err TooLarge) e
 Reads measure text (Err NoNumber) = ¬ BeginsWithNumber text
 Reads measure text (Err NoUnit) = BeginsWithNumber text × ((e : Energy) → ¬ WritesEnergy measure text e)

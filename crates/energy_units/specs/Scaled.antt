@@ -2,7 +2,7 @@
 use Rattle.std.specs.Prelude.{◌≡◌, ℕ, ◌^◌, pos, List, Some, None, Result, Ok, Err}
 use Rattle.fractions.specs.Fraction.{Fraction, whole_fraction, ◌*ʳ◌, ◌<ʳ◌}
 use Rattle.fractions.specs.Numeral.{Numeral}
-use Rattle.energy_units.specs.Energy.{Energy, WritesNumber, Gives}
+use Rattle.energy_units.specs.Energy.{Energy, WritesNumber, GivesEnergy}
 use Rattle.energy_units.specs.Split.{behind_prefix, factor_of}
 use Rattle.energy_units.specs.declared.Measure.{Measure}
 use Rattle.energy_units.specs.declared.EnergyFault.{EnergyFault}
@@ -27,7 +27,7 @@ pub record IsEnergyOf (measure : Measure) (number behind : List ℕ) (e : Energy
   pub factor_is : factor_of measure (behind_prefix behind).1 ≡ Some e.factor
 
 abbrev pub GivesParts : Result Fraction EnergyFault → Measure → List ℕ → List ℕ → Type 0
-GivesParts (Ok x) measure number behind = (e : Energy) × IsEnergyOf measure number behind e × Gives (Ok x) e
-GivesParts (Err TooLarge) measure number behind = (e : Energy) × IsEnergyOf measure number behind e × Gives (Err TooLarge) e
+GivesParts (Ok x) measure number behind = (e : Energy) × IsEnergyOf measure number behind e × GivesEnergy (Ok x) e
+GivesParts (Err TooLarge) measure number behind = (e : Energy) × IsEnergyOf measure number behind e × GivesEnergy (Err TooLarge) e
 GivesParts (Err NoUnit) measure number behind = factor_of measure (behind_prefix behind).1 ≡ None
 GivesParts (Err NoNumber) measure number behind = ⊥

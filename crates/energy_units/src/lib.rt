@@ -3,7 +3,7 @@
 
 ghost use Rattle.std.specs.Prelude.{◌≡◌, ◌≢◌, ℕ, ◌+◌, ◌<◌, ◌≤◌, ◌^◌, pos, length, take, drop, IfSome, MatchOption, Some, None};
 ghost use Rattle.fractions.specs.Fraction.{◌*ʳ◌, ◌<ʳ◌, whole_fraction};
-ghost use Rattle.energy_units.specs.Energy.{letter_power, unit_factor, Energy, WritesEnergy, Gives, Reads};
+ghost use Rattle.energy_units.specs.Energy.{letter_power, unit_factor, Energy, WritesEnergy, GivesEnergy, Reads};
 ghost use Rattle.energy_units.specs.Split.{whole_len, part_len, number_len, behind_prefix, factor_of};
 ghost use Rattle.energy_units.specs.Scaled.{GivesScaled, GivesParts, IsNumberText};
 ghost use Rattle.fractions.specs.Numeral.{IsShort};
@@ -162,7 +162,7 @@ fn energy_of(number: &[u8], behind: &[u8], measure: Measure) -> Result<Ratio, En
 
 fn read(text: &[u8], measure: Measure) -> Result<Ratio, EnergyFault>
     ensures reading { Reads measure text.now result }
-    ensures unique { (e : Energy) → WritesEnergy measure text.now e → Gives result e }
+    ensures unique { (e : Energy) → WritesEnergy measure text.now e → GivesEnergy result e }
 {
     match split_number(text) {
         Some((number, behind)) => energy_of(number, behind, measure),
@@ -181,7 +181,7 @@ fn read(text: &[u8], measure: Measure) -> Result<Ratio, EnergyFault>
 /// the prefix is 10^30 or more.
 pub fn read_energy(text: &[u8]) -> Result<Ratio, EnergyFault>
     ensures reading { Reads Measure.Joules text.now result }
-    ensures unique { (e : Energy) → WritesEnergy Measure.Joules text.now e → Gives result e }
+    ensures unique { (e : Energy) → WritesEnergy Measure.Joules text.now e → GivesEnergy result e }
 {
     read(text, Measure::Joules)
 }
@@ -193,7 +193,7 @@ pub fn read_energy(text: &[u8]) -> Result<Ratio, EnergyFault>
 /// As those of `read_energy`.
 pub fn read_power(text: &[u8]) -> Result<Ratio, EnergyFault>
     ensures reading { Reads Measure.Watts text.now result }
-    ensures unique { (e : Energy) → WritesEnergy Measure.Watts text.now e → Gives result e }
+    ensures unique { (e : Energy) → WritesEnergy Measure.Watts text.now e → GivesEnergy result e }
 {
     read(text, Measure::Watts)
 }

@@ -7,9 +7,12 @@ use crate::telling::said;
 use plan_base::{NoMemory, Steps, Text};
 use plan_io::{HostSink, HostStore};
 use planner_cli::{Status, run};
+use run_progress::{Watch, WatchedSink, WatchedStore};
 use std::alloc::Global;
+use std::io::IsTerminal;
 use std::process::ExitCode;
 use std::rt::{Env, Files};
+use std::time::Clock;
 use std::{env, io};
 
 // Marks the counter of the program.
@@ -34,18 +37,28 @@ fn program_words<R: Env + AllocGlobal>(rt: &R, alloc: Global) -> Result<Vec<Text
     Ok(words)
 }
 
-// How the run that the words ask for ended.
-fn ended<R: Files + Print>(rt: &R, alloc: Global, words: &[Text]) -> Status {
-    let mut store = HostStore::make(rt);
-    let mut out = HostSink::make(rt);
+// How the run that the words ask for ended. Its progress is told on standard error where that is shown.
+fn ended<R: Files + Print + Eprint + Clock>(
+    rt: &R,
+    alloc: Global,
+    words: &[Text],
+    is_shown: bool,
+) -> Status {
+    let mut store = WatchedStore::make(HostStore::make(rt), Watch::start(rt, is_shown));
+    let mut out = WatchedSink::make(HostSink::make(rt), Watch::start(rt, is_shown));
     let mut steps = Steps::new(Program);
-    run(alloc, words, &mut store, &mut out, &mut steps).status
+    let status = run(alloc, words, &mut store, &mut out, &mut steps).status;
+    store.clear();
+    out.clear();
+    status
 }
 
 fn main(rt: HostRuntime) -> ExitCode {
     let alloc = rt.alloc();
+    // A terminal that has the report itself shows how far the run is.
+    let is_shown = rt.stderr().is_terminal() && !rt.stdout().is_terminal();
     let (status, words) = match program_words(&rt, alloc) {
-        Ok(words) => (ended(&rt, alloc, &words), words),
+        Ok(words) => (ended(&rt, alloc, &words, is_shown), words),
         Err(NoMemory) => (Status::NoMemory, Vec::new(alloc)),
     };
     if let Some(said) = said(&rt, alloc, &status, &words) {

@@ -6,26 +6,25 @@ use Rattle.std.proofs.Math.Path.{fun_ext}
 use Rattle.std.proofs.lemmas.Bool.Decides.{nat_tests}
 use Rattle.fractions.specs.Fraction.{Fraction}
 use Rattle.plan_base.specs.Shape.{node_count}
-use Rattle.game_types.specs.Nodes.{shape_of}
+use Rattle.game_types.specs.Nodes.{node_limit, shape_of}
 use Rattle.game_types.specs.Sound.{IsSound}
 use Rattle.game_types.specs.Temperatures.{fluid_at}
 use Rattle.game_types.specs.declared.games.Game.{Game}
-use Rattle.game_types.specs.declared.games.TheConstants.{NODE_LIMIT}
 use Rattle.game_types.specs.declared.goods.Fluid.{Fluid}
 use Rattle.game_types.specs.declared.machinery.Machine.{Machine}
 use Rattle.game_types.specs.declared.machinery.MachineKind.{MachineKind}
 use Rattle.game_types.specs.declared.machinery.MachineKind.TheVariants.{Crafter, Drill, Pump, Boiler, Generator, BurnerGenerator, Solar, Reactor, Lab, Beacon}
 use Rattle.game_types.specs.declared.recipes.Recipe.{Recipe}
 use Rattle.game_types.specs.declared.recipes.Source.{Source}
-use Rattle.fluid_variants.specs.Contents.{contents}
+use Rattle.fluid_temperatures.specs.Contents.{contents}
 use Rattle.std.proofs.lemmas.List.{length-map}
 use Rattle.fluid_variants.specs.Records.{Numbering, all_names, all_records, new_kind, new_machine, new_recipe, new_source, numbering_of, record_count, record_place}
 use Rattle.fluid_variants.specs.Places.{Listed}
 use Rattle.fluid_variants.specs.Split.{numbered_by, split}
-use Rattle.fluid_variants.specs.Temperatures.{heat_of, machine_made, temperature_lists}
-use Rattle.fluid_variants.proofs.Contents.{contents_at, length_contents}
+use Rattle.fluid_temperatures.specs.Temperatures.{heat_of, machine_made, temperature_lists}
+use Rattle.fluid_temperatures.proofs.Contents.{contents_at, length_contents}
 use Rattle.fluid_variants.proofs.PlaceLemmas.{place_below, place_first, place_from, place_next, within_contents}
-use Rattle.fluid_variants.proofs.Rising.{length_lists}
+use Rattle.fluid_temperatures.proofs.Rising.{length_lists}
 use Rattle.fluid_variants.proofs.SoundSplit.{all_long}
 
 -- ---- room for all records
@@ -66,14 +65,14 @@ split_nodes g =
     let machines = length-map g.machines (new_machine g (numbering_of (length g.items) (temperature_lists g))) in
     omega (arith, fluids, from, recipes, sources, machines)
 
-pub few_nodes : (g : Game) (lists : List (Vec Fraction Global)) (room : ℕ) (answer : Bool) → IsSound g → contents lists ≡ temperature_lists g → room ≡ NODE_LIMIT - (node_count (shape_of g) - length g.fluids)
-    → answer ≡ not (nat_lt room (record_place 0 (contents lists) (length lists))) → answer ≡ not (nat_lt NODE_LIMIT (node_count (shape_of (split g))))
+pub few_nodes : (g : Game) (lists : List (Vec Fraction Global)) (room : ℕ) (answer : Bool) → IsSound g → contents lists ≡ temperature_lists g → room ≡ node_limit - (node_count (shape_of g) - length g.fluids)
+    → answer ≡ not (nat_lt room (record_place 0 (contents lists) (length lists))) → answer ≡ not (nat_lt node_limit (node_count (shape_of (split g))))
 few_nodes g lists room answer sound are is answered =
     let long : length lists ≡ length (temperature_lists g) = sym (length_contents lists) ∙ ap length are in
     let all : record_place 0 (contents lists) (length lists) ≡ record_place 0 (temperature_lists g) (length (temperature_lists g)) = ap (λ ls. record_place 0 ls (length lists)) are ∙ ap (record_place 0 (temperature_lists g)) long in
     answered ∙ ap (λ n. not (nat_lt room n)) all ∙ ap not (by_nodes (record_place 0 (temperature_lists g) (length (temperature_lists g))) (node_count (shape_of (split g))) (split_nodes g))
   where
-    by_nodes : (records nodes : ℕ) → nodes + length g.fluids ≡ node_count (shape_of g) + records → nat_lt room records ≡ nat_lt NODE_LIMIT nodes
+    by_nodes : (records nodes : ℕ) → nodes + length g.fluids ≡ node_count (shape_of g) + records → nat_lt room records ≡ nat_lt node_limit nodes
     by_nodes records nodes sum = let limit = sound.nodes in grind (arith, nat_tests, limit, is, sum)
 
 -- ---- a machine of a game names the same records where its machines are taken out
@@ -104,7 +103,7 @@ same_items : (g : Game) → (split g).items ≡ g.items
 unfolding split
 same_items g = refl
 
-pub places_room : (g : Game) (lists : List (Vec Fraction Global)) (items : ℕ) → contents lists ≡ temperature_lists g → items ≡ length g.items → node_count (shape_of (split g)) ≤ NODE_LIMIT → record_place items (contents lists) (length lists) ≤ 131_072
+pub places_room : (g : Game) (lists : List (Vec Fraction Global)) (items : ℕ) → contents lists ≡ temperature_lists g → items ≡ length g.items → node_count (shape_of (split g)) ≤ node_limit → record_place items (contents lists) (length lists) ≤ 131_072
 places_room g lists items are is few =
     let long : length lists ≡ length (temperature_lists g) = sym (length_contents lists) ∙ ap length are in
     let all : record_place items (contents lists) (length lists) ≡ record_place (length g.items) (temperature_lists g) (length (temperature_lists g)) =

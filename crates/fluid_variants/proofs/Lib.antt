@@ -1,11 +1,7 @@
 pub mod Loops
-pub mod ListLemmas
 pub mod Renumbered
-pub mod MadeFluids
-pub mod Contents
 pub mod PlaceLemmas
 pub mod NameLemmas
-pub mod Rising
 pub mod SoundSplit
 pub mod AssemblyLemmas
 pub mod SplittingLemmas

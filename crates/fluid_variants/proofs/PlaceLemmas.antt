@@ -1,6 +1,6 @@
 -- Places of records: one behind the other.
 use Rattle.std.proofs.Common.{◌≡◌, ◌∙◌, ◌<◌, ◌≤◌, ◌+◌, ◌-◌, ◌++◌, ℕ, zero, suc, Bool, true, false, List, [], ◌∷◌, length, take, drop, get_or, refl, sym, ap, subst, append_assoc, arith}
-use Rattle.std.specs.Prelude.{Option, Some, None, Vec, if◌then◌else◌, nat_lt, slice_get, sum_by}
+use Rattle.std.specs.Prelude.{All, Option, Some, None, Vec, if◌then◌else◌, nat_lt, slice_get, sum_by}
 use Rattle.std.specs.List.{prefix_len}
 use Rattle.std.specs.Global.{Global}
 use Rattle.std.proofs.lemmas.Bool.Decides.{nat_tests}
@@ -12,11 +12,12 @@ use Rattle.fractions.specs.Fraction.{Fraction}
 use Rattle.plan_base.specs.declared.ids.GoodId.{GoodId}
 use Rattle.game_types.specs.declared.goods.Fluid.{Fluid}
 use Rattle.game_types.specs.Temperatures.{is_cooler}
-use Rattle.fluid_variants.specs.declared.made.Made.{Made}
-use Rattle.fluid_variants.specs.Contents.{contents}
+use Rattle.fluid_temperatures.specs.declared.made.Made.{Made}
+use Rattle.fluid_temperatures.specs.Contents.{contents}
 use Rattle.fluid_variants.specs.Places.{ArePlaces, Listed, place_or}
 use Rattle.fluid_variants.specs.Records.{all_records, list_at, plain_of, record_count, record_of, record_place, records, variant_offset}
-use Rattle.fluid_variants.proofs.Contents.{contents_at, length_contents}
+use Rattle.fluid_temperatures.specs.Temperatures.{IsRising}
+use Rattle.fluid_temperatures.proofs.Contents.{contents_at, length_contents}
 
 take_whole : {A : Type 0} (xs : List A) (k : ℕ) → length xs ≤ k → take k xs ≡ xs
 take_whole xs k past = grind (arith, common_steps, past)
@@ -73,8 +74,9 @@ places_step items lists k places place within so_far = record {
         let new : get_or (places ++ place ∷ []) j 0 ≡ place = grind (arith, common_steps, here, long) in
         new ∙ so_far.here ∙ ap (record_place items lists) (sym here)
 
-places_done : (items : ℕ) (lists : List (List Fraction)) (k : ℕ) (places : List ℕ) (place : ℕ) → k ≡ length lists → record_place items lists (length lists) ≤ 131_072 → PlacesSoFar items lists k places place → ArePlaces items lists places place
-places_done items lists k places place end few so_far = record {
+places_done : (items : ℕ) (lists : List (List Fraction)) (k : ℕ) (places : List ℕ) (place : ℕ) → All IsRising lists → k ≡ length lists → record_place items lists (length lists) ≤ 131_072 → PlacesSoFar items lists k places place → ArePlaces items lists places place
+places_done items lists k places place rising end few so_far = record {
+  rising = rising;
   as_long = so_far.as_long ∙ end;
   each = λ j within. so_far.each j (omega (arith, end, within));
   ends = so_far.here ∙ ap (record_place items lists) end;
@@ -107,11 +109,11 @@ places_few items lists k places place list count within is counted few so_far =
     let long = ap (record_place items (contents lists)) (length_contents lists) in
     omega (arith, same, here, step, end, long, few)
 
-pub places_all : (items : ℕ) (lists : List (Vec Fraction Global)) (k : ℕ) (places : List ℕ) (place : ℕ) → k ≤ length lists → length lists ≤ k → record_place items (contents lists) (length lists) ≤ 131_072
+pub places_all : (items : ℕ) (lists : List (Vec Fraction Global)) (k : ℕ) (places : List ℕ) (place : ℕ) → All IsRising (contents lists) → k ≤ length lists → length lists ≤ k → record_place items (contents lists) (length lists) ≤ 131_072
     → PlacesSoFar items (contents lists) k places place → ArePlaces items (contents lists) places place
-places_all items lists k places place below end few so_far =
+places_all items lists k places place rising below end few so_far =
     let long = length_contents lists in
-    places_done items (contents lists) k places place (omega (arith, below, end, long)) (let same = ap (record_place items (contents lists)) long in omega (arith, same, few)) so_far
+    places_done items (contents lists) k places place rising (omega (arith, below, end, long)) (let same = ap (record_place items (contents lists)) long in omega (arith, same, few)) so_far
 
 -- ---- what is kept
 pub kept_place : (items : ℕ) (lists : List (List Fraction)) (places : List ℕ) (last k : ℕ) → ArePlaces items lists places last → place_or last (slice_get places k) ≡ record_place items lists k

@@ -13,11 +13,10 @@ use Rattle.plan_base.specs.declared.ids.EntityId.{EntityId}
 use Rattle.plan_base.specs.declared.ids.GoodId.{GoodId}
 use Rattle.plan_base.specs.declared.ids.RecipeId.{RecipeId}
 use Rattle.plan_base.specs.declared.ids.TechId.{TechId}
-use Rattle.game_types.specs.Nodes.{shape_of}
+use Rattle.game_types.specs.Nodes.{node_limit, shape_of}
 use Rattle.game_types.specs.Sound.{AreApart, IsCrafter, IsCrafterKind, IsFluid, IsGood, IsItem, IsSound, IsSoundEnergy, IsSoundFluid, IsSoundItem, IsSoundKind, IsSoundBurning, IsSoundMachine, IsSoundModule, IsSoundRecipe, IsSoundSource, IsSoundTech, IsBurner}
 use Rattle.game_types.specs.Temperatures.{fluid_at}
 use Rattle.game_types.specs.declared.games.Game.{Game}
-use Rattle.game_types.specs.declared.games.TheConstants.{NODE_LIMIT}
 use Rattle.game_types.specs.declared.goods.Fluid.{Fluid}
 use Rattle.game_types.specs.declared.goods.Item.{Item}
 use Rattle.game_types.specs.declared.goods.Module.{Module}
@@ -31,8 +30,8 @@ use Rattle.game_types.specs.declared.recipes.Part.{Part}
 use Rattle.game_types.specs.declared.recipes.Product.{Product}
 use Rattle.game_types.specs.declared.recipes.Recipe.{Recipe}
 use Rattle.game_types.specs.declared.recipes.Source.{Source}
-use Rattle.fluid_variants.specs.declared.made.Made.{Made}
-use Rattle.fluid_variants.specs.Temperatures.{all_made, machine_made, made, or_default, product_made}
+use Rattle.fluid_temperatures.specs.declared.made.Made.{Made}
+use Rattle.fluid_temperatures.specs.Temperatures.{all_made, machine_made, made, or_default, product_made}
 use Rattle.fluid_variants.specs.Records.{Numbering, given_or, new_energy, new_kind, new_machine, new_part, new_product, new_recipe, new_source}
 use Rattle.fluid_variants.specs.Split.{numbered_by}
 
@@ -267,7 +266,7 @@ module _ (g new : Game) (numbering : Numbering) (n : IsNumbering g new numbering
       let given = each_found IsGiven (λ machine. machine_made g machine.kind) g.machines given_parts.2 in
       All-map (IsSoundMachine new) (new_machine g numbering) g.machines (λ k d within. machine_sound (get_or g.machines k d) (h k d within) (given k d within))
 
-  pub renumbered_sound : IsSound g → length new.fluid_names ≡ length new.fluids → node_count (shape_of new) ≤ NODE_LIMIT → All (IsSoundFluid new) new.fluids → AreApart new.fluids
+  pub renumbered_sound : IsSound g → length new.fluid_names ≡ length new.fluids → node_count (shape_of new) ≤ node_limit → All (IsSoundFluid new) new.fluids → AreApart new.fluids
       → new.item_names ≡ g.item_names → new.recipe_names ≡ g.recipe_names → new.source_names ≡ g.source_names → new.machine_names ≡ g.machine_names → new.tech_names ≡ g.tech_names → IsSound new
   renumbered_sound h fluid_names nodes fluids apart items recipes sources machines techs = record {
     item_names = ap length items ∙ h.item_names ∙ sym same_items;

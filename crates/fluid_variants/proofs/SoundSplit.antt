@@ -10,19 +10,18 @@ use Rattle.std.proofs.lemmas.Option.{slice_get-map, slice_get_within, gets, get_
 use Rattle.fractions.specs.Fraction.{Fraction}
 use Rattle.plan_base.specs.Shape.{node_count}
 use Rattle.plan_base.specs.declared.ids.GoodId.{GoodId}
-use Rattle.game_types.specs.Nodes.{shape_of}
+use Rattle.game_types.specs.Nodes.{node_limit, shape_of}
 use Rattle.game_types.specs.Sound.{AreApart, ArePlain, IsBase, IsFluid, IsGood, IsSound, IsSoundFluid}
 use Rattle.game_types.specs.declared.games.Game.{Game}
-use Rattle.game_types.specs.declared.games.TheConstants.{NODE_LIMIT}
 use Rattle.game_types.specs.declared.goods.Fluid.{Fluid}
-use Rattle.fluid_variants.specs.declared.made.Made.{Made}
-use Rattle.fluid_variants.specs.Temperatures.{all_made, temperature_lists, temperatures}
+use Rattle.fluid_temperatures.specs.declared.made.Made.{Made}
+use Rattle.fluid_temperatures.specs.Temperatures.{IsRising, all_made, temperature_lists, temperatures}
 use Rattle.fluid_variants.specs.Records.{all_names, all_records, at_one, list_at, numbering_of, plain_of, record_count, record_of, record_place, records, variant, variant_names, variant_offset}
 use Rattle.fluid_variants.specs.Split.{split}
-use Rattle.fluid_variants.proofs.MadeFluids.{made_fluids}
+use Rattle.fluid_temperatures.proofs.MadeFluids.{made_fluids}
 use Rattle.fluid_variants.proofs.PlaceLemmas.{place_below, place_first, place_from, place_next}
 use Rattle.fluid_variants.proofs.Renumbered.{IsNumbering, renumbered_sound}
-use Rattle.fluid_variants.proofs.Rising.{IsAmong, IsRising, all_rise, length_lists, list_of, made_among, one_place}
+use Rattle.fluid_temperatures.proofs.Rising.{IsAmong, all_rise, length_lists, list_of, made_among, one_place}
 
 -- ---- how many records there are
 records_long : (first : GoodId) (fluid : Fluid) (list : List Fraction) → length (records first fluid list) ≡ record_count list
@@ -333,6 +332,6 @@ module _ (g : Game) (sound : IsSound g) where
   unfolding split
   new_names = let long = length_lists g in as_many_names (length g.items) g.fluid_names g.fluids lists (sound.fluid_names ∙ sym long) (sym long)
 
-  pub split_sound : node_count (shape_of (split g)) ≤ NODE_LIMIT → IsSound (split g)
+  pub split_sound : node_count (shape_of (split g)) ≤ node_limit → IsSound (split g)
   unfolding split
   split_sound few = renumbered_sound g new (numbering_of (length g.items) lists) numbers sound new_names few new_sound_fluids new_apart refl refl refl refl refl

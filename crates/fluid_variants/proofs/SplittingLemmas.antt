@@ -10,42 +10,41 @@ use Rattle.name_table.specs.Names.{place_of}
 use Rattle.craft_reader.specs.Faults.{GivesDump}
 use Rattle.craft_reader.specs.declared.fault.DumpFault.{DumpFault}
 use Rattle.dump_reader.specs.Dump.{◌▷◌}
-use Rattle.game_types.specs.Nodes.{shape_of}
+use Rattle.game_types.specs.Nodes.{node_limit, shape_of}
 use Rattle.game_types.specs.Sound.{IsSound}
 use Rattle.game_types.specs.declared.games.Game.{Game}
-use Rattle.game_types.specs.declared.games.TheConstants.{NODE_LIMIT}
-use Rattle.fluid_variants.specs.Contents.{contents}
+use Rattle.fluid_temperatures.specs.Contents.{contents}
 use Rattle.fluid_variants.specs.Naming.{first_twice, lowest_place}
 use Rattle.fluid_variants.specs.Records.{all_names, all_variant_names}
 use Rattle.fluid_variants.specs.Split.{split}
-use Rattle.fluid_variants.specs.Temperatures.{temperature_lists}
+use Rattle.fluid_temperatures.specs.Temperatures.{temperature_lists}
 use Rattle.fluid_variants.specs.Variants.{first_variant_name, name_fault, too_many_variants, unless_named, with_variants, within_limit}
-use Rattle.fluid_variants.proofs.Contents.{length_contents}
+use Rattle.fluid_temperatures.proofs.Contents.{length_contents}
 use Rattle.fluid_variants.proofs.NameLemmas.{first_at, first_nowhere, lowest_is}
-use Rattle.fluid_variants.proofs.Rising.{length_lists}
+use Rattle.fluid_temperatures.proofs.Rising.{length_lists}
 use Rattle.fluid_variants.proofs.SoundSplit.{split_sound}
 
-pub few_from : (nodes : ℕ) → true ≡ not (nat_lt NODE_LIMIT nodes) → nodes ≤ NODE_LIMIT
-few_from nodes is = by_test (nat_lt NODE_LIMIT nodes) refl is
+pub few_from : (nodes : ℕ) → true ≡ not (nat_lt node_limit nodes) → nodes ≤ node_limit
+few_from nodes is = by_test (nat_lt node_limit nodes) refl is
   where
-    by_test : (b : Bool) → nat_lt NODE_LIMIT nodes ≡ b → true ≡ not b → nodes ≤ NODE_LIMIT
+    by_test : (b : Bool) → nat_lt node_limit nodes ≡ b → true ≡ not b → nodes ≤ node_limit
     by_test true test is = absurd (cc)
     by_test false test is = grind (arith, nat_tests, test)
 
-many_from : (nodes : ℕ) → false ≡ not (nat_lt NODE_LIMIT nodes) → nat_lt NODE_LIMIT nodes ≡ true
-many_from nodes is = by_test (nat_lt NODE_LIMIT nodes) is
+many_from : (nodes : ℕ) → false ≡ not (nat_lt node_limit nodes) → nat_lt node_limit nodes ≡ true
+many_from nodes is = by_test (nat_lt node_limit nodes) is
   where
     by_test : (b : Bool) → false ≡ not b → b ≡ true
     by_test true is = refl
     by_test false is = absurd (cc)
 
 -- ---- faults
-pub too_many : (g : Game) → first_variant_name g ≡ None → false ≡ not (nat_lt NODE_LIMIT (node_count (shape_of (split g)))) → with_variants g ≡ Err too_many_variants
+pub too_many : (g : Game) → first_variant_name g ≡ None → false ≡ not (nat_lt node_limit (node_count (shape_of (split g)))) → with_variants g ≡ Err too_many_variants
 unfolding with_variants within_limit
 too_many g free many = let test = many_from (node_count (shape_of (split g))) many in rw (free, test) refl
 
-few_test : (nodes : ℕ) → true ≡ not (nat_lt NODE_LIMIT nodes) → nat_lt NODE_LIMIT nodes ≡ false
-few_test nodes is = by_test (nat_lt NODE_LIMIT nodes) is
+few_test : (nodes : ℕ) → true ≡ not (nat_lt node_limit nodes) → nat_lt node_limit nodes ≡ false
+few_test nodes is = by_test (nat_lt node_limit nodes) is
   where
     by_test : (b : Bool) → true ≡ not b → b ≡ false
     by_test true is = absurd (cc)
@@ -56,7 +55,7 @@ unfolding split
 names_are g lists names are is = is ∙ ap (all_names g.fluid_names) are
 
 pub one_twice : (g : Game) (lists : List (Vec Fraction Global)) (names : List (List ℕ)) (name : List ℕ) → contents lists ≡ temperature_lists g → names ≡ all_names g.fluid_names (contents lists) → first_variant_name g ≡ None
-    → true ≡ not (nat_lt NODE_LIMIT (node_count (shape_of (split g)))) → first_twice [] names ≡ Some name → with_variants g ≡ Err (name_fault name)
+    → true ≡ not (nat_lt node_limit (node_count (shape_of (split g)))) → first_twice [] names ≡ Some name → with_variants g ≡ Err (name_fault name)
 unfolding with_variants within_limit
 one_twice g lists names name are is free few twice =
     let test = few_test (node_count (shape_of (split g))) few in
@@ -64,7 +63,7 @@ one_twice g lists names name are is free few twice =
     rw (free, test, there) refl
 
 pub all_split : (g new : Game) (lists : List (Vec Fraction Global)) (names : List (List ℕ)) → contents lists ≡ temperature_lists g → names ≡ all_names g.fluid_names (contents lists) → first_variant_name g ≡ None
-    → true ≡ not (nat_lt NODE_LIMIT (node_count (shape_of (split g)))) → first_twice [] names ≡ None → new ≡ split g → with_variants g ≡ Ok new
+    → true ≡ not (nat_lt node_limit (node_count (shape_of (split g)))) → first_twice [] names ≡ None → new ≡ split g → with_variants g ≡ Ok new
 unfolding with_variants within_limit
 all_split g new lists names are is free few once new_is =
     let test = few_test (node_count (shape_of (split g))) few in
@@ -97,9 +96,9 @@ as_many g lists sound are = sym (length_contents lists) ∙ ap length are ∙ le
 -- ---- soundness
 with_variants_sound : (g : Game) → IsSound g → IfOk (with_variants g) IsSound
 unfolding with_variants within_limit
-with_variants_sound g sound = by_name (first_variant_name g) (nat_lt NODE_LIMIT (node_count (shape_of (split g)))) (first_twice [] (split g).fluid_names) refl
+with_variants_sound g sound = by_name (first_variant_name g) (nat_lt node_limit (node_count (shape_of (split g)))) (first_twice [] (split g).fluid_names) refl
   where
-    by_name : (named : Option (List ℕ)) (many : Bool) (twice : Option (List ℕ)) → nat_lt NODE_LIMIT (node_count (shape_of (split g))) ≡ many
+    by_name : (named : Option (List ℕ)) (many : Bool) (twice : Option (List ℕ)) → nat_lt node_limit (node_count (shape_of (split g))) ≡ many
         → IfOk (unless_named named ▷ λ _. (if many then Err too_many_variants else Ok (split g)) ▷ λ new. unless_named (first_twice [] new.fluid_names) ▷ λ _. Ok new) IsSound
     by_name (Some name) many twice is = tt
     by_name None true twice is = tt

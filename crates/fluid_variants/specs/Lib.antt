@@ -1,7 +1,5 @@
-pub mod Temperatures
 pub mod Records
 pub mod Split
 pub mod Variants
-pub mod Contents
 pub mod Places
 pub mod Naming

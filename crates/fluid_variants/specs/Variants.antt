@@ -9,12 +9,11 @@ use Rattle.craft_reader.specs.Faults.{fault_in}
 use Rattle.craft_reader.specs.declared.fault.DumpCode.TheVariants as d
 use Rattle.craft_reader.specs.declared.fault.DumpFault.{DumpFault}
 use Rattle.dump_reader.specs.Dump.{◌▷◌}
-use Rattle.game_types.specs.Nodes.{shape_of}
+use Rattle.game_types.specs.Nodes.{node_limit, shape_of}
 use Rattle.game_types.specs.Temperatures.{first_where}
 use Rattle.game_types.specs.declared.games.Game.{Game}
-use Rattle.game_types.specs.declared.games.TheConstants.{NODE_LIMIT}
 use Rattle.fluid_variants.specs.Naming.{first_twice}
-use Rattle.fluid_variants.specs.Temperatures.{temperature_lists}
+use Rattle.fluid_temperatures.specs.Temperatures.{temperature_lists}
 use Rattle.fluid_variants.specs.Records.{all_variant_names}
 use Rattle.fluid_variants.specs.Split.{split}
 
@@ -34,7 +33,7 @@ abbrev pub too_many_variants : DumpFault
 too_many_variants = record { code = d.Limit; section = []; name = []; field = codes "variants" }
 
 unfoldable pub within_limit : Game → Result Game DumpFault
-within_limit g = if nat_lt NODE_LIMIT (node_count (shape_of g)) then Err too_many_variants else Ok g
+within_limit g = if nat_lt node_limit (node_count (shape_of g)) then Err too_many_variants else Ok g
 
 unfoldable pub with_variants : Game → Result Game DumpFault
 with_variants g =

@@ -1,12 +1,12 @@
 //! A game put together with the records of its fluids.
 ghost use Rattle.std.specs.Prelude.{◌≡◌, ◌≤◌, ◌-◌, [], IfOk, length, nat_lt, not};
 ghost use Rattle.plan_base.specs.Shape.{node_count};
-ghost use Rattle.game_types.specs.Nodes.{shape_of};
+ghost use Rattle.game_types.specs.Nodes.{node_limit, shape_of};
 ghost use Rattle.game_types.specs.Sound.{IsSound};
-ghost use Rattle.fluid_variants.specs.Contents.{contents};
+ghost use Rattle.fluid_temperatures.specs.Contents.{contents};
 ghost use Rattle.fluid_variants.specs.Records.{all_names, numbering_of, record_place};
 ghost use Rattle.fluid_variants.specs.Split.{numbered_by, split};
-ghost use Rattle.fluid_variants.specs.Temperatures.{temperature_lists};
+ghost use Rattle.fluid_temperatures.specs.Temperatures.{temperature_lists};
 
 use crate::places::{Places, record_count};
 use crate::rewriting::{new_machines, new_recipes, new_sources};
@@ -35,7 +35,7 @@ fn has_room(lists: &[Vec<Ratio>], room: usize) -> bool
 // How many fluids a game may have, beside its other nodes.
 fn fluid_room(game: &Game) -> usize
     requires { IsSound game.now }
-    ensures { result ≡ NODE_LIMIT - (node_count (shape_of game.now) - length game.now.fluids) }
+    ensures { result ≡ node_limit - (node_count (shape_of game.now) - length game.now.fluids) }
 {
     let others = game.shape().len() - game.shape().fluids;
     (NODE_LIMIT - others) as usize
@@ -46,7 +46,7 @@ fn fluid_room(game: &Game) -> usize
 pub fn are_few(game: &Game, lists: &[Vec<Ratio>]) -> bool
     requires sound { IsSound game.now }
     requires lists { contents lists.now ≡ temperature_lists game.now }
-    ensures { result ≡ not (nat_lt NODE_LIMIT (node_count (shape_of (split game.now)))) }
+    ensures { result ≡ not (nat_lt node_limit (node_count (shape_of (split game.now)))) }
 {
     has_room(lists, fluid_room(game))
 }
@@ -159,7 +159,7 @@ pub fn split(
     requires sound { IsSound game }
     requires lists { contents lists.items ≡ temperature_lists game }
     requires names { fluid_names ≡ all_names game.fluid_names (temperature_lists game) }
-    requires few { node_count (shape_of (split game)) ≤ NODE_LIMIT }
+    requires few { node_count (shape_of (split game)) ≤ node_limit }
     ensures { IfOk result (λ new. new ≡ split game) }
 {
     let items = game.items.len() as u32;

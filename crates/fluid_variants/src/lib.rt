@@ -2,8 +2,6 @@
 #![tactic(auto)]
 
 mod assembly;
-mod lists;
-mod made;
 mod naming;
 mod places;
 mod records;
@@ -11,5 +9,4 @@ mod renumbering;
 mod rewriting;
 mod splitting;
 
-pub use made::Made;
 pub use splitting::split_fluids;

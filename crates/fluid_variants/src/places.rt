@@ -1,13 +1,13 @@
 //! Where the records of each fluid stand among the goods.
-ghost use Rattle.std.specs.Prelude.{◌≡◌, ℕ, ◌<◌, ◌≤◌, ◌++◌, IfOk, length, slice_get, slice_index_or};
-ghost use Rattle.fluid_variants.specs.Contents.{contents};
+ghost use Rattle.std.specs.Prelude.{All, ◌≡◌, ℕ, ◌<◌, ◌≤◌, ◌++◌, IfOk, length, slice_get, slice_index_or};
+ghost use Rattle.fluid_temperatures.specs.Contents.{contents};
+ghost use Rattle.fluid_temperatures.specs.Temperatures.{IsRising};
 ghost use Rattle.fluid_variants.specs.Places.{ArePlaces, place_or};
 ghost use Rattle.fluid_variants.specs.Records.{all_records, list_at, plain_of, record_count, record_of, record_place, variant_offset};
 
-use crate::lists::cooler_count;
-use crate::made::Made;
 use crate::records::put_records;
 use crate::renumbering::Renumber;
+use fluid_temperatures::{Made, cooler_count};
 use fractions::Ratio;
 use game_types::Fluid;
 use plan_base::{GoodId, NoMemory};
@@ -26,7 +26,7 @@ pub struct Places {
 }
 
 impl Model for Places {
-    ghost use Rattle.fluid_variants.specs.Contents.{contents};
+    ghost use Rattle.fluid_temperatures.specs.Contents.{contents};
     ghost use Rattle.fluid_variants.specs.Places.{ArePlaces, Listed};
 
     ghost Value = { Listed };
@@ -49,6 +49,7 @@ pub fn record_count(temperatures: &[Ratio]) -> usize
 
 // How far behind its first record the variant of a temperature stands.
 fn variant_offset(temperatures: &[Ratio], at: &Ratio) -> usize
+    requires { IsRising temperatures.now }
     ensures { result ≡ variant_offset temperatures.now at.now }
 {
     match temperatures {
@@ -61,6 +62,7 @@ fn variant_offset(temperatures: &[Ratio], at: &Ratio) -> usize
 // How far behind its first record the variant of a temperature of a fluid stands.
 #[tactic(auto, using(crate::proofs::PlaceLemmas::offset_there, crate::proofs::PlaceLemmas::offset_none))]
 fn offset_in(lists: &[Vec<Ratio>], number: usize, at: &Ratio) -> usize
+    requires { All IsRising (contents lists.now) }
     ensures { result ≡ variant_offset (list_at (contents lists.now) number) at.now }
 {
     match lists.get(number) {
@@ -82,7 +84,8 @@ fn place_or(places: &[u32], last: u32, number: usize) -> u32
 // The places of the first records, and the place behind all.
 #[tactic(auto, using(crate::proofs::PlaceLemmas::places_none, crate::proofs::PlaceLemmas::places_more, crate::proofs::PlaceLemmas::places_all))]
 fn places_of(alloc: Global, items: u32, lists: &[Vec<Ratio>]) -> Result<(Vec<u32>, u32), NoMemory>
-    requires { record_place items (contents lists.now) (length lists.now) ≤ 131_072 }
+    requires rising { All IsRising (contents lists.now) }
+    requires few { record_place items (contents lists.now) (length lists.now) ≤ 131_072 }
     ensures { IfOk result (λ places. ArePlaces items (contents lists.now) places.0.items places.1) }
 {
     let mut places = Vec::new(alloc);
@@ -97,7 +100,8 @@ fn places_of(alloc: Global, items: u32, lists: &[Vec<Ratio>]) -> Result<(Vec<u32
 impl Places {
     /// Numbers the goods of a game anew whose fluids have these temperatures.
     pub fn make(alloc: Global, items: u32, lists: Vec<Vec<Ratio>>) -> Result<Places, NoMemory>
-        requires { record_place items (contents lists.items) (length lists.items) ≤ 131_072 }
+        requires rising { All IsRising (contents lists.items) }
+        requires few { record_place items (contents lists.items) (length lists.items) ≤ 131_072 }
         ensures { IfOk result (λ places. places ≡ record { items = items; lists = contents lists.items }) }
     {
         let (places, last) = places_of(alloc, items, lists.as_slice())?;

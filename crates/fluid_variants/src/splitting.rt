@@ -2,14 +2,14 @@
 ghost use Rattle.std.specs.Prelude.{◌≡◌, ◌≢◌, ◌<◌, [], IfOk, None, length, slice_index_or};
 ghost use Rattle.craft_reader.specs.Faults.{GivesDump};
 ghost use Rattle.game_types.specs.Sound.{ArePlain, IsSound};
-ghost use Rattle.fluid_variants.specs.Contents.{contents};
-ghost use Rattle.fluid_variants.specs.Temperatures.{temperature_lists};
+ghost use Rattle.fluid_temperatures.specs.Contents.{contents};
+ghost use Rattle.fluid_temperatures.specs.Temperatures.{temperature_lists};
 ghost use Rattle.fluid_variants.specs.Variants.{first_variant_name, name_fault, too_many_variants, with_variants};
 
 use crate::assembly::{are_few, split};
-use crate::lists::temperature_lists;
 use crate::naming::{Named, all_names, first_variant_name, table_of};
 use craft_reader::{DumpCode, DumpFault};
+use fluid_temperatures::temperature_lists;
 use fractions::Ratio;
 use game_types::Game;
 use plan_base::{NoMemory, Text};

@@ -6,11 +6,11 @@ use Rattle.fractions.specs.declared.numeral.NumeralFault.TheVariants.{NotNumeral
 use Rattle.fractions.specs.Fraction.{Fraction}
 use Rattle.fractions.specs.Numeral.{Numeral, Writes}
 use Rattle.fractions.specs.Split.{numeral_of, quotient_of}
-use Rattle.fractions.specs.Reading.{Gives, GivesQuotient, ReadsNumeral, ReadsRatio}
+use Rattle.fractions.specs.Reading.{GivesNumeral, GivesQuotient, ReadsNumeral, ReadsRatio}
 use Rattle.fractions.specs.Quotient.{Quotient, WritesQuotient}
 use Rattle.fractions.proofs.Grammar.{numeral_found, quotient_found, quotient_no_numeral}
 
-pub reads_by : (text : List ℕ) (n : Numeral) (r : Result Fraction NumeralFault) → Writes text n → Gives r n → ReadsNumeral text r
+pub reads_by : (text : List ℕ) (n : Numeral) (r : Result Fraction NumeralFault) → Writes text n → GivesNumeral r n → ReadsNumeral text r
 reads_by text n (Ok x) w g = (n, w, g)
 reads_by text n (Err TooLarge) w g = (n, w, g)
 reads_by text n (Err NotNumeral) w g = absurd g

@@ -1,14 +1,13 @@
 -- The value of a numeral has few digits.
-use Rattle.std.specs.Prelude.{◌≡◌, ◌≢◌, ℕ, zero, suc, ◌+◌, ◌-◌, ◌*◌, ◌/◌, ◌^◌, ◌<◌, ◌≤◌, ℤ, pos, negsuc, ◌+ℤ◌, ◌-ℤ◌, neg_ℤ, ◌≤ℤ◌, ◌<ℤ◌, List, ◌++◌, length, take, min, ◌⊎◌}
+use Rattle.std.specs.Prelude.{◌≡◌, ℕ, zero, suc, ◌+◌, ◌*◌, ◌/◌, ◌^◌, ◌<◌, ◌≤◌, ℤ, pos, negsuc, ◌+ℤ◌, ◌-ℤ◌, neg_ℤ, ◌≤ℤ◌, List, ◌++◌, length, take, min}
 use Rattle.std.specs.Int.{int_max}
 use Rattle.std.specs.Str.Parse.{AllDigits, digits_value}
-use Rattle.std.proofs.Common.{refl, sym, ap, subst, ◌∙◌, arith, ⊎_elim, lit<}
-use Rattle.std.proofs.Math.Nat.{one-le-pow, div-lt_iff_lt-mul, pow-le-pow_right}
-use Rattle.std.proofs.lemmas.Bool.{cases_lt}
+use Rattle.std.proofs.Common.{refl, sym, subst, ◌∙◌, arith, lit<}
+use Rattle.std.proofs.Math.Nat.{one-le-pow, div-lt_iff_lt-mul}
 use Rattle.std.proofs.lemmas.Int.{ints, clamps, by_lt_z}
-use Rattle.fractions.specs.Fraction.{Fraction, zero_fraction, ◌≤ʳ◌, ◌<ʳ◌}
+use Rattle.fractions.specs.Fraction.{Fraction, zero_fraction, ◌<ʳ◌}
 use Rattle.fractions.specs.Rounding.{rounded}
-use Rattle.fractions.specs.Numeral.{Numeral, Writes, significant, magnitude, times_ten, rounded_at, first_place, place, limit, IsShort}
+use Rattle.fractions.specs.Numeral.{Numeral, Writes, magnitude, rounded_at, first_place, place, limit, IsShort}
 use Rattle.fractions.proofs.Significant.{leading_small, AllDigits-append}
 use Rattle.fractions.proofs.Magnitude.{times_zero}
 use Rattle.fractions.proofs.Order.{<ʳ_not_≤ʳ}

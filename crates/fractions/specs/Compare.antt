@@ -1,11 +1,11 @@
 -- How fractions compare, as std's traits of comparison say it.
-use Rattle.std.specs.Prelude.{◌≡◌, ℕ, ◌*◌, ◌<◌, ◌+◌, Bool, true, false, ℤ, pos, ◌*ℤ◌, ◌<ℤ◌, Option, Some, IsTrue, ◌↔◌}
+use Rattle.std.specs.Prelude.{◌≡◌, ◌*◌, ◌<◌, ◌+◌, Bool, false, pos, ◌*ℤ◌, ◌<ℤ◌, Option, Some, IsTrue, ◌↔◌}
 use Rattle.std.specs.Bool.{one_answer}
 use Rattle.std.specs.Ordering.{MatchOrdering, is_eq, is_lt, is_gt, int_cmp, eq_by_cmp, as_partial_cmp, partial_lt, partial_gt}
 use Rattle.std.specs.declared.cmp.Ordering.{Ordering}
 use Rattle.std.specs.declared.cmp.Ordering.TheVariants.{Less, Equal, Greater}
 use Rattle.std.specs.Cmp.{IsPartialEquivalence, IsPartialOrder, IsTotalOrder, int_ranks, one_rank, strict, po, partial_equiv_from_equiv, eq_by_cmp_equiv}
-use Rattle.std.proofs.Common.{refl, sym, ap, subst, ◌∙◌, arith}
+use Rattle.std.proofs.Common.{refl, ap, subst, arith}
 use Rattle.std.proofs.Math.Nat.{lt_of_mul-lt-mul_right, mul-lt-mul_of_pos_right}
 use Rattle.fractions.specs.Fraction.{Fraction, same_from_cross, ◌<ʳ◌}
 use Rattle.fractions.specs.Ring.{int, nat, ◌⊗◌, over, under, value_lt, sides_of_lt}

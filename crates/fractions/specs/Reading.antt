@@ -13,15 +13,15 @@ GivesMagnitude (Err TooLarge) m = limit ≤ʳ m
 GivesMagnitude (Err NotNumeral) m = ⊥
 
 -- what a numeral is read as: its value, or a fault where that is too large
-abbrev pub Gives : Result Fraction NumeralFault → Numeral → Type 0
-Gives (Ok x) n = (magnitude n <ʳ limit) × (x ≡ numeral_value n)
-Gives (Err TooLarge) n = limit ≤ʳ magnitude n
-Gives (Err NotNumeral) n = ⊥
+abbrev pub GivesNumeral : Result Fraction NumeralFault → Numeral → Type 0
+GivesNumeral (Ok x) n = (magnitude n <ʳ limit) × (x ≡ numeral_value n)
+GivesNumeral (Err TooLarge) n = limit ≤ʳ magnitude n
+GivesNumeral (Err NotNumeral) n = ⊥
 
 -- what a text is read as where only numerals are taken
 abbrev pub ReadsNumeral : List ℕ → Result Fraction NumeralFault → Type 0
-ReadsNumeral text (Ok x) = (n : Numeral) × Writes text n × Gives (Ok x) n
-ReadsNumeral text (Err TooLarge) = (n : Numeral) × Writes text n × Gives (Err TooLarge) n
+ReadsNumeral text (Ok x) = (n : Numeral) × Writes text n × GivesNumeral (Ok x) n
+ReadsNumeral text (Err TooLarge) = (n : Numeral) × Writes text n × GivesNumeral (Err TooLarge) n
 ReadsNumeral text (Err NotNumeral) = (n : Numeral) → ¬ Writes text n
 
 -- what a quotient is read as
@@ -32,6 +32,6 @@ GivesQuotient (Err NotNumeral) q = ⊥
 
 -- what a text is read as where numerals and quotients are taken
 abbrev pub ReadsRatio : List ℕ → Result Fraction NumeralFault → Type 0
-ReadsRatio text (Ok x) = ((n : Numeral) × Writes text n × Gives (Ok x) n) ⊎ ((q : Quotient) × WritesQuotient text q × GivesQuotient (Ok x) q)
-ReadsRatio text (Err TooLarge) = ((n : Numeral) × Writes text n × Gives (Err TooLarge) n) ⊎ ((q : Quotient) × WritesQuotient text q × GivesQuotient (Err TooLarge) q)
+ReadsRatio text (Ok x) = ((n : Numeral) × Writes text n × GivesNumeral (Ok x) n) ⊎ ((q : Quotient) × WritesQuotient text q × GivesQuotient (Ok x) q)
+ReadsRatio text (Err TooLarge) = ((n : Numeral) × Writes text n × GivesNumeral (Err TooLarge) n) ⊎ ((q : Quotient) × WritesQuotient text q × GivesQuotient (Err TooLarge) q)
 ReadsRatio text (Err NotNumeral) = ((n : Numeral) → ¬ Writes text n) × ((q : Quotient) → ¬ WritesQuotient text q)

@@ -7,7 +7,7 @@ ghost use Rattle.fractions.specs.Rounding.{rounded};
 ghost use Rattle.fractions.specs.Numeral.{Numeral, Writes, magnitude, rounded_at, times_ten};
 ghost use Rattle.fractions.specs.Leading.{IsLeading, near_exponent, near_place};
 ghost use Rattle.fractions.specs.Quotient.{Quotient, WritesQuotient};
-ghost use Rattle.fractions.specs.Reading.{Gives, GivesMagnitude, GivesQuotient, ReadsNumeral, ReadsRatio};
+ghost use Rattle.fractions.specs.Reading.{GivesNumeral, GivesMagnitude, GivesQuotient, ReadsNumeral, ReadsRatio};
 
 use crate::ratio::{Ratio, reduced};
 use crate::split::{Written, WrittenQuotient, numeral_parts, quotient_parts};
@@ -183,7 +183,7 @@ fn numeral_value(written: &Written) -> Result<Ratio, NumeralFault>
     requires part { AllDigits 10 written.now.part }
     requires power { AllDigits 10 written.now.power }
     requires room { length written.now.whole + length written.now.part < 2 ^ 64 }
-    ensures { Gives result written.now }
+    ensures { GivesNumeral result written.now }
 {
     match magnitude(written) {
         Ok(size) => Ok(if written.negative { size.neg() } else { size }),
@@ -202,7 +202,7 @@ fn numeral_value(written: &Written) -> Result<Ratio, NumeralFault>
 /// `NotNumeral` exactly where the text is no numeral, `TooLarge` exactly where the rounded magnitude is 10^18 or more.
 pub fn read_numeral(text: &[u8]) -> Result<Ratio, NumeralFault>
     ensures reading { ReadsNumeral text.now result }
-    ensures unique { (n : Numeral) → Writes text.now n → Gives result n }
+    ensures unique { (n : Numeral) → Writes text.now n → GivesNumeral result n }
 {
     match numeral_parts(text) {
         Some(written) => numeral_value(&written),
@@ -251,7 +251,7 @@ fn quotient_value(written: &WrittenQuotient) -> Result<Ratio, NumeralFault>
 /// a whole part of the quotient, is 10^18 or more.
 pub fn read_ratio(text: &[u8]) -> Result<Ratio, NumeralFault>
     ensures reading { ReadsRatio text.now result }
-    ensures numeral { (n : Numeral) → Writes text.now n → Gives result n }
+    ensures numeral { (n : Numeral) → Writes text.now n → GivesNumeral result n }
     ensures quotient { (q : Quotient) → WritesQuotient text.now q → GivesQuotient result q }
 {
     match quotient_parts(text) {

@@ -4,7 +4,9 @@ ghost use Rattle.std.specs.Ordering.{MatchOrdering};
 ghost use Rattle.fractions.specs.Fraction.{◌*ʳ◌, ◌+ʳ◌, ◌<ʳ◌};
 
 use crate::ratio::Ratio;
-use crate::whole::{divided, small_divisor, small_multiple, small_product, small_quotient};
+use crate::whole::{
+    divided, shared_divisor, small_divisor, small_multiple, small_product, small_quotient,
+};
 use std::cmp::Ordering;
 use std::marker::Model;
 
@@ -48,7 +50,7 @@ impl Small {
         let common = small_divisor(self.denominator, other.denominator);
         let top = small_multiple(self.numerator, other.denominator / common)
             + small_multiple(other.numerator, self.denominator / common);
-        let shared = small_divisor(common, (top.unsigned_abs() % common as u128) as u64);
+        let shared = shared_divisor(common, top.unsigned_abs());
         let bottom = (self.denominator / common) as u128 * (other.denominator / shared) as u128;
         Ratio::stored(divided(top, shared as u128), bottom)
     }

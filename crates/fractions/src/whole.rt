@@ -1,5 +1,5 @@
 //! Arithmetic on the whole numbers that fractions are made of.
-ghost use Rattle.std.specs.Prelude.{◌≡◌, ℕ, ◌+◌, ◌*◌, ◌<◌, ◌≤◌, ◌^◌, ℤ, pos, ◌+ℤ◌, ◌*ℤ◌, ◌≤ℤ◌, ◌<ℤ◌, int_div, unsigned_abs};
+ghost use Rattle.std.specs.Prelude.{◌≡◌, ℕ, ◌+◌, ◌*◌, ◌%◌, ◌<◌, ◌≤◌, ◌^◌, ℤ, pos, ◌+ℤ◌, ◌*ℤ◌, ◌≤ℤ◌, ◌<ℤ◌, int_div, unsigned_abs};
 ghost use Rattle.std.specs.Result.{OkIff};
 ghost use Rattle.std.specs.Ordering.{nat_cmp};
 ghost use Rattle.fractions.specs.Gcd.{gcd};
@@ -56,12 +56,28 @@ pub fn small_divisor(first: u64, second: u64) -> u64
 {
     let mut a = first;
     let mut b = second;
-    while b != 0 {
+    while b > 1 {
         let rest = a % b;
         a = b;
         b = rest;
     }
-    a
+    if b == 0 { a } else { 1 }
+}
+
+// What a small natural has in common with any natural.
+pub fn shared_divisor(small: u64, any: u128) -> u64
+    requires { 0 < small }
+    ensures exact { result ≡ gcd small (any % small) }
+    ensures positive { 0 < result }
+    ensures at_most { result ≤ small }
+{
+    if small == 1 {
+        1
+    } else if any <= u64::MAX as u128 {
+        small_divisor(small, any as u64 % small)
+    } else {
+        small_divisor(small, (any % small as u128) as u64)
+    }
 }
 
 // A small whole number divided by a small natural, toward zero.
@@ -72,7 +88,7 @@ pub fn small_quotient(a: i64, divisor: u64) -> i64
     ensures value { result ≡ int_div a (pos divisor) }
     ensures small { unsigned_abs result < 2 ^ 62 }
 {
-    a / divisor as i64
+    if divisor == 1 { a } else { a / divisor as i64 }
 }
 
 // The product of two small whole numbers.

@@ -2,7 +2,7 @@
 use Rattle.std.proofs.Common.{◌≡◌, ◌∙◌, ℕ, List, [], ◌∷◌, Option, Some, None, Ok, Err, Result, Bool, true, false, ap, subst}
 use Rattle.std.specs.Prelude.{if◌then◌else◌, nat_lt}
 use Rattle.std.specs.Str.{is_utf8}
-use Rattle.std.specs.Prelude.{MatchResult, ◌≢◌}
+use Rattle.std.specs.Prelude.{IfOk, MatchResult, ◌≢◌}
 use Rattle.json_text.specs.Kept.{Kept}
 use Rattle.json_text.specs.Accepted.{IsAccepted}
 use Rattle.prototype_fields.specs.declared.fault.FieldCode.{FieldCode}
@@ -20,15 +20,15 @@ use Rattle.dump_reader.specs.Draft.{RawGame, draft_seen, empty_game}
 use Rattle.dump_reader.specs.Dump.{◌▷◌, each_after, game_in, member_of, members_in, named_of, no_object, prototype_of, raw_game, section_in, section_of, sections}
 use Rattle.dump_reader.specs.Sections.{section_text}
 use Rattle.game_types.specs.declared.games.Game.{Game}
+use Rattle.game_types.specs.Sound.{IsSound}
 use Rattle.plan_base.specs.Shape.{node_count}
-use Rattle.game_types.specs.Nodes.{shape_of}
-use Rattle.game_types.specs.declared.games.TheConstants.{NODE_LIMIT}
+use Rattle.game_types.specs.Nodes.{node_limit, shape_of}
 use Rattle.rocket_launches.specs.Launches.{flight_beyond, flight_taken, launch_fault, unless_some, with_launches}
 use Rattle.rocket_launches.specs.declared.silos.Flight.{Flight}
 use Rattle.fluid_variants.specs.Naming.{first_twice}
 use Rattle.fluid_variants.specs.Split.{split}
 use Rattle.fluid_variants.specs.Variants.{first_variant_name, too_many_variants, unless_named, with_variants, within_limit}
-use Rattle.game_reader.specs.Games.{Gives, HasDraft, HasFault, HasFaultOf, HasGame, finished, game_of, resolved}
+use Rattle.game_reader.specs.Games.{DumpGives, HasDraft, HasFault, HasFaultOf, HasGame, finished, game_of, resolved}
 use Rattle.game_reader.specs.Keys.{dump_wishes}
 use Rattle.game_reader.specs.Links.{each_linked, families_of, linked, linked_item, linked_machine, linked_recipe, linked_source, linked_tech}
 
@@ -132,7 +132,7 @@ name_fault_of_tree (Some name) = tt
 
 limit_fault_of_tree : (g : Game) → FaultIsOfTree (within_limit g)
 unfolding within_limit
-limit_fault_of_tree g = by_test (nat_lt NODE_LIMIT (node_count (shape_of g)))
+limit_fault_of_tree g = by_test (nat_lt node_limit (node_count (shape_of g)))
   where
     by_test : (test : Bool) → FaultIsOfTree (if test then Err too_many_variants else Ok g)
     by_test true = tt
@@ -150,7 +150,7 @@ unfolding resolved finished
 resolved_faults g = chained (linked g) _ (linked_faults g) (λ game. chained (with_launches game) _ (launches_faults game) variants_faults)
 
 -- ---- of a dump
-pub has_fault : (dump : List ℕ) (fault : DumpFault) → (code : DumpCode) → IsOfTree code → Gives dump (Err fault) → HasFaultOf dump fault code
+pub has_fault : (dump : List ℕ) (fault : DumpFault) → (code : DumpCode) → IsOfTree code → DumpGives dump (Err fault) → HasFaultOf dump fault code
 has_fault dump fault d.Missing of_tree gives = gives
 has_fault dump fault d.WrongKind of_tree gives = gives
 has_fault dump fault d.UnknownName of_tree gives = gives
@@ -161,11 +161,11 @@ has_fault dump fault d.Limit of_tree gives = gives
 has_fault dump fault (d.Json json) of_tree gives = absurd of_tree
 has_fault dump fault d.NoMemory of_tree gives = gives
 
-pub first_fault : (dump : List ℕ) (tree : Kept) (fault : DumpFault) → raw_game tree ≡ Err fault → (game_of tree ≡ Err fault → Gives dump (Err fault)) → HasFaultOf dump fault fault.code
+pub first_fault : (dump : List ℕ) (tree : Kept) (fault : DumpFault) → raw_game tree ≡ Err fault → (game_of tree ≡ Err fault → DumpGives dump (Err fault)) → HasFaultOf dump fault fault.code
 unfolding game_of
 first_fault dump tree fault is gives = has_fault dump fault fault.code (subst (λ (r : Result RawGame DumpFault). FaultIsOfTree r) is (raw_game_faults tree)) (gives (ap (λ r. r ▷ resolved) is))
 
-pub second_fault : (dump : List ℕ) (tree : Kept) (draft : RawGame) (fault : DumpFault) → raw_game tree ≡ Ok draft → resolved draft ≡ Err fault → (game_of tree ≡ Err fault → Gives dump (Err fault)) → HasFaultOf dump fault fault.code
+pub second_fault : (dump : List ℕ) (tree : Kept) (draft : RawGame) (fault : DumpFault) → raw_game tree ≡ Ok draft → resolved draft ≡ Err fault → (game_of tree ≡ Err fault → DumpGives dump (Err fault)) → HasFaultOf dump fault fault.code
 unfolding game_of
 second_fault dump tree draft fault first is gives = has_fault dump fault fault.code (subst (λ (r : Result Game DumpFault). FaultIsOfTree r) is (resolved_faults draft)) (gives (ap (λ r. r ▷ resolved) first ∙ is))
 
@@ -184,3 +184,17 @@ pub game_answered : (dump : List ℕ) (draft : RawGame) → HasDraft dump draft 
 game_answered dump draft had (Ok game) gives = record { tree = had.tree; accepted = had.accepted; given_is = game_is had.tree draft (Ok game) had.draft_is gives }
 game_answered dump draft had (Err fault) gives =
     λ memory. second_fault dump had.tree draft fault had.draft_is (gives memory) (λ is. record { tree = had.tree; accepted = had.accepted; given_is = is })
+
+-- what is said of an answer holds of it as it is given
+abbrev pub IsGivenAs : Result Game DumpFault → Result Game DumpFault → Type 0
+IsGivenAs answer given = MatchResult given (λ game. answer ≡ Ok game) (λ fault. fault.code ≢ d.NoMemory → answer ≡ Err fault)
+
+pub settled_answered : (dump : List ℕ) (answer given : Result Game DumpFault) → MatchResult answer (HasGame dump) (λ fault. fault.code ≢ d.NoMemory → HasFault dump fault)
+    → IsGivenAs answer given → MatchResult given (HasGame dump) (λ fault. fault.code ≢ d.NoMemory → HasFault dump fault)
+settled_answered dump answer (Ok game) holds same = subst (λ (r : Result Game DumpFault). MatchResult r (HasGame dump) (λ fault. fault.code ≢ d.NoMemory → HasFault dump fault)) same holds
+settled_answered dump answer (Err fault) holds same =
+    λ memory. subst (λ (r : Result Game DumpFault). MatchResult r (HasGame dump) (λ fault. fault.code ≢ d.NoMemory → HasFault dump fault)) (same memory) holds memory
+
+pub settled_sound : (answer given : Result Game DumpFault) → IfOk answer IsSound → IsGivenAs answer given → IfOk given IsSound
+settled_sound answer (Ok game) holds same = subst (λ (r : Result Game DumpFault). IfOk r IsSound) same holds
+settled_sound answer (Err fault) holds same = tt

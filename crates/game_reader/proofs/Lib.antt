@@ -4,3 +4,4 @@ pub mod KeysKept
 pub mod Loops
 pub mod OneGame
 pub mod SoundLinks
+pub mod WantedKeys

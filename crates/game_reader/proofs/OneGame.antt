@@ -6,13 +6,13 @@ use Rattle.craft_reader.specs.declared.fault.DumpCode.{DumpCode}
 use Rattle.craft_reader.specs.declared.fault.DumpCode.TheVariants as d
 use Rattle.craft_reader.specs.declared.fault.DumpFault.{DumpFault}
 use Rattle.game_types.specs.declared.games.Game.{Game}
-use Rattle.game_reader.specs.Games.{Gives, HasFaultOf, HasGame, game_of}
+use Rattle.game_reader.specs.Games.{DumpGives, HasFaultOf, HasGame, game_of}
 use Rattle.game_reader.specs.Keys.{dump_wishes}
 
 abbrev pub OneTree : Type 0
 OneTree = (wanted : Wishes) (bytes : List ℕ) (tree other : Kept) → IsAccepted wanted bytes tree → IsAccepted wanted bytes other → tree ≡ other
 
-pub gives_one : OneTree → (dump : List ℕ) (one other : Result Game DumpFault) → Gives dump one → Gives dump other → one ≡ other
+pub gives_one : OneTree → (dump : List ℕ) (one other : Result Game DumpFault) → DumpGives dump one → DumpGives dump other → one ≡ other
 gives_one one_tree dump one other a b = sym a.given_is ∙ ap game_of (one_tree dump_wishes dump a.tree b.tree a.accepted b.accepted) ∙ b.given_is
 
 game_is : (game other : Game) → ◌≡◌ {A = Result Game DumpFault} (Ok game) (Ok other) → game ≡ other

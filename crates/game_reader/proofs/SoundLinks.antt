@@ -24,8 +24,8 @@ use Rattle.craft_reader.specs.declared.goods.RawProduct.{RawProduct}
 use Rattle.craft_reader.specs.declared.recipes.RawRecipe.{RawRecipe}
 use Rattle.craft_reader.specs.declared.technologies.RawTech.{RawTech}
 use Rattle.craft_reader.specs.Faults.{GivesDump, in_prototype}
+use Rattle.game_types.specs.Nodes.{node_limit}
 use Rattle.game_types.specs.declared.games.Game.{Game}
-use Rattle.game_types.specs.declared.games.TheConstants.{NODE_LIMIT}
 use Rattle.game_types.specs.declared.goods.Fluid.{Fluid}
 use Rattle.game_types.specs.declared.goods.Item.{Item}
 use Rattle.game_types.specs.declared.machinery.Energy.{Energy}
@@ -356,7 +356,7 @@ made_sound g sound items recipes sources machines techs a b c d e =
     let h3 : length machines ≡ length g.machines = d.0 in
     let h4 : length techs ≡ length g.techs = e.0 in
     let counted : g.nodes ≡ 3 + length g.items + length g.fluids + length g.recipes + length g.sources + length g.machines + length g.techs = sound.counted in
-    let few : g.nodes ≤ NODE_LIMIT = sound.few in
+    let few : g.nodes ≤ node_limit = sound.few in
     record {
       item_names = sound.item_names ∙ sym a.0;
       fluid_names = sound.fluid_names;

@@ -28,13 +28,13 @@ unfoldable pub game_of : Kept → Result Game DumpFault
 game_of tree = raw_game tree ▷ resolved
 
 -- the dump is accepted JSON, and this is what its tree gives
-pub record Gives (dump : List ℕ) (given : Result Game DumpFault) : Type 0 where
+pub record DumpGives (dump : List ℕ) (given : Result Game DumpFault) : Type 0 where
   pub tree : Kept
   pub accepted : IsAccepted dump_wishes dump tree
   pub given_is : game_of tree ≡ given
 
 abbrev pub HasGame : List ℕ → Game → Type 0
-HasGame dump game = Gives dump (Ok game)
+HasGame dump game = DumpGives dump (Ok game)
 
 -- what the first pass leaves of it
 pub record HasDraft (dump : List ℕ) (draft : RawGame) : Type 0 where
@@ -49,7 +49,7 @@ json_fault fault = record { code = d.Json fault; section = []; name = []; field 
 -- the fault by its code: the dump is no accepted JSON, or it is, and its tree has this fault
 abbrev pub HasFaultOf : List ℕ → DumpFault → DumpCode → Type 0
 HasFaultOf dump fault (d.Json json) = IsFault dump_wishes dump json.code json.at × (fault ≡ json_fault json)
-HasFaultOf dump fault code = Gives dump (Err fault)
+HasFaultOf dump fault code = DumpGives dump (Err fault)
 
 -- the first fault of a dump
 abbrev pub HasFault : List ℕ → DumpFault → Type 0

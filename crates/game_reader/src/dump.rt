@@ -1,15 +1,15 @@
 //! From the bytes of a dump to the typed game.
-ghost use Rattle.std.specs.Prelude.{◌≡◌, ◌≢◌, IfOk, MatchResult};
+ghost use Rattle.std.specs.Prelude.{◌≡◌, ◌≢◌, Err, IfErr, IfOk, MatchResult, Ok};
 ghost use Rattle.dump_reader.specs.Draft.{draft_seen};
 ghost use Rattle.dump_reader.specs.Sound.{IsSoundDraft};
-ghost use Rattle.craft_reader.specs.Faults.{GivesDump};
+ghost use Rattle.craft_reader.specs.Faults.{GivesDump, IsBare};
 ghost use Rattle.game_types.specs.Sound.{ArePlain, IsSound};
 ghost use Rattle.game_reader.specs.Games.{HasDraft, HasFault, HasGame, finished, json_fault, resolved};
 
 use crate::keys::dump_wanted;
 use crate::links::link;
 use craft_reader::{DumpCode, DumpFault};
-use dump_reader::{Draft, read_game};
+use dump_reader::{Draft, read_draft};
 use fluid_variants::split_fluids;
 use game_types::Game;
 use json_text::{JsonCode, JsonFault, read_spans};
@@ -20,6 +20,7 @@ use std::alloc::Global;
 fn no_json(alloc: Global, fault: JsonFault) -> DumpFault
     ensures json { result.code ≢ DumpCode.NoMemory → result ≡ json_fault fault }
     ensures memory { fault.code ≡ JsonCode.NoMemory → result.code ≡ DumpCode.NoMemory }
+    ensures bare { IsBare result }
 {
     match fault.code {
         JsonCode::NoMemory => DumpFault::of_code(alloc, DumpCode::NoMemory),
@@ -28,9 +29,10 @@ fn no_json(alloc: Global, fault: JsonFault) -> DumpFault
 }
 
 // What the first pass makes of a dump.
-fn read_draft(alloc: Global, bytes: &[u8]) -> Result<Draft, DumpFault>
+fn draft_of_bytes(alloc: Global, bytes: &[u8]) -> Result<Draft, DumpFault>
     ensures draft { MatchResult result (λ draft. HasDraft bytes.now (draft_seen draft)) (λ fault. fault.code ≢ DumpCode.NoMemory → HasFault bytes.now fault) }
     ensures sound { IfOk result (λ draft. IsSoundDraft (draft_seen draft)) }
+    ensures bare { IfErr result IsBare }
 {
     let Ok(wanted) = dump_wanted(alloc) else {
         return Err(DumpFault::of_code(alloc, DumpCode::NoMemory));
@@ -39,7 +41,7 @@ fn read_draft(alloc: Global, bytes: &[u8]) -> Result<Draft, DumpFault>
         Ok(tree) => tree,
         Err(fault) => return Err(no_json(alloc, fault)),
     };
-    read_game(alloc, &tree)
+    read_draft(alloc, &tree)
 }
 
 // A game with its launches, and with its fluids by temperature.
@@ -69,17 +71,30 @@ fn resolve(alloc: Global, draft: Draft) -> Result<Game, DumpFault>
     }
 }
 
+// An answer as the call gives it: of want of memory nothing else is said.
+fn settled(alloc: Global, answer: Result<Game, DumpFault>) -> Result<Game, DumpFault>
+    ensures same { MatchResult result (λ game. answer ≡ Ok game) (λ fault. fault.code ≢ DumpCode.NoMemory → answer ≡ Err fault) }
+    ensures bare { IfErr result IsBare }
+{
+    match answer {
+        Ok(game) => Ok(game),
+        Err(fault) => Err(fault.settled(alloc)),
+    }
+}
+
 /// The game of a dump.
 ///
 /// # Errors
 ///
 /// The first fault of the dump: of its JSON with its place, or else of a prototype with its section, name and field.
+/// `NoMemory` alone where memory could not be had.
 pub fn read_dump(alloc: Global, bytes: &[u8]) -> Result<Game, DumpFault>
     ensures sound { IfOk result IsSound }
     ensures game { MatchResult result (HasGame bytes.now) (λ fault. fault.code ≢ DumpCode.NoMemory → HasFault bytes.now fault) }
+    ensures bare { IfErr result IsBare }
 {
-    match read_draft(alloc, bytes) {
-        Ok(draft) => resolve(alloc, draft),
+    match draft_of_bytes(alloc, bytes) {
+        Ok(draft) => settled(alloc, resolve(alloc, draft)),
         Err(fault) => Err(fault),
     }
 }

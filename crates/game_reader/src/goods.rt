@@ -77,7 +77,7 @@ pub fn link_parts(
 ) -> Result<Items<Part>, FieldFault>
     ensures { Gives (each (linked_part names.now) parts.now) result }
 {
-    let mut linked = Vec::new(alloc);
+    let mut linked = Vec::with_capacity(alloc, parts.as_slice().len())?;
     for part in parts.as_slice() {
         match link_part(names, part) {
             Ok(part) => linked.push(part)?,
@@ -96,7 +96,7 @@ pub fn link_products(
 ) -> Result<Items<Product>, FieldFault>
     ensures { Gives (each (linked_product names.now) products.now) result }
 {
-    let mut linked = Vec::new(alloc);
+    let mut linked = Vec::with_capacity(alloc, products.as_slice().len())?;
     for product in products.as_slice() {
         match link_product(names, product) {
             Ok(product) => linked.push(product)?,
@@ -115,7 +115,7 @@ pub fn link_packs(
 ) -> Result<Items<(GoodId, Ratio)>, FieldFault>
     ensures { Gives (each (linked_pack names.now) packs.now) result }
 {
-    let mut linked = Vec::new(alloc);
+    let mut linked = Vec::with_capacity(alloc, packs.as_slice().len())?;
     for pack in packs.as_slice() {
         match link_pack(names, pack) {
             Ok(pack) => linked.push(pack)?,
@@ -172,7 +172,7 @@ fn link_launches(
 ) -> Result<Items<Product>, FieldFault>
     ensures { Gives (each (linked_launch names.now) products.now) result }
 {
-    let mut linked = Vec::new(alloc);
+    let mut linked = Vec::with_capacity(alloc, products.as_slice().len())?;
     for product in products.as_slice() {
         match link_launch(names, product) {
             Ok(product) => linked.push(product)?,

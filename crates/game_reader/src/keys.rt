@@ -149,6 +149,7 @@ fn texts(alloc: Global, keys: &[&str]) -> Result<Vec<Text>, NoMemory>
 }
 
 /// The keys under which values of a dump are kept.
+#[tactic(auto, using(crate::proofs::WantedKeys::sections_are, crate::proofs::WantedKeys::fields_are))]
 pub fn dump_wanted(alloc: Global) -> Result<Wanted, NoMemory>
     ensures { IfOk result (λ wanted. wishes wanted ≡ dump_wishes) }
 {

@@ -1,5 +1,5 @@
 -- Loops that look for the first of a list, and for the coolest fluid of it.
-use Rattle.std.proofs.Common.{◌≡◌, ◌∙◌, ◌<◌, ◌≤◌, ◌+◌, ℕ, List, [], ◌∷◌, length, drop, get_or, refl, sym, ap, arith}
+use Rattle.std.proofs.Common.{◌≡◌, ◌<◌, ◌≤◌, ◌+◌, ℕ, List, length, drop, get_or, refl}
 use Rattle.std.specs.Prelude.{Bool, true, false, Option, Some, None, if◌then◌else◌}
 use Rattle.fractions.specs.Fraction.{Fraction}
 use Rattle.plan_base.specs.declared.ids.GoodId.{GoodId}

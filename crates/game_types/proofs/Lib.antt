@@ -4,3 +4,4 @@ pub mod ModuleLemmas
 pub mod FuelLemmas
 pub mod BeaconLemmas
 pub mod ChoiceLemmas
+pub mod ChoiceLaws

@@ -19,6 +19,10 @@ shape_of g = record {
   techs = length g.techs;
 }
 
+-- the most nodes that a game has
+abbrev pub node_limit : ℕ
+node_limit = 131_072
+
 abbrev pub special_names : List (List ℕ)
 special_names = codes "character" ∷ codes "electricity" ∷ codes "heat" ∷ []
 

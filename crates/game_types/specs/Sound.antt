@@ -5,7 +5,6 @@ use Rattle.fractions.specs.Fraction.{◌<ʳ◌, zero_fraction}
 use Rattle.plan_base.specs.Shape.{node_count}
 use Rattle.plan_base.specs.declared.GoodId.{GoodId}
 use Rattle.plan_base.specs.declared.EntityId.{EntityId}
-use Rattle.game_types.specs.declared.games.TheConstants.{NODE_LIMIT}
 use Rattle.game_types.specs.declared.effects.Bonus.{Bonus}
 use Rattle.game_types.specs.declared.goods.Module.{Module}
 use Rattle.game_types.specs.declared.goods.Item.{Item}
@@ -23,7 +22,7 @@ use Rattle.game_types.specs.declared.setups.Activity.TheVariants.{Craft, Mine, P
 use Rattle.game_types.specs.declared.setups.BeaconGroup.{BeaconGroup}
 use Rattle.game_types.specs.declared.setups.Setup.{Setup}
 use Rattle.game_types.specs.declared.games.Game.{Game}
-use Rattle.game_types.specs.Nodes.{shape_of}
+use Rattle.game_types.specs.Nodes.{node_limit, shape_of}
 
 -- ---- goods: items come before fluids
 abbrev pub IsItem : Game → ℕ → Type 0
@@ -138,7 +137,7 @@ pub record IsSound (g : Game) : Type 0 where
   pub source_names : length g.source_names ≡ length g.sources
   pub machine_names : length g.machine_names ≡ length g.machines
   pub tech_names : length g.tech_names ≡ length g.techs
-  pub nodes : node_count (shape_of g) ≤ NODE_LIMIT
+  pub nodes : node_count (shape_of g) ≤ node_limit
   pub items : All (IsSoundItem g) g.items
   pub fluids : All (IsSoundFluid g) g.fluids
   pub apart : AreApart g.fluids

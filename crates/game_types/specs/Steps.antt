@@ -5,15 +5,10 @@ use Rattle.std.specs.Ordering.{int_cmp}
 use Rattle.std.specs.declared.cmp.Ordering.{Ordering}
 use Rattle.std.specs.declared.cmp.Ordering.TheVariants.{Less, Equal, Greater}
 use Rattle.std.proofs.Math.IntN.{nat_abs}
+pub use Rattle.plan_base.specs.Binds.{◌▸◌}
 use Rattle.fractions.specs.Fraction.{Fraction, ◌+ʳ◌, ◌-ʳ◌, ◌*ʳ◌, ◌/ʳ◌, negated}
 use Rattle.fractions.specs.Limits.{lcm, num_over}
 use Rattle.game_types.specs.declared.effects.Wide.{Wide}
-
--- one step after another: the first fault is the answer
-infixr 1 ◌▸◌
-abbrev pub ◌▸◌ : {A B E : Type 0} → Result A E → (A → Result B E) → Result B E
-(Ok value) ▸ next = next value
-(Err fault) ▸ next = Err fault
 
 -- the first fault of a list, looked through in order
 unfoldable pub first_fault : {A E : Type 0} → (A → Result (Unit {0}) E) → List A → Result (Unit {0}) E

@@ -1,9 +1,10 @@
 //! Fluids by temperature: which goods an ingredient takes, and which of them a row of a table takes.
-ghost use Rattle.std.specs.Prelude.{◌≡◌, ◌≤◌, ◌+◌, option_map, length, if◌then◌else◌};
+ghost use Rattle.std.specs.Prelude.{◌≡◌, ◌≤◌, ◌+◌, ◌↔◌, ℕ, List, Option, Some, None, true, false, option_map, length, if◌then◌else◌};
+ghost use Rattle.fractions.specs.Fraction.{Fraction};
+ghost use Rattle.game_types.specs.Nodes.{node_limit};
 ghost use Rattle.game_types.specs.Sound.{IsSound};
 ghost use Rattle.game_types.specs.Temperatures.{choice_of, coolest, coolest_fit, cooler_of, first_where, fits_alone, fluid_at, is_base, is_cooler, is_cool_enough, is_fit, is_fit_variant, is_good, is_some_fit_variant, is_warm_enough, is_within};
 
-use crate::games::NODE_LIMIT;
 use crate::{Fluid, Game};
 use fractions::Ratio;
 use plan_base::GoodId;
@@ -105,7 +106,7 @@ fn coolest(
     low: &Option<Ratio>,
     high: &Option<Ratio>,
 ) -> Option<(GoodId, Ratio)>
-    requires { first + length fluids.now ≤ NODE_LIMIT }
+    requires { first + length fluids.now ≤ node_limit }
     ensures { result ≡ coolest (is_fit_variant base.0 low.now high.now) None first fluids.now }
 {
     let mut best = None;
@@ -243,3 +244,9 @@ pub fn choice_of(
         None => game.coolest_fit(good, &low, &high),
     }
 }
+
+/// Law: what a row takes is a fit, and it takes nothing exactly where there is no fit.
+pub fn choices_are_fits()
+    ensures fit { (g : Game) (at : List GoodId) (good : ℕ) (low high : Option Fraction) (choice : GoodId) → choice_of g at good low high ≡ Some choice → is_fit g good low high choice.0 ≡ true }
+    ensures none { (g : Game) (at : List GoodId) (good : ℕ) (low high : Option Fraction) → (choice_of g at good low high ≡ None) ↔ ((fit : ℕ) → is_fit g good low high fit ≡ false) }
+{}

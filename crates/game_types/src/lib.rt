@@ -21,7 +21,7 @@ mod setups;
 pub mod steps;
 mod table_goods;
 
-pub use choices::{choice_of, is_within};
+pub use choices::{choice_of, choices_are_fits, is_within};
 pub use effects::{Allowed, BeaconSum, Bonus, EffectKind, Effects, Rates, Wide};
 pub use fitting::{FitFault, first_refused, fits};
 pub use games::{Game, NODE_LIMIT};

@@ -54,7 +54,7 @@ impl Game {
         if good.0 < power {
             NodeId(3 + good.0)
         } else if good.0 == power {
-            NodeId(1)
+            NodeId::electricity()
         } else {
             shape.node_of(Kind::Tech, good.0 - (power + 1))
         }

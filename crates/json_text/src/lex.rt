@@ -46,6 +46,7 @@ pub enum LexGo {
 }
 
 /// A byte that can't stand there, behind a whole character.
+#[inline(always)]
 fn bad_byte(byte: u8) -> LexGo
     ensures { result ≡ bad_byte byte }
 {
@@ -57,6 +58,7 @@ fn bad_byte(byte: u8) -> LexGo
 }
 
 /// The first byte of a character that isn't ASCII.
+#[inline(always)]
 fn lead(byte: u8) -> LexGo
     ensures { result ≡ lead byte }
 {
@@ -81,6 +83,7 @@ fn lead(byte: u8) -> LexGo
     }
 }
 
+#[inline(always)]
 fn between(byte: u8) -> LexGo
     ensures { result ≡ between byte }
 {
@@ -98,6 +101,7 @@ fn between(byte: u8) -> LexGo
 }
 
 /// A further byte of a character.
+#[inline(always)]
 fn ranged(low: u8, high: u8, next: Lex, byte: u8) -> LexGo
     ensures { result ≡ ranged low high next byte }
 {
@@ -108,6 +112,7 @@ fn ranged(low: u8, high: u8, next: Lex, byte: u8) -> LexGo
     }
 }
 
+#[inline(always)]
 fn escape(byte: u8) -> LexGo
     ensures { result ≡ escape byte }
 {
@@ -129,6 +134,7 @@ fn escape(byte: u8) -> LexGo
 }
 
 /// The value of a hexadecimal digit.
+#[inline(always)]
 pub fn hex_of(byte: u8) -> Option<u8>
     ensures { result ≡ hex_of byte }
 {
@@ -141,6 +147,7 @@ pub fn hex_of(byte: u8) -> Option<u8>
 }
 
 /// A byte that must be this one.
+#[inline(always)]
 fn expect(wanted: u8, next: Lex, byte: u8) -> LexGo
     ensures { result ≡ expect wanted next byte }
 {
@@ -151,6 +158,7 @@ fn expect(wanted: u8, next: Lex, byte: u8) -> LexGo
     }
 }
 
+#[inline(always)]
 fn first_hex(byte: u8) -> LexGo
     ensures { result ≡ lex_next Hex0 byte }
 {
@@ -160,6 +168,7 @@ fn first_hex(byte: u8) -> LexGo
     }
 }
 
+#[inline(always)]
 fn second_hex(value: u8, byte: u8) -> LexGo
     ensures { result ≡ lex_next (Hex1 value) byte }
 {
@@ -176,6 +185,7 @@ fn second_hex(value: u8, byte: u8) -> LexGo
     }
 }
 
+#[inline(always)]
 fn third_hex(value: u16, byte: u8) -> LexGo
     ensures { result ≡ lex_next (Hex2 value) byte }
 {
@@ -185,6 +195,7 @@ fn third_hex(value: u16, byte: u8) -> LexGo
     }
 }
 
+#[inline(always)]
 fn last_hex(value: u32, byte: u8) -> LexGo
     ensures { result ≡ lex_next (Hex3 value) byte }
 {
@@ -201,6 +212,7 @@ fn last_hex(value: u32, byte: u8) -> LexGo
     }
 }
 
+#[inline(always)]
 fn low_first(high: u32, byte: u8) -> LexGo
     ensures { result ≡ lex_next (Low0 high) byte }
 {
@@ -216,6 +228,7 @@ fn low_first(high: u32, byte: u8) -> LexGo
     }
 }
 
+#[inline(always)]
 fn low_second(high: u32, byte: u8) -> LexGo
     ensures { result ≡ lex_next (Low1 high) byte }
 {
@@ -232,6 +245,7 @@ fn low_second(high: u32, byte: u8) -> LexGo
     }
 }
 
+#[inline(always)]
 fn low_third(high: u32, value: u16, byte: u8) -> LexGo
     ensures { result ≡ lex_next (Low2 high value) byte }
 {
@@ -241,6 +255,7 @@ fn low_third(high: u32, value: u16, byte: u8) -> LexGo
     }
 }
 
+#[inline(always)]
 fn low_last(byte: u8) -> LexGo
     ensures { result ≡ if_hex byte (Goes Between) }
 {
@@ -251,6 +266,7 @@ fn low_last(byte: u8) -> LexGo
 }
 
 /// What a byte does in a string.
+#[inline(always)]
 pub fn lex_next(lex: Lex, byte: u8) -> LexGo
     ensures { result ≡ lex_next lex byte }
 {

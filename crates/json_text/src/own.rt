@@ -1,13 +1,13 @@
 ghost use Rattle.std.specs.Prelude.{◌≡◌, ◌≢◌, ◌≤◌, length, drop, IfOk, IfErr, true};
 ghost use Rattle.std.specs.Str.{IsUtf8, is_utf8};
-ghost use Rattle.json_text.specs.Accepted.{IsAccepted, IsFault};
+ghost use Rattle.json_text.specs.Accepted.{IsAccepted, IsBare, IsFault};
 ghost use Rattle.json_text.specs.Machine.{list_of, object_of};
 ghost use Rattle.json_text.specs.Seen.{seen, all_seen, members_seen, wishes};
 ghost use Rattle.json_text.specs.SpanSeen.{span_seen, spans_seen, members_seen as lent_members_seen, text_seen};
 ghost use Rattle.json_text.specs.Textual.{IsTextual, AreTextual, MembersAreTextual};
 ghost use Rattle.json_text.specs.declared.fault.JsonCode.TheVariants.{NoMemory};
 
-use crate::fault::{JsonFault, no_memory};
+use crate::fault::{JsonFault, no_memory, settled};
 use crate::read::read_spans;
 use crate::span::{SpanMember, SpanNode, SpanText, SpanTree};
 use crate::text::text_of;
@@ -138,9 +138,14 @@ pub fn read_tree(alloc: Global, bytes: &[u8], wanted: &Wanted) -> Result<Tree, J
     ensures tree { IfOk result (λ tree. IsAccepted (wishes wanted.now) bytes.now (seen tree)) }
     // Else it is the first fault of the text.
     ensures fault { IfErr result (λ f. f.code ≢ NoMemory → IsFault (wishes wanted.now) bytes.now f.code f.at) }
+    // Want of memory has no place.
+    ensures bare { IfErr result IsBare }
 {
     match read_spans(alloc, bytes, wanted) {
-        Ok(tree) => owned_tree(alloc, &tree),
+        Ok(tree) => match owned_tree(alloc, &tree) {
+            Ok(tree) => Ok(tree),
+            Err(fault) => Err(settled(fault)),
+        },
         Err(fault) => Err(fault),
     }
 }

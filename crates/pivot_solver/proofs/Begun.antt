@@ -2,7 +2,7 @@
 use Rattle.std.specs.Prelude.{◌≡◌, ℕ, zero, suc, ◌+◌, ◌<◌, List}
 use Rattle.std.proofs.Common.{sym, ap, subst, ◌∙◌, arith, inl, inr, get_or}
 use Rattle.std.proofs.lemmas.Bool.{cases_lt}
-use Rattle.std.specs.declared.vec.Vec.{Vec}
+use Rattle.number_rows.specs.Changed.{Numbers}
 use Rattle.fractions.specs.Fraction.{Fraction, zero_fraction, negated, ◌-ʳ◌, ◌*ʳ◌}
 use Rattle.fractions.specs.Fracs.{atom, nought, ◌⊟◌, opposite, same_amount}
 use Rattle.fractions.proofs.Laws.{*ʳ-zero, zero-*ʳ}
@@ -58,9 +58,9 @@ first_total s sound = negated_none (sum_below (s.goods + s.lines) (λ r. unit_we
 entry_of_unit : (s : System) (w : ℕ → Fraction) (i : ℕ) → i < s.goods → w i ≡ unit_weights s w (get_or (first_basis s) i 0)
 entry_of_unit s w i h = let z : 0 + i ≡ i = omega arith in sym (unit_weights_at s w i h) ∙ ap (unit_weights s w) (sym (get_or-count_up 0 s.goods i h ∙ z))
 
-pub first_tableau : {Y : Type 0} (l : Linear) (n w : ℕ) (basis : List ℕ) (rows : List (Vec Fraction Y)) (cost : List Fraction) → IsWellFormed l → n ≡ good_count l → w ≡ suc (width_of l) → basis ≡ count_up 0 n → ListsRows l n rows → ListsNumbers w (first_cost l) cost →
+pub first_tableau : (l : Linear) (n w : ℕ) (basis : List ℕ) (rows : List Numbers) (cost : List Fraction) → IsWellFormed l → n ≡ good_count l → w ≡ suc (width_of l) → basis ≡ count_up 0 n → ListsRows l n rows → ListsNumbers w (first_cost l) cost →
     IsTableau (system_of l) basis rows cost
-first_tableau {Y = Y} l n w basis rows cost well en ew eb hr hc =
+first_tableau l n w basis rows cost well en ew eb hr hc =
     let s : System = system_of l in
     let sound : IsSound s = system_sound l well in
     let r : ListsRows l (good_count l) rows = subst (λ (k : ℕ). ListsRows l k rows) en hr in

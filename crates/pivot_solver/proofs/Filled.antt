@@ -2,7 +2,7 @@
 use Rattle.std.specs.Prelude.{◌≡◌, ℕ, zero, suc, ◌+◌, ◌<◌, List, [], ◌∷◌, ◌++◌, length}
 use Rattle.std.proofs.Common.{refl, sym, ap, subst, ◌∙◌, arith, inl, inr, length-append}
 use Rattle.std.proofs.lemmas.Bool.{cases_eq}
-use Rattle.std.specs.declared.vec.Vec.{Vec}
+use Rattle.number_rows.specs.Changed.{Numbers}
 use Rattle.fractions.specs.Fraction.{Fraction}
 use Rattle.fractions.specs.Limits.{IsNarrow}
 use Rattle.linear_table.specs.Plans.{number_at}
@@ -40,23 +40,23 @@ numbers_more f n xs ys x h e narrow grown =
       ];
     })
 
-row_at-append_old : {Y : Type 0} (rows : List (Vec Fraction Y)) (v : Vec Fraction Y) (i : ℕ) → i < length rows → row_at (rows ++ v ∷ []) i ≡ row_at rows i
+row_at-append_old : (rows : List Numbers) (v : Numbers) (i : ℕ) → i < length rows → row_at (rows ++ v ∷ []) i ≡ row_at rows i
 row_at-append_old [] v i h = absurd (omega arith)
 row_at-append_old (r ∷ rows) v zero h = refl
 row_at-append_old (r ∷ rows) v (suc i) h = row_at-append_old rows v i (omega arith)
 
-row_at-append_new : {Y : Type 0} (rows : List (Vec Fraction Y)) (v : Vec Fraction Y) → row_at (rows ++ v ∷ []) (length rows) ≡ v.items
+row_at-append_new : (rows : List Numbers) (v : Numbers) → row_at (rows ++ v ∷ []) (length rows) ≡ v.items
 row_at-append_new [] v = refl
 row_at-append_new (r ∷ rows) v = row_at-append_new rows v
 
-pub rows_none : {Y : Type 0} (l : Linear) (rows : List (Vec Fraction Y)) → rows ≡ [] → ListsRows l 0 rows
-rows_none {Y = Y} l rows e = record { length_is = ap (λ (x : List (Vec Fraction Y)). length x) e; row_is = λ g h. absurd (omega arith) }
+pub rows_none : (l : Linear) (rows : List Numbers) → rows ≡ [] → ListsRows l 0 rows
+rows_none l rows e = record { length_is = ap (λ (x : List Numbers). length x) e; row_is = λ g h. absurd (omega arith) }
 
-pub rows_more : {Y : Type 0} (l : Linear) (n w : ℕ) (rows new : List (Vec Fraction Y)) (v : Vec Fraction Y) → ListsRows l n rows → w ≡ suc (width_of l) → ListsNumbers w (first_number l n) v.items → new ≡ rows ++ v ∷ [] → ListsRows l (n + 1) new
-rows_more {Y = Y} l n w rows new v h ew r grown =
+pub rows_more : (l : Linear) (n w : ℕ) (rows new : List Numbers) (v : Numbers) → ListsRows l n rows → w ≡ suc (width_of l) → ListsNumbers w (first_number l n) v.items → new ≡ rows ++ v ∷ [] → ListsRows l (n + 1) new
+rows_more l n w rows new v h ew r grown =
     let at_end : row_at (rows ++ v ∷ []) n ≡ v.items = ap (λ k. row_at (rows ++ v ∷ []) k) (sym h.length_is) ∙ row_at-append_new rows v in
     let here : ListsNumbers (suc (width_of l)) (first_number l n) v.items = subst (λ (k : ℕ). ListsNumbers k (first_number l n) v.items) ew r in
-    subst (λ (z : List (Vec Fraction Y)). ListsRows l (n + 1) z) (sym grown)
+    subst (λ (z : List Numbers). ListsRows l (n + 1) z) (sym grown)
     (record {
       length_is = length-append rows (v ∷ []) ∙ ap (λ k. k + 1) h.length_is;
       row_is = λ g q. elim (cases_eq g n) [

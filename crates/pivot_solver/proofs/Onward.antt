@@ -1,7 +1,7 @@
 -- A path with one exchange more, and what an exchange that forms a wide number shows.
 use Rattle.std.specs.Prelude.{◌≡◌, ℕ, suc, ◌<◌, List, [], ◌∷◌, ◌++◌, length}
 use Rattle.std.proofs.Common.{refl, sym, ap, subst, ◌∙◌, set, get_or}
-use Rattle.std.specs.declared.vec.Vec.{Vec}
+use Rattle.number_rows.specs.Changed.{Numbers}
 use Rattle.fractions.specs.Fraction.{Fraction}
 use Rattle.linear_table.specs.System.{System, IsBasis, Entries, AreEntries}
 use Rattle.linear_table.specs.Exchanged.{exchanged}
@@ -69,7 +69,7 @@ narrow_onward l b ms m f e basis en h none =
     (λ x hx p w. none p (subst (λ (k : Entries). FormsWide l b k m p) (same_entries (system_of l) b x f basis hx en) w)))
 
 -- ---- an exchange that forms a wide number
-pub place_wide : {Y : Type 0} (l : Linear) (b : List ℕ) (rows : List (Vec Fraction Y)) (cost : List Fraction) (t : IsTableau (system_of l) b rows cost) (row enter : ℕ) → row < (system_of l).goods → CanExchange (system_of l) b t.entries enter (get_or b row 0) →
+pub place_wide : (l : Linear) (b : List ℕ) (rows : List Numbers) (cost : List Fraction) (t : IsTableau (system_of l) b rows cost) (row enter : ℕ) → row < (system_of l).goods → CanExchange (system_of l) b t.entries enter (get_or b row 0) →
     (at : WideAt) (place : Place) → IsWideAt rows cost row enter at → IsPlaceOf l at place → FormsWide l b t.entries (record { enter = enter; leave = get_or b row 0 }) place
 place_wide l b rows cost t row enter hr can (Row s) (Entry column r) w p =
     subst (λ (k : ℕ). FormsWide l b t.entries (record { enter = enter; leave = get_or b row 0 }) (Entry column k)) (sym p.2) (wide_entry l b rows cost t row enter hr can s.row s.place column p.0 p.1 w)

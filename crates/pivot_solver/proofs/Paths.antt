@@ -15,7 +15,7 @@ use Rattle.linear_table.proofs.Pivot.{CanExchange}
 use Rattle.linear_table.proofs.Extend.{names_more}
 use Rattle.linear_table.proofs.Settled.{system_sound}
 use Rattle.linear_table.proofs.Laws.{values_on_trail}
-use Rattle.std.specs.declared.vec.Vec.{Vec}
+use Rattle.number_rows.specs.Changed.{Numbers}
 use Rattle.fractions.specs.Fraction.{Fraction, zero_fraction}
 use Rattle.linear_table.specs.Plans.{number_at}
 use Rattle.pivot_solver.specs.Rows.{row_at}
@@ -32,10 +32,10 @@ use Rattle.pivot_solver.proofs.Places.{nothing_wide}
 use Rattle.pivot_solver.proofs.Begun.{first_tableau}
 use Rattle.pivot_solver.proofs.Onward.{wide_next, can_next, trail_onward, basis_onward, narrow_onward, place_wide, gets_wide, runs_out, length-names}
 
-pub tableau_at : {Y : Type 0} {basis basis0 : List ℕ} {rows rows0 : List (Vec Fraction Y)} {cost cost0 : List Fraction} (s : System) → basis0 ≡ basis → rows0 ≡ rows → cost0 ≡ cost → IsTableau s basis rows cost → IsTableau s basis0 rows0 cost0
-tableau_at {Y = Y} {basis0 = basis0} {rows = rows} {rows0 = rows0} {cost = cost} s eb er ec h =
+pub tableau_at : {basis basis0 : List ℕ} {rows rows0 : List Numbers} {cost cost0 : List Fraction} (s : System) → basis0 ≡ basis → rows0 ≡ rows → cost0 ≡ cost → IsTableau s basis rows cost → IsTableau s basis0 rows0 cost0
+tableau_at {basis0 = basis0} {rows = rows} {rows0 = rows0} {cost = cost} s eb er ec h =
     subst (λ (k : List Fraction). IsTableau s basis0 rows0 k) (sym ec)
-    (subst (λ (k : List (Vec Fraction Y)). IsTableau s basis0 k cost) (sym er) (subst (λ (k : List ℕ). IsTableau s k rows cost) (sym eb) h))
+    (subst (λ (k : List Numbers). IsTableau s basis0 k cost) (sym er) (subst (λ (k : List ℕ). IsTableau s k rows cost) (sym eb) h))
 
 -- no basic value is below 0
 pub path_values : (l : Linear) (p : Path) → IsWellFormed l → IsPath l p → HasValues (system_of l) p.basis.items
@@ -64,21 +64,21 @@ path_can l p row enter h n =
     can_next (system_of l) p.basis.items (record { enter = enter; leave = get_or p.basis.items row 0 }) h.tableau.entries h.tableau.is_basis h.tableau.are_entries n.is_next
 
 -- the same, as the calls give them
-pub pivoted_at : {Y : Type 0} {old rows0 new new' : List (Vec Fraction Y)} {old_cost cost0 new_cost new_cost' : List Fraction} (row enter : ℕ) → rows0 ≡ old → cost0 ≡ old_cost → new ≡ new' → new_cost ≡ new_cost' → IsPivoted rows0 cost0 row enter new new_cost → IsPivoted old old_cost row enter new' new_cost'
-pivoted_at {Y = Y} {old = old} {new = new} {new' = new'} {old_cost = old_cost} {cost0 = cost0} {new_cost = new_cost} row enter er ec en ek h =
+pub pivoted_at : {old rows0 new new' : List Numbers} {old_cost cost0 new_cost new_cost' : List Fraction} (row enter : ℕ) → rows0 ≡ old → cost0 ≡ old_cost → new ≡ new' → new_cost ≡ new_cost' → IsPivoted rows0 cost0 row enter new new_cost → IsPivoted old old_cost row enter new' new_cost'
+pivoted_at {old = old} {new = new} {new' = new'} {old_cost = old_cost} {cost0 = cost0} {new_cost = new_cost} row enter er ec en ek h =
     subst (λ (k : List Fraction). IsPivoted old old_cost row enter new' k) ek
-    (subst (λ (k : List (Vec Fraction Y)). IsPivoted old old_cost row enter k new_cost) en
-    (subst (λ (k : List Fraction). IsPivoted old k row enter new new_cost) ec (subst (λ (k : List (Vec Fraction Y)). IsPivoted k cost0 row enter new new_cost) er h)))
+    (subst (λ (k : List Numbers). IsPivoted old old_cost row enter k new_cost) en
+    (subst (λ (k : List Fraction). IsPivoted old k row enter new new_cost) ec (subst (λ (k : List Numbers). IsPivoted k cost0 row enter new new_cost) er h)))
 
-pub wide_at : {Y : Type 0} {old rows0 : List (Vec Fraction Y)} {old_cost cost0 : List Fraction} (row enter : ℕ) (at : WideAt) → rows0 ≡ old → cost0 ≡ old_cost → IsWideAt rows0 cost0 row enter at → IsWideAt old old_cost row enter at
-wide_at {Y = Y} {old = old} {cost0 = cost0} row enter at er ec h =
-    subst (λ (k : List Fraction). IsWideAt old k row enter at) ec (subst (λ (k : List (Vec Fraction Y)). IsWideAt k cost0 row enter at) er h)
+pub wide_at : {old rows0 : List Numbers} {old_cost cost0 : List Fraction} (row enter : ℕ) (at : WideAt) → rows0 ≡ old → cost0 ≡ old_cost → IsWideAt rows0 cost0 row enter at → IsWideAt old old_cost row enter at
+wide_at {old = old} {cost0 = cost0} row enter at er ec h =
+    subst (λ (k : List Fraction). IsWideAt old k row enter at) ec (subst (λ (k : List Numbers). IsWideAt k cost0 row enter at) er h)
 
 -- the number that the row is divided by isn't 0
-pub pivot_not_zero : (l : Linear) (p : Path) (row enter : ℕ) (rows0 : List (Vec Fraction Global)) → IsPath l p → NextAt (system_of l) p.basis.items row enter → rows0 ≡ p.rows.items → number_at (row_at rows0 row) enter ≡ zero_fraction → ⊥
+pub pivot_not_zero : (l : Linear) (p : Path) (row enter : ℕ) (rows0 : List Numbers) → IsPath l p → NextAt (system_of l) p.basis.items row enter → rows0 ≡ p.rows.items → number_at (row_at rows0 row) enter ≡ zero_fraction → ⊥
 pivot_not_zero l p row enter rows0 h n same e =
     let can : CanExchange (system_of l) p.basis.items h.tableau.entries enter (get_or p.basis.items row 0) = path_can l p row enter h n in
-    can.pivot (sym (h.tableau.entry_is row enter (path_row l p row enter h n) can.there) ∙ (sym (ap (λ (k : List (Vec Fraction Global)). number_at (row_at k row) enter) same) ∙ e))
+    can.pivot (sym (h.tableau.entry_is row enter (path_row l p row enter h n) can.there) ∙ (sym (ap (λ (k : List Numbers). number_at (row_at k row) enter) same) ∙ e))
 
 pub path_onward : (l : Linear) (p q : Path) (row enter : ℕ) (x : Exchange) → IsPath l p → NextAt (system_of l) p.basis.items row enter → IsPivoted p.rows.items p.cost.items row enter q.rows.items q.cost.items → q.basis.items ≡ set p.basis.items row enter →
     q.trail.items ≡ p.trail.items ++ x ∷ [] → name_at l enter ≡ Some x.enter → name_at l (get_or p.basis.items row 0) ≡ Some x.leave → IsPath l q

@@ -1,7 +1,7 @@
 -- The plan, and the prices, of a settled basis.
 use Rattle.std.specs.Prelude.{◌≡◌, ℕ, ◌+◌, ◌<◌, List, length}
 use Rattle.std.proofs.Common.{sym, ap, subst, ◌∙◌, arith, inl, inr, get_or}
-use Rattle.std.specs.declared.vec.Vec.{Vec}
+use Rattle.number_rows.specs.Changed.{Numbers}
 use Rattle.fractions.specs.Fraction.{Fraction, zero_fraction, negated, ◌-ʳ◌}
 use Rattle.fractions.specs.Fracs.{atom, nought, ◌⊟◌, opposite, same_amount}
 use Rattle.fractions.proofs.Laws.{negated-negated}
@@ -21,7 +21,7 @@ use Rattle.pivot_solver.proofs.Chosen.{row_of}
 use Rattle.pivot_solver.proofs.Each.{listed_is, each_weaker}
 use Rattle.pivot_solver.proofs.Onward.{same_entries}
 
-basic_value_is : {Y : Type 0} (s : System) (b : List ℕ) (rows : List (Vec Fraction Y)) (cost : List Fraction) (t : IsTableau s b rows cost) (c : ℕ) (x : Fraction) → IsBasicValue b rows (s.goods + s.lines) c x → x ≡ t.entries.value c
+basic_value_is : (s : System) (b : List ℕ) (rows : List Numbers) (cost : List Fraction) (t : IsTableau s b rows cost) (c : ℕ) (x : Fraction) → IsBasicValue b rows (s.goods + s.lines) c x → x ≡ t.entries.value c
 basic_value_is s b rows cost t c x h =
     elim h [
       | inl v ↦ v.3 ∙ (t.value_is v.0 (omega (arith, v.1, t.is_basis.size)) ∙ ap t.entries.value v.2)
@@ -35,7 +35,7 @@ turn_back w = same_amount (opposite (nought ⊟ atom w)) (atom w) (omega arith)
 unit_price : (l : Linear) (g : ℕ) → g < good_count l → (system_of l).price g ≡ zero_fraction
 unit_price l g h = at_unit (good_count l) g zero_fraction _ h
 
-pub plan_of : {Y : Type 0} (l : Linear) (b : List ℕ) (rows : List (Vec Fraction Y)) (cost : List Fraction) → IsWellFormed l → IsTableau (system_of l) b rows cost → HasValues (system_of l) b → PlanAt (system_of l) b → (rates prices : List Fraction) (sum : Fraction) →
+pub plan_of : (l : Linear) (b : List ℕ) (rows : List Numbers) (cost : List Fraction) → IsWellFormed l → IsTableau (system_of l) b rows cost → HasValues (system_of l) b → PlanAt (system_of l) b → (rates prices : List Fraction) (sum : Fraction) →
     ListsEach (column_count l) (λ j x. IsBasicValue b rows (width_of l) (good_count l + j) x) rates → ListsEach (good_count l) (λ g x. x ≡ negated (number_at cost g)) prices → sum ≡ negated (number_at cost (width_of l)) →
     IsPlan l rates × (sum ≡ cost_of l rates) × AreLeastCostPrices l prices sum
 plan_of l b rows cost well t values shown rates prices sum hr hp hs =
@@ -55,7 +55,7 @@ plan_of l b rows cost well t values shown rates prices sum hr hp hs =
       subst (λ (k : List Fraction). AreLeastCostPrices l k sum) (sym prices_is) (subst (λ (k : Fraction). AreLeastCostPrices l (good_prices l s.price e) k) (sym sum_is) (shows_prices l b e well t.is_basis t.are_entries shows)),
     )
 
-pub refusal_of : {Y : Type 0} (l : Linear) (b : List ℕ) (rows : List (Vec Fraction Y)) (cost : List Fraction) (at : ℕ) → IsWellFormed l → IsTableau (system_of l) b rows cost → NoneAt (system_of l) b at → (prices : List Fraction) → ListsEach (good_count l) (λ g x. x ≡ number_at (row_at rows at) g) prices →
+pub refusal_of : (l : Linear) (b : List ℕ) (rows : List Numbers) (cost : List Fraction) (at : ℕ) → IsWellFormed l → IsTableau (system_of l) b rows cost → NoneAt (system_of l) b at → (prices : List Fraction) → ListsEach (good_count l) (λ g x. x ≡ number_at (row_at rows at) g) prices →
     AreInfeasibilityPrices l prices
 refusal_of l b rows cost at well t shown prices hp =
     let s : System = system_of l in
@@ -73,14 +73,14 @@ refusal_of l b rows cost at well t shown prices hp =
     subst (λ (k : List Fraction). AreInfeasibilityPrices l k) (sym prices_is) (shows_none l b e well t.is_basis shown.are_entries shown.shows)
 
 -- ---- the lists, as the calls give them
-pub rates_at : {Y : Type 0} {b b0 : List ℕ} {rows rows0 : List (Vec Fraction Y)} {w w0 n n0 k k0 : ℕ} {xs xs0 : List Fraction} → b0 ≡ b → rows0 ≡ rows → w0 ≡ w → n0 ≡ n → k0 ≡ k → xs ≡ xs0 →
+pub rates_at : {b b0 : List ℕ} {rows rows0 : List Numbers} {w w0 n n0 k k0 : ℕ} {xs xs0 : List Fraction} → b0 ≡ b → rows0 ≡ rows → w0 ≡ w → n0 ≡ n → k0 ≡ k → xs ≡ xs0 →
     ListsEach k0 (λ j x. IsBasicValue b0 rows0 w0 (n0 + j) x) xs0 → ListsEach k (λ j x. IsBasicValue b rows w (n + j) x) xs
-rates_at {Y = Y} {b = b} {rows = rows} {rows0 = rows0} {w = w} {w0 = w0} {n = n} {n0 = n0} {k = k} {k0 = k0} {xs0 = xs0} eb er ew en ek ex h =
+rates_at {b = b} {rows = rows} {rows0 = rows0} {w = w} {w0 = w0} {n = n} {n0 = n0} {k = k} {k0 = k0} {xs0 = xs0} eb er ew en ek ex h =
     subst (λ (z : List Fraction). ListsEach k (λ j x. IsBasicValue b rows w (n + j) x) z) (sym ex)
     (subst (λ (z : ℕ). ListsEach z (λ j x. IsBasicValue b rows w (n + j) x) xs0) ek
     (subst (λ (z : ℕ). ListsEach k0 (λ j x. IsBasicValue b rows w (z + j) x) xs0) en
     (subst (λ (z : ℕ). ListsEach k0 (λ j x. IsBasicValue b rows z (n0 + j) x) xs0) ew
-    (subst (λ (z : List (Vec Fraction Y)). ListsEach k0 (λ j x. IsBasicValue b z w0 (n0 + j) x) xs0) er
+    (subst (λ (z : List Numbers). ListsEach k0 (λ j x. IsBasicValue b z w0 (n0 + j) x) xs0) er
     (subst (λ (z : List ℕ). ListsEach k0 (λ j x. IsBasicValue z rows0 w0 (n0 + j) x) xs0) eb h)))))
 
 pub prices_at : {row row0 : List Fraction} {n n0 : ℕ} {xs xs0 : List Fraction} (f : Fraction → Fraction) → row0 ≡ row → n0 ≡ n → xs ≡ xs0 → ListsEach n0 (λ g x. x ≡ f (number_at row0 g)) xs0 → ListsEach n (λ g x. x ≡ f (number_at row g)) xs

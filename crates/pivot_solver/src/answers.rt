@@ -14,18 +14,19 @@ ghost use Rattle.pivot_solver.specs.Numbers.{IsBasicValue, ListsEach};
 use crate::path::Path;
 use fractions::Ratio;
 use linear_table::{Linear, Plan};
+use number_rows::Row;
 use plan_base::{Items, NoMemory};
 use std::alloc::Global;
 
 // The value of a column, 0 outside the basis.
-fn basic_value(basis: &[usize], rows: &[Vec<Ratio>], width: usize, column: usize) -> Ratio
+fn basic_value(basis: &[usize], rows: &[Row], width: usize, column: usize) -> Ratio
     requires sizes { length basis.now ≡ length rows.now }
     requires widths { (i : ℕ) → i < length rows.now → width < length (row_at rows.now i) }
     ensures { IsBasicValue basis.now rows.now width column result }
 {
     for i in 0..basis.len() {
         if basis[i] == column {
-            return rows[i][width];
+            return rows[i].number(width);
         }
     }
     Ratio::zero()
@@ -35,7 +36,7 @@ fn basic_value(basis: &[usize], rows: &[Vec<Ratio>], width: usize, column: usize
 fn values(
     alloc: Global,
     basis: &[usize],
-    rows: &[Vec<Ratio>],
+    rows: &[Row],
     goods: usize,
     columns: usize,
     width: usize,
@@ -53,25 +54,25 @@ fn values(
 }
 
 // The first numbers of a row with their signs turned.
-fn turned(alloc: Global, row: &[Ratio], count: usize) -> Result<Vec<Ratio>, NoMemory>
-    requires { count ≤ length row.now }
-    ensures { IfOk result (λ prices. ListsEach count (λ g x. x ≡ negated (number_at row.now g)) prices.items) }
+fn turned(alloc: Global, row: &Row, count: usize) -> Result<Vec<Ratio>, NoMemory>
+    requires { count ≤ length row.now.items }
+    ensures { IfOk result (λ prices. ListsEach count (λ g x. x ≡ negated (number_at row.now.items g)) prices.items) }
 {
     let mut prices = Vec::with_capacity(alloc, count)?;
     for g in 0..count {
-        prices.push(row[g].neg())?;
+        prices.push(row.number(g).neg())?;
     }
     Ok(prices)
 }
 
 // The first numbers of a row.
-fn front(alloc: Global, row: &[Ratio], count: usize) -> Result<Vec<Ratio>, NoMemory>
-    requires { count ≤ length row.now }
-    ensures { IfOk result (λ prices. ListsEach count (λ g x. x ≡ number_at row.now g) prices.items) }
+fn front(alloc: Global, row: &Row, count: usize) -> Result<Vec<Ratio>, NoMemory>
+    requires { count ≤ length row.now.items }
+    ensures { IfOk result (λ prices. ListsEach count (λ g x. x ≡ number_at row.now.items g) prices.items) }
 {
     let mut prices = Vec::with_capacity(alloc, count)?;
     for g in 0..count {
-        prices.push(row[g])?;
+        prices.push(row.number(g))?;
     }
     Ok(prices)
 }
@@ -95,7 +96,7 @@ pub fn plan(
     let prices = turned(alloc, &path.cost, goods)?;
     Ok(Plan {
         rates: Items::from_vec(rates),
-        cost: path.cost[width].neg(),
+        cost: path.cost.number(width).neg(),
         prices: Items::from_vec(prices),
     })
 }

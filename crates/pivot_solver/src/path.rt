@@ -12,8 +12,8 @@ ghost use Rattle.pivot_solver.specs.Places.{IsInTableau, IsPlaceOf};
 use crate::answers::{plan, refusal};
 use crate::first::{first_cost_row, first_rows, unit_columns};
 use crate::{Choice, WideAt, choose, pivot};
-use fractions::Ratio;
 use linear_table::{Exchange, Linear, Place, SolveAnswer};
+use number_rows::Row;
 use plan_base::{Items, NoMemory};
 use std::alloc::Global;
 
@@ -21,8 +21,8 @@ use std::alloc::Global;
 #[derive(Drop)]
 pub struct Path {
     pub basis: Vec<usize>,
-    pub rows: Vec<Vec<Ratio>>,
-    pub cost: Vec<Ratio>,
+    pub rows: Vec<Row>,
+    pub cost: Row,
     pub trail: Vec<Exchange>,
 }
 

@@ -1,2 +1,3 @@
+pub mod Binds
 pub mod Shape
 pub mod formers

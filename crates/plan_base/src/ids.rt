@@ -1,8 +1,33 @@
 //! Strongly typed ids. Each is a place in a list that its name tells; the list's owner says how long it is.
+ghost use Rattle.std.specs.Prelude.{◌≡◌};
+ghost use Rattle.plan_base.specs.Shape.{character_node, electricity_node, heat_node};
 
 /// A node of the dependency graph: a special node, a good, a recipe, a source, a machine or a technology.
 #[derive(Clone, Copy, Debug, PartialEq, Eq, PartialOrd, Ord, Hash)]
 pub struct NodeId(pub u32);
+
+impl NodeId {
+    /// The player's character, from whom everything begins.
+    pub fn character() -> NodeId
+        ensures { result ≡ character_node }
+    {
+        NodeId(0)
+    }
+
+    /// Electric power.
+    pub fn electricity() -> NodeId
+        ensures { result ≡ electricity_node }
+    {
+        NodeId(1)
+    }
+
+    /// Heat, as of a reactor.
+    pub fn heat() -> NodeId
+        ensures { result ≡ heat_node }
+    {
+        NodeId(2)
+    }
+}
 
 /// An item or a fluid; items come before fluids.
 #[derive(Clone, Copy, Debug, PartialEq, Eq, PartialOrd, Ord, Hash)]

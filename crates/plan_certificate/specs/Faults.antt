@@ -3,8 +3,8 @@
 -- cost, and of both kinds of prices (weak duality and Farkas's lemma: Schrijver, Theory of Linear and Integer
 -- Programming, chapter 7).
 use Rattle.std.specs.Prelude.{◌≡◌, ℕ, ◌<◌, ◌⊎◌, List, length, Some, slice_get}
-use Rattle.fractions.specs.Fraction.{Fraction, zero_fraction, ◌≤ʳ◌}
-use Rattle.linear_table.specs.Plans.{good_count, column_count, column_part, column_price, number_at, want_at, IsPlan, cost_of, value_of, AreLeastCostPrices, AreInfeasibilityPrices}
+use Rattle.fractions.specs.Fraction.{Fraction, zero_fraction, ◌≤ʳ◌, ◌<ʳ◌}
+use Rattle.linear_table.specs.Plans.{good_count, column_count, column_part, column_price, number_at, want_at, IsPlan, cost_of, value_of, wants_value, AreLeastCostPrices, AreInfeasibilityPrices}
 use Rattle.linear_table.specs.Basis.{table_name}
 use Rattle.linear_table.specs.declared.Linear.{Linear}
 use Rattle.linear_table.specs.declared.Column.{Column}
@@ -146,3 +146,10 @@ AreAcceptedPrices l prices cost = AreLeastCostPrices l prices cost × AreFormed 
 
 abbrev pub AreAcceptedRefusals : Linear → List Fraction → Type 0
 AreAcceptedRefusals l prices = AreInfeasibilityPrices l prices × AreFormed l prices
+
+-- the fault of the prices of a plan of this cost, and of the prices that are to show that there is no plan
+abbrev pub IsLeastFault : Linear → List Fraction → Fraction → CheckFault → Type 0
+IsLeastFault l prices stated fault = IsPriceFault l OwnPrice prices (wants_value l prices ≡ stated) fault
+
+abbrev pub IsNoneFault : Linear → List Fraction → CheckFault → Type 0
+IsNoneFault l prices fault = IsPriceFault l Nothing prices (zero_fraction <ʳ wants_value l prices) fault

@@ -1,3 +1,4 @@
 pub mod Replies
 pub mod Lines
 pub mod Batches
+pub mod Posing

@@ -4,8 +4,10 @@
 
 mod laws;
 mod planner;
+mod posing;
 mod questions;
 
 pub use laws::state_is_of_the_active_edits;
 pub use planner::{BATCH_LIMIT, Planner};
 pub use planning_state::LoadFault;
+pub use posing::Posed;

@@ -13,16 +13,21 @@ ghost use Rattle.edit_undo.specs.Kept.{session_of};
 ghost use Rattle.script_reader.specs.declared.command.Command.TheVariants as CommandLine;
 ghost use Rattle.planning_state.specs.Actions.{can_be_held};
 ghost use Rattle.planner_core.specs.Replies.{done_reply, held_reply, refused_as};
+ghost use Rattle.planner_tables.specs.Questions.{linear_named};
+ghost use Rattle.planner_core.specs.Posing.{IsFormed, IsPosed, IsPosedTable, posed_work};
+ghost use Rattle.planner_core.specs.declared.posing.Posed.TheVariants.{Reply as PosedReply};
+ghost use Rattle.plan_report.specs.declared.reply.Reply.{Reply as ReplyTo};
 ghost use Rattle.std.specs.List.{list_all};
 ghost use Rattle.planner_core.specs.Lines.{changes_of, entry_work, first_planned, is_free, is_refused, line_at, line_work, Does, Ends, Held as HeldChange, HoldsChange, IsFree, IsOpen, IsSessionOf, IsStep, Moves};
 
+use crate::posing::{Posed, pose_table};
 use crate::questions::{
     list_reply, mask_reply, milestones_reply, missing_reply, rate_reply, reach_reply, refused,
     refused_as, solve_reply, summary_reply, why_reply,
 };
 use edit_undo::{DoFault, History};
 use game_types::Game;
-use plan_base::{NoMemory, Steps};
+use plan_base::{NoMemory, Steps, Text};
 use plan_report::{RefusalCode, Reply};
 use planning_state::{LoadFault, Planning, Undo, can_be_held};
 use production_table::Table;
@@ -313,6 +318,63 @@ impl Planner {
             self.step_open(line, command, steps)
         } else {
             self.step_free(command, steps)
+        }
+    }
+
+    /// Carries out a line as `step` does, but has the solver settle nothing: a line that would is answered by its linear form.
+    ///
+    /// # Errors
+    ///
+    /// `NoMemory` where memory could not be had, and then the planner is as before.
+    pub fn pose<L>(
+        &mut self,
+        line: u32,
+        command: Command,
+        steps: &mut Steps<L>,
+    ) -> Result<Posed, NoMemory>
+        requires { (base : State) × IsSessionOf base self.old }
+        ensures posed { IfOk result (λ said. IsPosed line self.old command self.new said) }
+        ensures formed { IfOk result IsFormed }
+        ensures history { (base : State) → IsSessionOf base self.old → IsSessionOf base self.new }
+        ensures err { OnErr result (self.new ≡ self.old) }
+        ensures work { IfOk result (λ said. steps.new ≤ steps.old + posed_work command self.old self.new said) }
+        ensures later { steps.old ≤ steps.new }
+    {
+        if self.is_open() {
+            return self.pose_reply(line, command, steps);
+        }
+        match command {
+            Command::Solve { table, budget: _ } => self.pose_form(&table),
+            other => self.pose_reply(line, other, steps),
+        }
+    }
+
+    // The linear form of the table of a name, or the reply that tells why it has none.
+    fn pose_form(&self, table: &Text) -> Result<Posed, NoMemory>
+        ensures posed { IfOk result (IsPosedTable self.now.state.book.game (linear_named self.now.state.book.game self.now.state.tables table.now)) }
+        ensures formed { IfOk result IsFormed }
+    {
+        pose_table(self.alloc, &self.planning, table)
+    }
+
+    // The reply to a line.
+    fn pose_reply<L>(
+        &mut self,
+        line: u32,
+        command: Command,
+        steps: &mut Steps<L>,
+    ) -> Result<Posed, NoMemory>
+        requires { (base : State) × IsSessionOf base self.old }
+        ensures posed { IfOk result (λ said. (answer : ReplyTo) × (said ≡ PosedReply answer) × IsStep line self.old command self.new answer) }
+        ensures formed { IfOk result IsFormed }
+        ensures history { (base : State) → IsSessionOf base self.old → IsSessionOf base self.new }
+        ensures err { OnErr result (self.new ≡ self.old) }
+        ensures work { IfOk result (λ said. steps.new ≤ steps.old + posed_work command self.old self.new said) }
+        ensures later { steps.old ≤ steps.new }
+    {
+        match self.step(line, command, steps) {
+            Ok(reply) => Ok(Posed::Reply(reply)),
+            Err(NoMemory) => Err(NoMemory),
         }
     }
 }

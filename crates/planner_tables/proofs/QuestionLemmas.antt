@@ -1,7 +1,8 @@
 -- What is answered about tables.
 use Rattle.std.proofs.Common.{◌≡◌, ◌∙◌, ℕ, ◌+◌, ◌<◌, ◌≤◌, List, [], ◌∷◌, length, get_or, drop, Some, None, Ok, Err, sym, ap, subst}
-use Rattle.std.specs.Prelude.{All, Bool, true, false, cond, find}
+use Rattle.std.specs.Prelude.{All, Bool, true, false, cond, find, Result}
 use Rattle.std.proofs.lemmas.List.Elements.{All-head, All-tail}
+use Rattle.linear_table.specs.declared.Linear.{Linear}
 use Rattle.linear_table.specs.declared.LinearColumn.{LinearColumn}
 use Rattle.game_types.specs.declared.games.Game.{Game}
 use Rattle.game_types.specs.Steps.{◌▸◌}
@@ -11,9 +12,10 @@ use Rattle.production_table.specs.declared.tables.TableRow.{TableRow}
 use Rattle.production_table.specs.Tables.{labels_of}
 use Rattle.plan_report.specs.declared.reply.Reply.{Reply}
 use Rattle.planner_tables.specs.declared.refusals.TableRefusal.{TableRefusal}
+use Rattle.planner_tables.specs.declared.refusals.ChangeFault.{ChangeFault}
 use Rattle.planner_tables.specs.Effects.{table_at, table_named}
-use Rattle.planner_tables.specs.Questions.{column_names, rate_outcome, row_rates_outcome, IsSolvedWhere, IsSolveReply, IsSolveReplyAt, linear_outcome}
-use Rattle.planner_tables.specs.Refusals.{Outcome, refused}
+use Rattle.planner_tables.specs.Questions.{column_names, rate_outcome, row_rates_outcome, IsSolvedWhere, IsSolveReply, IsSolveReplyAt, linear_named, linear_outcome}
+use Rattle.planner_tables.specs.Refusals.{Gives, Outcome, refused}
 
 -- ---- labels
 pub labels_next : (rows : List TableRow) (k : ℕ) (row : TableRow) → k < length rows → row ≡ get_or rows k row → labels_of (drop k rows) ≡ row.label ∷ labels_of (drop (k + 1) rows)
@@ -53,3 +55,13 @@ unfolding IsSolveReply
 solve_asked g ts name budget place t r h e s =
     subst (λ (o : Outcome ℕ). IsSolveReplyAt g ts budget o r) (sym h)
     (subst (λ (x : Table). IsSolvedWhere g x budget (linear_outcome g x) r) (sym e) s)
+
+pub linear_refused : (g : Game) (ts : List Table) (name : List ℕ) (fault : ChangeFault) → Gives (table_named ts name) (Err fault) → Gives (linear_named g ts name) (Err fault)
+unfolding linear_named
+linear_refused g ts name fault given = λ refusal is. ap (λ (o : Outcome ℕ). o ▸ λ place. linear_outcome g (table_at ts place)) (given refusal is)
+
+pub linear_asked : (g : Game) (ts : List Table) (name : List ℕ) (place : ℕ) (t : Table) (r : Result Linear ChangeFault) → table_named ts name ≡ Ok place → table_at ts place ≡ t → Gives (linear_outcome g t) r → Gives (linear_named g ts name) r
+unfolding linear_named
+linear_asked g ts name place t r h e given =
+    subst (λ (o : Outcome ℕ). Gives (o ▸ λ p. linear_outcome g (table_at ts p)) r) (sym h)
+    (subst (λ (x : Table). Gives (linear_outcome g x) r) (sym e) given)

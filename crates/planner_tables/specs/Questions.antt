@@ -72,6 +72,10 @@ solved g t l a =
 abbrev pub linear_outcome : Game → Table → Outcome Linear
 linear_outcome g t = caused (NoName t.name) (linear_of g t)
 
+-- that of the table of a name, or the first refusal
+unfoldable pub linear_named : Game → List Table → List ℕ → Outcome Linear
+linear_named g ts table = table_named ts table ▸ λ place. linear_outcome g (table_at ts place)
+
 -- a reply that holds an answer of the solver
 pub record IsSolved (g : Game) (t : Table) (l : Linear) (budget : ℕ) (r : Reply) : Type 0 where
   pub answer : SolveAnswer

@@ -13,7 +13,7 @@ mod undos;
 
 pub use changes::change_tables;
 pub use names::{good_named, setup_named};
-pub use questions::{rate_reply, solve_reply};
+pub use questions::{linear_named, rate_reply, solve_reply};
 pub use refusals::{ChangeFault, TableRefusal, code_of, detail_of, refused};
 pub use splices::Splice;
 pub use undos::{Numbers, TablePart, TableUndo, exchange_tables};

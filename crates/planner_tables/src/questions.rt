@@ -6,7 +6,7 @@ ghost use Rattle.production_table.specs.Tables.{is_label, labels_of};
 ghost use Rattle.table_rows.specs.Columns.{figures_of};
 ghost use Rattle.table_rows.specs.Setups.{IsFitting};
 ghost use Rattle.planner_tables.specs.Effects.{AreSoundTables, IsSoundOn};
-ghost use Rattle.planner_tables.specs.Questions.{column_names, IsSolved, IsSolvedWhere, IsSolveReply, linear_outcome, rate_outcome, rate_reply, rates_outcome, rates_reply, row_rates_outcome, solved};
+ghost use Rattle.planner_tables.specs.Questions.{column_names, IsSolved, IsSolvedWhere, IsSolveReply, linear_named, linear_outcome, rate_outcome, rate_reply, rates_outcome, rates_reply, row_rates_outcome, solved};
 ghost use Rattle.planner_tables.specs.Refusals.{Gives};
 
 use crate::changes::table_named;
@@ -209,6 +209,28 @@ fn linear_of(alloc: Global, game: &Game, table: &Table) -> Result<Linear, Change
     match table.to_linear(alloc, game) {
         Ok(linear) => Ok(linear),
         Err(fault) => Err(row_fault(alloc, &table.name, fault)),
+    }
+}
+
+/// The linear form of the table of a name, or why it has none.
+///
+/// # Errors
+///
+/// The first refusal, or `NoMemory` where memory could not be had.
+pub fn linear_named(
+    alloc: Global,
+    game: &Game,
+    tables: &[Table],
+    table: &Text,
+) -> Result<Linear, ChangeFault>
+    requires sound { IsSound game.now }
+    requires tables { AreSoundTables game.now tables.now }
+    ensures linear { Gives (linear_named game.now tables.now table.now) result }
+    ensures formed { IfOk result IsWellFormed }
+{
+    match table_named(alloc, tables, table) {
+        Ok(place) => linear_of(alloc, game, &tables[place]),
+        Err(fault) => Err(fault),
     }
 }
 

@@ -18,6 +18,9 @@ use Rattle.data_edit.specs.Names.{KeepsNames}
 use Rattle.data_edit.proofs.EffectLaw.{effect_law}
 use Rattle.data_edit.proofs.NamesKept.{edit_keeps}
 use Rattle.depend_rows.specs.Touched.{touched_by, StaysAs}
+use Rattle.depend_rows.specs.Alike.{AlikeBut}
+use Rattle.depend_rows.proofs.AlikeLaw.{alike_law}
+use Rattle.depend_rows.proofs.AlikeLemmas.{alike_more, alike_same}
 use Rattle.depend_rows.proofs.TouchLemmas.{touches_all}
 use Rattle.edit_undo.specs.Edits.{apply_edits, apply_from, then_apply}
 use Rattle.script_reader.specs.declared.change.Change.{Change}
@@ -307,6 +310,7 @@ next-book old new tables change edits more_edits undos more_undos edit part held
   back = ap (λ l. all_restored l new) f ∙ (restored-push undos (Part part) new ∙ ap (all_restored undos) one.back);
   tables_back = ap (λ l. all_tables_restored l tables) f ∙ tables-push undos (Part part) tables;
   stays = λ n untouched. touches_all edit old new one.effect_is n (untouched-one old change edit n one.named untouched);
+  alike = subst (λ (o : Outcome (Option Edit)). AlikeBut (edit_and o []) old.game new.game) (sym one.named) (alike_law edit old new one.effect_is);
   game = λ marks. marks-game edit old new one.effect_is (one-mark old change edit one.named marks);
 }
 
@@ -323,6 +327,7 @@ next-tables book tables left change edits undos more_undos undo sound of_tables 
   back = ap (λ l. all_restored l book) f ∙ restored-push undos (TablesUndo undo) book;
   tables_back = ap (λ l. all_tables_restored l left) f ∙ (tables-push undos (TablesUndo undo) left ∙ ap (all_tables_restored undos) back);
   stays = λ n untouched. stays-refl book n;
+  alike = alike_same (edits_named book.game (change ∷ [])) book.game;
   game = λ marks. refl;
 }
 
@@ -355,6 +360,7 @@ pub record SoFar (old : Book) (stood : List ProductionTable) (changes : List Cha
   pub back : all_restored undos book ≡ old
   pub tables_back : all_tables_restored undos tables ≡ stood
   pub stays : (n : ℕ) → is_touched old edits n ≡ false → StaysAs old book n
+  pub alike : AlikeBut edits old.game book.game
   pub game : list_all is_of_mark edits ≡ true → book.game ≡ old.game
 
 pub so_far-first : (old : Book) (stood : List ProductionTable) (changes : List Change) → IsSoundBook old → AreSoundTables old.game stood → SoFar old stood changes 0 [] [] old stood
@@ -368,6 +374,7 @@ so_far-first old stood changes sound fit = record {
   back = refl;
   tables_back = refl;
   stays = λ n untouched. stays-refl old n;
+  alike = alike_same [] old.game;
   game = λ marks. refl;
 }
 
@@ -388,6 +395,8 @@ so_far-more old book new stood tables left changes i d edits more_edits undos mo
       stays-trans old book new n (s.stays n apart.0) (next.stays n
       (ap (λ (h : Shape). list_any (λ edit. has_node (touched_by h edit) n) (edits_named book.game (get_or changes i d ∷ []))) s.names.shape
       ∙ (ap (λ es. is_touched old es n) (edits-same old.game book.game s.names (get_or changes i d ∷ [])) ∙ apart.1)));
+  alike = subst (λ es. AlikeBut es old.game new.game) (sym own)
+      (alike_more edits one old.game book.game new.game s.alike (subst (λ es. AlikeBut es book.game new.game) (edits-same old.game book.game s.names (get_or changes i d ∷ [])) next.alike));
   game = λ marks.
       let apart : (list_all is_of_mark edits ≡ true) × (list_all is_of_mark one ≡ true) = all-parts is_of_mark edits one (ap (list_all is_of_mark) (sym own) ∙ marks) in
       next.game (ap (list_all is_of_mark) (edits-same old.game book.game s.names (get_or changes i d ∷ [])) ∙ apart.1) ∙ s.game apart.0;
@@ -418,6 +427,7 @@ so_far-last old book stood tables changes i edits undos past s =
       back = s.back;
       tables_back = s.tables_back;
       stays = s.stays;
+      alike = s.alike;
       game = s.game;
     }
 

@@ -14,6 +14,9 @@ use Rattle.data_edit.specs.Names.{KeepsNames}
 use Rattle.data_edit.proofs.NamesKept.{edit_keeps}
 use Rattle.depend_rows.specs.Rows.{rows_of}
 use Rattle.depend_rows.specs.Touched.{touched_by, touched_by_all, StaysAs}
+use Rattle.depend_rows.specs.Alike.{AlikeBut}
+use Rattle.depend_rows.proofs.AlikeLaw.{alike_law}
+use Rattle.depend_rows.proofs.AlikeLemmas.{alike_back, alike_more, alike_same}
 use Rattle.depend_rows.proofs.TouchLemmas.{touches_all}
 use Rattle.milestone_masks.specs.Worlds.{AreWorlds, Kept, milestones_of, size_of_all}
 use Rattle.edit_undo.specs.Edits.{apply_from, then_apply, IsEntry, Leads}
@@ -28,7 +31,7 @@ use Rattle.planning_state.specs.Actions.{Outcome, ◌▸◌, can_be_held, edit_n
 use Rattle.planning_state.specs.States.{State, state_of}
 use Rattle.planning_state.specs.Effects.{edited, effect_of, is_entry, with_book, with_tables}
 use Rattle.planning_state.specs.Undoing.{Fits, LeadsBack, all_restored, all_tables_restored, is_of_milestone, taken_back}
-use Rattle.planning_state.specs.Work.{edits_named, touched_in, work_of_book}
+use Rattle.planning_state.specs.Work.{edit_and, edits_named, touched_in, work_of_book}
 use Rattle.planning_state.specs.Worlds.{worlds_of, IsKept}
 use Rattle.planning_state.specs.Books.{Applies, TakesBack, is_of_mark, is_part_undo, is_touched}
 use Rattle.planning_state.proofs.Kept.{kept-is}
@@ -88,12 +91,14 @@ held-leads before after tables left rows old_kept nodes changes edits undos kept
 pub record Held (s : State) (changes : List Change) (t : State) : Type 0 where
   pub names : KeepsNames s.book.game t.book.game
   pub stays : (n : ℕ) → is_touched s.book (edits_named s.book.game changes) n ≡ false → StaysAs s.book t.book n
+  pub alike : AlikeBut (edits_named s.book.game changes) s.book.game t.book.game
   pub game : list_all is_of_mark (edits_named s.book.game changes) ≡ true → t.book.game ≡ s.book.game
 
 held-none : (s t : State) (changes : List Change) → s.book ≡ t.book → Held s changes t
 held-none s t changes same = record {
   names = subst (λ (b : Book). KeepsNames s.book.game b.game) same (names-refl s.book.game);
   stays = λ n untouched. subst (λ (b : Book). StaysAs s.book b n) same (stays-refl s.book n);
+  alike = subst (λ (b : Book). AlikeBut (edits_named s.book.game changes) s.book.game b.game) same (alike_same (edits_named s.book.game changes) s.book.game);
   game = λ marks. ap (λ (b : Book). b.game) (sym same);
 }
 
@@ -107,6 +112,7 @@ held-edit s t change edit named (Ok book) e f =
     record {
       names = edit_keeps edit s.book t.book effect_is;
       stays = λ n untouched. touches_all edit s.book t.book effect_is n (untouched-one s.book change edit n named untouched);
+      alike = subst (λ (o : Outcome (Option Edit)). AlikeBut (edit_and o []) s.book.game t.book.game) (sym named) (alike_law edit s.book t.book effect_is);
       game = λ marks. marks-game edit s.book t.book effect_is (one-mark s.book change edit named marks);
     }
 held-edit s t change edit named (Err fault) e f = absurd cc
@@ -148,6 +154,9 @@ held-more s u t change changes one rest = record {
       ap (λ (h : Shape). list_any (λ edit. has_node (touched_by h edit) n) (edits_named u.book.game changes)) one.names.shape
       ∙ (ap (λ es. is_touched s.book es n) (edits-same s.book.game u.book.game one.names changes) ∙ split.1) in
       stays-trans s.book u.book t.book n (one.stays n split.0) (rest.stays n later);
+  alike = subst (λ es. AlikeBut es s.book.game t.book.game) (sym (edits-split (edit_named s.book.game change) (edits_named s.book.game changes)))
+      (alike_more (edits_named s.book.game (change ∷ [])) (edits_named s.book.game changes) s.book.game u.book.game t.book.game one.alike
+      (subst (λ es. AlikeBut es u.book.game t.book.game) (edits-same s.book.game u.book.game one.names changes) rest.alike));
   game = λ marks.
       let split : (list_all is_of_mark (edits_named s.book.game (change ∷ [])) ≡ true) × (list_all is_of_mark (edits_named s.book.game changes) ≡ true) =
       all-parts is_of_mark (edits_named s.book.game (change ∷ [])) (edits_named s.book.game changes)
@@ -158,7 +167,7 @@ held-more s u t change changes one rest = record {
 pub held-all : (s t : State) (place : ℕ) (changes : List Change) → list_all can_be_held changes ≡ true → apply_from effect_of place s changes ≡ Ok t → Held s changes t
 held-all s t place [] held e =
     let same : s ≡ t = cc in
-    subst (Held s []) same (record { names = names-refl s.book.game; stays = λ n untouched. stays-refl s.book n; game = λ marks. refl })
+    subst (Held s []) same (record { names = names-refl s.book.game; stays = λ n untouched. stays-refl s.book n; alike = alike_same [] s.book.game; game = λ marks. refl })
 held-all s t place (change ∷ changes) held e =
     let apart : (can_be_held change ≡ true) × (list_all can_be_held changes ≡ true) = both (can_be_held change) (list_all can_be_held changes) held in
     let found : (u : State) × (effect_of s change ≡ Ok u) × (apply_from effect_of (place + 1) u changes ≡ Ok t) = then-ok (effect_of s change) place _ t e in
@@ -202,6 +211,7 @@ takes-back s t changes undos is_no leads =
         stays = λ n untouched. stays-sym s.book t.book n (held.stays n
             (ap (λ (h : Shape). list_any (λ edit. has_node (touched_by h edit) n) (edits_named s.book.game changes)) (sym held.names.shape)
             ∙ (ap (λ es. is_touched t.book es n) (sym (edits-same s.book.game t.book.game held.names changes)) ∙ untouched)));
+        alike = subst (λ es. AlikeBut es t.book.game s.book.game) (sym (edits-same s.book.game t.book.game held.names changes)) (alike_back (edits_named s.book.game changes) s.book.game t.book.game held.alike);
         game = λ marks. sym (held.game (ap (list_all is_of_mark) (sym (edits-same s.book.game t.book.game held.names changes)) ∙ marks));
       };
       back = ap (λ (u : State). u.book) stood;

@@ -1,5 +1,6 @@
 -- What a change means in a game: things in place of names. The words and the order of the refusals are this project's own.
 use Rattle.std.specs.Prelude.{◌≡◌, ℕ, ◌+◌, Bool, true, false, length, Option, Some, None, Result, Ok, Err, if◌then◌else◌}
+pub use Rattle.plan_base.specs.Binds.{◌▸◌}
 use Rattle.plan_base.specs.declared.ids.GoodId.{GoodId}
 use Rattle.plan_base.specs.declared.ids.NodeId.{NodeId}
 use Rattle.plan_base.specs.declared.ids.RecipeId.{RecipeId}
@@ -23,12 +24,6 @@ use Rattle.planning_state.specs.declared.refusals.ChangeFault.TheVariants.{Refus
 -- a value, or why there is none
 abbrev pub Outcome : Type 0 → Type 0
 Outcome A = Result A Refusal
-
--- first this, and then what its value gives
-infixr 1 ◌▸◌
-abbrev pub ◌▸◌ : {A B : Type 0} → Outcome A → (A → Outcome B) → Outcome B
-(Ok value) ▸ next = next value
-(Err refusal) ▸ next = Err refusal
 
 -- what a call answers that takes memory: what is meant, unless memory could not be had
 abbrev pub Gives : {A : Type 0} → Outcome A → Result A ChangeFault → Type 0

@@ -12,6 +12,7 @@ use Rattle.data_edit.specs.declared.parts.Inverse.{Inverse}
 use Rattle.data_edit.specs.Books.{IsSoundBook}
 use Rattle.data_edit.specs.Edits.{effect, restored}
 use Rattle.data_edit.specs.Names.{KeepsNames}
+use Rattle.depend_rows.specs.Alike.{AlikeBut}
 use Rattle.depend_rows.specs.Rows.{row_of}
 use Rattle.depend_rows.specs.Touched.{touched_by, StaysAs}
 use Rattle.edit_undo.specs.Edits.{apply_edits}
@@ -74,6 +75,7 @@ pub record AppliesNext (before : Book) (tables : List Table) (change : Change) (
   pub back : all_restored more_undos after ≡ all_restored undos before
   pub tables_back : all_tables_restored more_undos left ≡ all_tables_restored undos tables
   pub stays : (n : ℕ) → is_touched before (edits_named before.game (change ∷ [])) n ≡ false → StaysAs before after n
+  pub alike : AlikeBut (edits_named before.game (change ∷ [])) before.game after.game
   pub game : list_all is_of_mark (edits_named before.game (change ∷ [])) ≡ true → after.game ≡ before.game
 
 -- changes of a book and its tables, all of them: the edits that they ask for, and what takes them back
@@ -87,6 +89,7 @@ pub record Applies (before : Book) (tables : List Table) (changes : List Change)
   pub back : all_restored undos after ≡ before
   pub tables_back : all_tables_restored undos left ≡ tables
   pub stays : (n : ℕ) → is_touched before edits n ≡ false → StaysAs before after n
+  pub alike : AlikeBut edits before.game after.game
   pub game : list_all is_of_mark edits ≡ true → after.game ≡ before.game
 
 -- the rows are those of the book, but for these nodes
@@ -94,11 +97,12 @@ pub record AreRowsBut (nodes : List NodeId) (book : Book) (rows : List Row) : Ty
   pub others : (n : ℕ) → n < length rows → has_node nodes n ≡ false → slice_get rows n ≡ Some (row_of book.game n)
 
 -- The book comes from another by these edits, or by what takes them back: its things are named as before, and each node
--- that none of the edits touches has the row and the marks that it had. Where each of the edits sets a mark, the game is
--- as it was.
+-- that none of the edits touches has the row and the marks that it had; but for what the edits name its game is the same. Where
+-- each of the edits sets a mark, the game is as it was.
 pub record ComesFrom (before : Book) (edits : List Edit) (after : Book) : Type 0 where
   pub names : KeepsNames before.game after.game
   pub stays : (n : ℕ) → is_touched before edits n ≡ false → StaysAs before after n
+  pub alike : AlikeBut edits before.game after.game
   pub game : list_all is_of_mark edits ≡ true → after.game ≡ before.game
 
 -- From the book and the tables after changes these lead back to sound ones.

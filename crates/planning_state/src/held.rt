@@ -2,8 +2,10 @@
 ghost use Rattle.std.specs.Prelude.{◌≡◌, ◌≢◌, ℕ, ◌+◌, ◌*◌, ◌<◌, ◌≤◌, ◌^◌, true, false, All, List, IfErr, IfOk, OnErr, OnOk, length};
 ghost use Rattle.std.specs.List.{list_all};
 ghost use Rattle.game_types.specs.Nodes.{shape_of};
+ghost use Rattle.game_types.specs.declared.games.Game.{Game as GameOf};
 ghost use Rattle.data_edit.specs.declared.books.Book.{Book as BookOf};
 ghost use Rattle.data_edit.specs.Books.{IsSoundBook};
+ghost use Rattle.depend_rows.specs.Indexed.{IsIndex};
 ghost use Rattle.depend_rows.specs.Rows.{rows_of};
 ghost use Rattle.depend_rows.specs.Touched.{touched_by_all};
 ghost use Rattle.milestone_masks.specs.Worlds.{milestones_of, size_of_all};
@@ -23,7 +25,7 @@ use crate::refusals::Refusal;
 use crate::settling::settle;
 use crate::undos::Undo;
 use data_edit::{Book, Edit, Inverse, exchange};
-use depend_rows::touched_all;
+use depend_rows::{Index, touched_all};
 use edit_undo::EntryFault;
 use graph_store::ReplaceRows;
 use milestone_masks::Worlds;
@@ -61,28 +63,33 @@ fn with_rows<'a>(edits: &[Edit], nodes: &'a [NodeId]) -> &'a [NodeId]
     }
 }
 
-// Leaves the rows and the ranks as the book is now, where they are those of a book from which these edits, or what takes
+// Leaves the rows, the ranks and the index as the book is now, where they are those of a book from which these edits, or what takes
 // them back, lead to it.
 fn settle_edits<R: ReplaceRows<L>, L>(
     alloc: Global,
     book: &Book,
+    index: &mut Index,
     graph: &mut R,
     worlds: &mut Worlds,
     edits: &[Edit],
     steps: &mut Steps<L>,
 ) -> Result<(), NoMemory>
     requires sound { IsSoundBook book.now }
-    requires before { (before : BookOf) × IsKept before (R.rows graph.old) worlds.old × ComesFrom before edits.now book.now }
+    requires before { (before : BookOf) × IsKept before (R.rows graph.old) worlds.old × ComesFrom before edits.now book.now × IsIndex before.game index.old }
+    ensures index { OnOk result (IsIndex book.now.game index.new) }
+    ensures still { (game : GameOf) → shape_of game ≡ shape_of book.now.game → IsIndex game index.old → IsIndex game index.new }
     ensures kept { OnOk result (IsKept book.now (R.rows graph.new) worlds.new) }
     ensures milestones { milestones_of worlds.new ≡ milestones_of worlds.old }
     ensures err { OnErr result ((R.rows graph.new ≡ R.rows graph.old) × (worlds.new ≡ worlds.old)) }
     ensures work { OnOk result (steps.new ≤ steps.old + 8 * size_of_all (rows_of book.now.game) (touched_by_all (shape_of book.now.game) edits.now) worlds.old worlds.new) }
     ensures later { steps.old ≤ steps.new }
 {
-    let nodes = touched_all(alloc, edits, &book.game.shape())?;
+    let shape = book.game.shape();
+    let nodes = touched_all(alloc, edits, &shape)?;
+    index.note(&shape, edits)?;
     let touched = nodes.as_slice();
     let others = with_rows(edits, touched);
-    settle(alloc, book, graph, worlds, others, touched, steps)
+    settle(alloc, book, index, graph, worlds, others, touched, steps)
 }
 
 /// Applies changes of the book and the tables in order, all of them or none, and answers what takes them back.
@@ -90,6 +97,7 @@ pub(crate) fn apply_held<R: ReplaceRows<L>, L>(
     alloc: Global,
     book: &mut Book,
     tables: &mut Vec<ProductionTable>,
+    index: &mut Index,
     graph: &mut R,
     worlds: &mut Worlds,
     changes: &[Change],
@@ -97,10 +105,12 @@ pub(crate) fn apply_held<R: ReplaceRows<L>, L>(
 ) -> Result<Vec<Undo>, EntryFault<Refusal>>
     requires kept { IsKept book.old (R.rows graph.old) worlds.old }
     requires tables { AreSoundTables book.old.game tables.old.items }
+    requires index { IsIndex book.old.game index.old }
     requires entry { IsEntry is_entry changes.now }
     requires held { list_all can_be_held changes.now ≡ true }
     ensures kept { IsKept book.new (R.rows graph.new) worlds.new }
     ensures tables { AreSoundTables book.new.game tables.new.items }
+    ensures index { IsIndex book.new.game index.new }
     ensures milestones { milestones_of worlds.new ≡ milestones_of worlds.old }
     ensures ok { IfOk result (λ undos. Leads effect_of is_entry LeadsBack (state_of book.old (milestones_of worlds.old) tables.old.items) changes.now undos.items (state_of book.new (milestones_of worlds.new) tables.new.items)) }
     ensures fault { IfErr result (IsFaultOf (apply_edits effect_of (state_of book.old (milestones_of worlds.old) tables.old.items) changes.now)) }
@@ -111,7 +121,7 @@ pub(crate) fn apply_held<R: ReplaceRows<L>, L>(
 {
     match apply_changes(alloc, book, tables, changes) {
         Ok((edits, undos)) => {
-            match settle_edits(alloc, book, graph, worlds, edits.as_slice(), steps) {
+            match settle_edits(alloc, book, index, graph, worlds, edits.as_slice(), steps) {
                 Ok(()) => Ok(undos),
                 Err(_) => {
                     take_all_back(alloc, book, tables, undos);
@@ -209,6 +219,7 @@ pub(crate) fn restore_held<R: ReplaceRows<L>, L>(
     alloc: Global,
     book: &mut Book,
     tables: &mut Vec<ProductionTable>,
+    index: &mut Index,
     graph: &mut R,
     worlds: &mut Worlds,
     changes: &[Change],
@@ -217,9 +228,11 @@ pub(crate) fn restore_held<R: ReplaceRows<L>, L>(
 ) -> Result<(), NoMemory>
     requires kept { IsKept book.old (R.rows graph.old) worlds.old }
     requires tables { AreSoundTables book.old.game tables.old.items }
+    requires index { IsIndex book.old.game index.old }
     requires leads { (before : BookOf) × (stood : List Table) × TakesBack book.old tables.old.items changes.now undos.now before stood }
     ensures kept { IsKept book.new (R.rows graph.new) worlds.new }
     ensures tables { AreSoundTables book.new.game tables.new.items }
+    ensures index { IsIndex book.new.game index.new }
     ensures milestones { milestones_of worlds.new ≡ milestones_of worlds.old }
     ensures ok { OnOk result ((book.new ≡ all_restored undos.now book.old) × (tables.new.items ≡ all_tables_restored undos.now tables.old.items)) }
     ensures err { OnErr result ((book.new ≡ book.old) × (tables.new.items ≡ tables.old.items)) }
@@ -228,7 +241,7 @@ pub(crate) fn restore_held<R: ReplaceRows<L>, L>(
 {
     let edits = edits_named(alloc, &book.game, changes)?;
     let forward = restore_parts(alloc, book, tables, undos)?;
-    match settle_edits(alloc, book, graph, worlds, edits.as_slice(), steps) {
+    match settle_edits(alloc, book, index, graph, worlds, edits.as_slice(), steps) {
         Ok(()) => Ok(()),
         Err(fault) => {
             take_all_back(alloc, book, tables, forward);

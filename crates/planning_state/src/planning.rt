@@ -5,6 +5,7 @@ ghost use Rattle.graph_store.specs.Rows.{member_count};
 ghost use Rattle.game_types.specs.Nodes.{shape_of};
 ghost use Rattle.game_types.specs.Sound.{IsSound};
 ghost use Rattle.data_edit.specs.Books.{IsSoundBook};
+ghost use Rattle.depend_rows.specs.Indexed.{IsIndex};
 ghost use Rattle.depend_rows.specs.Rows.{rows_of};
 ghost use Rattle.depend_rows.specs.declared.rows.TheConstants.{MEMBER_LIMIT};
 ghost use Rattle.milestone_masks.specs.Why.{IsWhy};
@@ -24,7 +25,7 @@ use crate::names::{node_named, nodes_of};
 use crate::refusals::{ChangeFault, LoadFault, Refusal};
 use crate::undos::Undo;
 use data_edit::Book;
-use depend_rows::{RowsFault, rows_within};
+use depend_rows::{Index, RowsFault, rows_within};
 use edit_undo::{Editable, EntryFault};
 use game_types::Game;
 use graph_store::{Graph, Group, Rows};
@@ -36,13 +37,14 @@ use script_reader::{Change, Object};
 use std::alloc::Global;
 use std::marker::Model;
 
-/// A planning state. It is seen as its book, its milestones and its tables; the rows of the game and the ranks of every world, which
-/// these determine, are kept beside them.
+/// A planning state. It is seen as its book, its milestones and its tables; the rows of the game, the index that they are
+/// put together from and the ranks of every world, which these determine, are kept beside them.
 #[derive(Drop)]
 pub struct Planning {
     alloc: Global,
     book: Book,
     tables: Vec<Table>,
+    index: Index,
     graph: Graph,
     worlds: Worlds,
 }
@@ -52,17 +54,19 @@ impl Model for Planning {
     ghost use Rattle.milestone_masks.specs.Worlds.{milestones_of};
     ghost use Rattle.planning_state.specs.Worlds.{IsKept};
     ghost use Rattle.planner_tables.specs.Effects.{AreSoundTables};
+    ghost use Rattle.depend_rows.specs.Indexed.{IsIndex};
 
     ghost Value = { State };
 
     ghost view = { λ p. state_of p.book (milestones_of p.worlds) p.tables.items };
 
-    ghost invariant = { λ p. IsKept p.book p.graph p.worlds × AreSoundTables p.book.game p.tables.items };
+    ghost invariant = { λ p. IsKept p.book p.graph p.worlds × AreSoundTables p.book.game p.tables.items × IsIndex p.book.game p.index };
 }
 
 // A planning state with no milestones and no tables.
-fn assemble(alloc: Global, book: Book, graph: Graph, worlds: Worlds) -> Planning
+fn assemble(alloc: Global, book: Book, index: Index, graph: Graph, worlds: Worlds) -> Planning
     requires sound { IsSoundBook book }
+    requires index { IsIndex book.game index }
     requires rows { graph ≡ rows_of book.game }
     requires none { worlds.milestones ≡ [] }
     requires worlds { AreWorlds (rows_of book.game) book.barred book.granted worlds }
@@ -72,6 +76,7 @@ fn assemble(alloc: Global, book: Book, graph: Graph, worlds: Worlds) -> Planning
         alloc,
         book,
         tables: Vec::new(alloc),
+        index,
         graph,
         worlds,
     }
@@ -95,8 +100,8 @@ impl Planning {
             Ok(book) => book,
             Err(_) => return Err(LoadFault::NoMemory),
         };
-        let rows = match rows_within(alloc, &book, steps) {
-            Ok(rows) => rows,
+        let (rows, index) = match rows_within(alloc, &book, steps) {
+            Ok(made) => made,
             Err(fault) => return Err(load_fault(fault)),
         };
         let graph = match Graph::make(alloc, rows) {
@@ -107,7 +112,7 @@ impl Planning {
             Ok(worlds) => worlds,
             Err(_) => return Err(LoadFault::NoMemory),
         };
-        Ok(assemble(alloc, book, graph, worlds))
+        Ok(assemble(alloc, book, index, graph, worlds))
     }
 
     /// The game as it stands.
@@ -333,6 +338,7 @@ impl<L> Editable<L> for Planning {
                 self.alloc,
                 &mut self.book,
                 &mut self.tables,
+                &mut self.index,
                 &mut self.graph,
                 &mut self.worlds,
                 edits,
@@ -365,6 +371,7 @@ impl<L> Editable<L> for Planning {
                 self.alloc,
                 &mut self.book,
                 &mut self.tables,
+                &mut self.index,
                 &mut self.graph,
                 &mut self.worlds,
                 edits,

@@ -3,12 +3,13 @@ ghost use Rattle.std.specs.Prelude.{◌≡◌, ◌+◌, ◌*◌, ◌≤◌, ◌<
 ghost use Rattle.plan_base.specs.Shape.{node_count};
 ghost use Rattle.game_types.specs.Nodes.{shape_of};
 ghost use Rattle.data_edit.specs.Books.{IsSoundBook};
+ghost use Rattle.depend_rows.specs.Indexed.{IsIndex};
 ghost use Rattle.depend_rows.specs.Rows.{rows_of};
 ghost use Rattle.milestone_masks.specs.Worlds.{milestones_of, size_of_all, AgreeInWorlds, AreWorlds};
 ghost use Rattle.planning_state.specs.Books.{AreRowsBut};
 
 use data_edit::Book;
-use depend_rows::rows_for;
+use depend_rows::{Index, rows_for};
 use graph_store::ReplaceRows;
 use milestone_masks::Worlds;
 use plan_base::{NoMemory, NodeId, Steps};
@@ -18,11 +19,13 @@ use std::alloc::Global;
 fn settle_rows<R: ReplaceRows<L>, L>(
     alloc: Global,
     book: &Book,
+    index: &Index,
     graph: &mut R,
     nodes: &[NodeId],
     steps: &mut Steps<L>,
 ) -> Result<(), NoMemory>
     requires sound { IsSoundBook book.now }
+    requires index { IsIndex book.now.game index.now }
     requires as_long { length (R.rows graph.old) ≡ node_count (shape_of book.now.game) }
     requires nodes { All (λ n. n.0 < node_count (shape_of book.now.game)) nodes.now }
     requires once { AllPairs (λ m n. m.0 ≢ n.0) nodes.now }
@@ -35,7 +38,7 @@ fn settle_rows<R: ReplaceRows<L>, L>(
     if nodes.is_empty() {
         return Ok(());
     }
-    let changes = rows_for(alloc, book, nodes, steps)?;
+    let changes = rows_for(alloc, book, index, nodes, steps)?;
     graph.replace(changes)?;
     Ok(())
 }
@@ -45,6 +48,7 @@ fn settle_rows<R: ReplaceRows<L>, L>(
 pub(crate) fn settle<R: ReplaceRows<L>, L>(
     alloc: Global,
     book: &Book,
+    index: &Index,
     graph: &mut R,
     worlds: &mut Worlds,
     others: &[NodeId],
@@ -52,6 +56,7 @@ pub(crate) fn settle<R: ReplaceRows<L>, L>(
     steps: &mut Steps<L>,
 ) -> Result<(), NoMemory>
     requires sound { IsSoundBook book.now }
+    requires index { IsIndex book.now.game index.now }
     requires as_long { length (R.rows graph.old) ≡ node_count (shape_of book.now.game) }
     requires nodes { All (λ n. n.0 < node_count (shape_of book.now.game)) nodes.now }
     requires others { All (λ n. n.0 < node_count (shape_of book.now.game)) others.now }
@@ -65,7 +70,7 @@ pub(crate) fn settle<R: ReplaceRows<L>, L>(
     ensures steps { OnOk result (steps.new ≤ steps.old + length others.now + 6 * size_of_all (rows_of book.now.game) nodes.now worlds.old worlds.new) }
     ensures later { steps.old ≤ steps.new }
 {
-    settle_rows(alloc, book, graph, others, steps)?;
+    settle_rows(alloc, book, index, graph, others, steps)?;
     worlds.repair_all(
         graph,
         book.barred.as_slice(),

@@ -4,6 +4,7 @@
 -- kind; they do not stand in the tree of an accepted text.
 use Rattle.std.specs.Prelude.{◌≡◌, ◌≢◌, ℕ, ℤ, pos, ◌||◌, Bool, if◌then◌else◌, List, [], ◌∷◌, ◌++◌, Option, None, Some, option_and_then, is_some, unwrap_or, length, nat_le, nat_lt, Result, Ok, Err}
 use Rattle.std.specs.Option.{option_to_list}
+pub use Rattle.plan_base.specs.Binds.{◌▸◌}
 use Rattle.json_text.specs.Kept.{Kept}
 use Rattle.name_table.specs.Names.{place_of, with_name}
 use Rattle.fractions.specs.Fraction.{Fraction}
@@ -24,12 +25,6 @@ use Rattle.prototype_fields.specs.Numbers.{hundredths, numeral_reading, energy_r
 -- a value, or a fault
 abbrev pub Reading : Type 0 → Type 0
 Reading A = Result A FieldFault
-
--- first this, and then what the value gives
-infixr 1 ◌▸◌
-abbrev pub ◌▸◌ : {A B : Type 0} → Reading A → (A → Reading B) → Reading B
-(Ok value) ▸ next = next value
-(Err fault) ▸ next = Err fault
 
 -- what a call answers that lends its value
 abbrev pub seen_as : {A B E : Type 0} → (A → B) → Result A E → Result B E

@@ -2,7 +2,7 @@
 use crate::faults::is_dump_fault;
 use crate::trees::wanted;
 use craft_reader::DumpFault;
-use dump_reader::{Draft, read_game};
+use dump_reader::{Draft, read_draft};
 use json_text::{JsonFault, SpanTree, Wanted, read_spans};
 use plan_base::NoMemory;
 use std::alloc::Global;
@@ -59,7 +59,7 @@ fn is_read_small(read: &Result<Draft, DumpFault>) -> bool {
 fn is_tree_small(alloc: Global, tree: &Result<SpanTree<'_>, JsonFault>) -> bool {
     match tree {
         Ok(tree) => {
-            let read = read_game(alloc, tree);
+            let read = read_draft(alloc, tree);
             is_read_small(&read)
         }
         Err(_) => false,
@@ -92,7 +92,7 @@ fn is_tree_refused(
 ) -> bool {
     match tree {
         Ok(tree) => {
-            let read = read_game(alloc, tree);
+            let read = read_draft(alloc, tree);
             is_refused(&read, fault_words)
         }
         Err(_) => false,

@@ -4,10 +4,9 @@ use Rattle.std.specs.Prelude.{All, IfSome}
 use Rattle.std.proofs.lemmas.List.Elements.{All-append, All-weaker}
 use Rattle.plan_base.specs.Shape.{node_count}
 use Rattle.plan_base.specs.declared.ids.RecipeId.{RecipeId}
-use Rattle.game_types.specs.Nodes.{shape_of}
+use Rattle.game_types.specs.Nodes.{node_limit, shape_of}
 use Rattle.game_types.specs.Sound.{IsSound, IsSoundItem, IsSoundModule, IsSoundRecipe, IsSoundSource, IsSoundKind, IsSoundMachine, IsSoundTech}
 use Rattle.game_types.specs.declared.games.Game.{Game}
-use Rattle.game_types.specs.declared.games.TheConstants.{NODE_LIMIT}
 use Rattle.game_types.specs.declared.goods.Item.{Item}
 use Rattle.game_types.specs.declared.goods.Module.{Module}
 use Rattle.game_types.specs.declared.machinery.Machine.{Machine}
@@ -70,7 +69,7 @@ module _ (g : Game) (recipes : List Recipe) (names : List (List ℕ)) where
     ingredients = h.ingredients;
   }
 
-  pub grown_sound : IsSound g → All (IsSoundRecipe g) recipes → length names ≡ length recipes → node_count (shape_of g) + length recipes ≤ NODE_LIMIT → IsSound (grown g recipes names)
+  pub grown_sound : IsSound g → All (IsSoundRecipe g) recipes → length names ≡ length recipes → node_count (shape_of g) + length recipes ≤ node_limit → IsSound (grown g recipes names)
   grown_sound h sound as_many few = record {
     item_names = h.item_names;
     fluid_names = h.fluid_names;

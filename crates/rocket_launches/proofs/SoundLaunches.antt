@@ -4,12 +4,11 @@ use Rattle.std.proofs.lemmas.List.{length-map}
 use Rattle.std.specs.Prelude.{All, IfOk, IsSomeAnd, option_and_then, slice_get, slice_index_or}
 use Rattle.std.proofs.lemmas.Option.{slice_get-get_or, slice_get_cases, slice_get_past}
 use Rattle.plan_base.specs.Shape.{node_count}
-use Rattle.game_types.specs.Nodes.{shape_of}
+use Rattle.game_types.specs.Nodes.{node_limit, shape_of}
 use Rattle.game_types.specs.Sound.{IsSound}
 use Rattle.game_types.specs.declared.games.Game.{Game}
 use Rattle.game_types.specs.declared.machinery.Machine.{Machine}
 use Rattle.game_types.specs.declared.recipes.Recipe.{Recipe}
-use Rattle.game_types.specs.declared.games.TheConstants.{NODE_LIMIT}
 use Rattle.craft_reader.specs.declared.fault.DumpFault.{DumpFault}
 use Rattle.craft_reader.specs.Faults.{GivesDump}
 use Rattle.prototype_fields.specs.declared.fault.FieldCode.{FieldCode}
@@ -32,17 +31,17 @@ IsLaunched g new = IsSound new × (new.fluids ≡ g.fluids)
 
 with_launches_sound : (g : Game) → IsSound g → IfOk (with_launches g) (IsLaunched g)
 unfolding with_launches flight_beyond
-with_launches_sound g sound = by_taken (flight_taken g) (slice_get (flights g) (NODE_LIMIT - node_count (shape_of g))) refl
+with_launches_sound g sound = by_taken (flight_taken g) (slice_get (flights g) (node_limit - node_count (shape_of g))) refl
   where
     new : Game
     new = grown g (map (launch_recipe g) (flights g)) (map (launch_name g) (flights g))
 
-    by_taken : (taken beyond : Option Flight) → slice_get (flights g) (NODE_LIMIT - node_count (shape_of g)) ≡ beyond
+    by_taken : (taken beyond : Option Flight) → slice_get (flights g) (node_limit - node_count (shape_of g)) ≡ beyond
         → IfOk (unless_some g Twice taken ▷ λ _. unless_some g Limit beyond ▷ λ _. Ok new) (IsLaunched g)
     by_taken (Some flight) beyond is = tt
     by_taken None (Some flight) is = tt
     by_taken None None is =
-        let few = no_further (flights g) (NODE_LIMIT - node_count (shape_of g)) is in
+        let few = no_further (flights g) (node_limit - node_count (shape_of g)) is in
         let nodes = sound.nodes in
         let recipes : length (map (launch_recipe g) (flights g)) ≡ length (flights g) = length-map (flights g) (launch_recipe g) in
         let names : length (map (launch_name g) (flights g)) ≡ length (flights g) = length-map (flights g) (launch_name g) in
@@ -57,11 +56,11 @@ answer_fluids g sound (Ok new) gives = (subst (λ (r : Result Game DumpFault). I
 answer_fluids g sound (Err fault) gives = tt
 
 -- ---- what is answered by the names that were added
-pub all_launched : (g : Game) (names : List (List ℕ)) → IsSound g → node_count (shape_of g) + length (flights g) ≤ NODE_LIMIT → names ≡ map (launch_name g) (flights g) → first_taken g.recipe_names [] names ≡ None
+pub all_launched : (g : Game) (names : List (List ℕ)) → IsSound g → node_count (shape_of g) + length (flights g) ≤ node_limit → names ≡ map (launch_name g) (flights g) → first_taken g.recipe_names [] names ≡ None
     → with_launches g ≡ Ok (record g { recipes = g.recipes ++ map (launch_recipe g) (flights g); recipe_names = g.recipe_names ++ map (launch_name g) (flights g) })
 unfolding with_launches flight_taken flight_beyond
 all_launched g names sound few are none =
-    let past : slice_get (flights g) (NODE_LIMIT - node_count (shape_of g)) ≡ None = slice_get_past (flights g) (NODE_LIMIT - node_count (shape_of g)) (omega (arith, few)) in
+    let past : slice_get (flights g) (node_limit - node_count (shape_of g)) ≡ None = slice_get_past (flights g) (node_limit - node_count (shape_of g)) (omega (arith, few)) in
     let free : first_taken g.recipe_names [] (map (launch_name g) (flights g)) ≡ None = ap (first_taken g.recipe_names []) (sym are) ∙ none in
     rw (free, past) refl
 
@@ -72,12 +71,12 @@ one_taken g names place one are taken is =
     let first : first_taken g.recipe_names [] (map (launch_name g) (flights g)) ≡ Some place = ap (first_taken g.recipe_names []) (sym are) ∙ taken in
     rw (first, is) refl
 
-pub names_launched : (g : Game) (all : List Flight) (names now : List (List ℕ)) (recipes : List Recipe) (new : Game) → IsSound g → all ≡ flights g → node_count (shape_of g) + length all ≤ NODE_LIMIT
+pub names_launched : (g : Game) (all : List Flight) (names now : List (List ℕ)) (recipes : List Recipe) (new : Game) → IsSound g → all ≡ flights g → node_count (shape_of g) + length all ≤ node_limit
     → names ≡ map (launch_name g) all → recipes ≡ map (launch_recipe g) all → first_taken g.recipe_names [] names ≡ None → now ≡ g.recipe_names ++ names
     → new ≡ record g { recipes = g.recipes ++ recipes; recipe_names = now } → with_launches g ≡ Ok new
 names_launched g all names now recipes new sound is few are made none added new_is =
     let all_names : names ≡ map (launch_name g) (flights g) = are ∙ ap (map (launch_name g)) is in
-    all_launched g names sound (subst (λ (xs : List Flight). node_count (shape_of g) + length xs ≤ NODE_LIMIT) is few) all_names none
+    all_launched g names sound (subst (λ (xs : List Flight). node_count (shape_of g) + length xs ≤ node_limit) is few) all_names none
     ∙ ap Ok (sym (
     new_is
     ∙ ap (λ rs. record g { recipes = g.recipes ++ rs; recipe_names = now }) (made ∙ ap (map (launch_recipe g)) is)
@@ -109,3 +108,23 @@ name_taken g all names now place d fault is are taken within fault_is =
     one_taken g names place (slice_index_or all place d) (are ∙ ap (map (launch_name g)) is) taken
     (subst (λ (xs : List Flight). slice_get xs place ≡ Some (slice_index_or all place d)) is (slice_get-get_or all place d (within_flights g all names place are within)))
     ∙ ap Err (sym (fault_is ∙ fault_same g now (slice_index_or all place d)))
+
+-- ---- what is answered where there are more flights than there may be nodes
+pub flight_known : (g : Game) → IsSound g → (all : List Flight) (place : ℕ) (d : Flight) → all ≡ flights g → place < length all → (slice_index_or all place d).silo.machine.0 < length g.machine_names
+flight_known g sound all place d is within = flight_named g sound all (map (launch_name g) all) place d is refl (subst (λ (n : ℕ). place < n) (sym (length-map all (launch_name g))) within)
+
+pub taken_first : (g : Game) (all : List Flight) (place : ℕ) (d : Flight) (fault : DumpFault) → all ≡ flights g → Some place ≡ first_taken g.recipe_names [] (map (launch_name g) all) → place < length all
+    → fault ≡ launch_fault g Twice (slice_index_or all place d) → with_launches g ≡ Err fault
+taken_first g all place d fault is taken within fault_is =
+    one_taken g (map (launch_name g) all) place (slice_index_or all place d) (ap (map (launch_name g)) is) (sym taken)
+    (subst (λ (xs : List Flight). slice_get xs place ≡ Some (slice_index_or all place d)) is (slice_get-get_or all place d within))
+    ∙ ap Err (sym fault_is)
+
+pub beyond_limit : (g : Game) (all : List Flight) (place : ℕ) (d : Flight) (fault : DumpFault) → all ≡ flights g → None ≡ first_taken g.recipe_names [] (map (launch_name g) all)
+    → place ≡ node_limit - node_count (shape_of g) → node_limit - node_count (shape_of g) < length all → fault ≡ launch_fault g Limit (slice_index_or all place d) → with_launches g ≡ Err fault
+unfolding with_launches flight_taken flight_beyond
+beyond_limit g all place d fault is free at within fault_is =
+    let none : first_taken g.recipe_names [] (map (launch_name g) (flights g)) ≡ None = ap (λ (xs : List Flight). first_taken g.recipe_names [] (map (launch_name g) xs)) (sym is) ∙ sym free in
+    let there : slice_get (flights g) (node_limit - node_count (shape_of g)) ≡ Some (slice_index_or all place d) =
+    ap (slice_get (flights g)) (sym at) ∙ subst (λ (xs : List Flight). slice_get xs place ≡ Some (slice_index_or all place d)) is (slice_get-get_or all place d (subst (λ (n : ℕ). n < length all) (sym at) within)) in
+    rw (none, there) (ap Err (sym fault_is))

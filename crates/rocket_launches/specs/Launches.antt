@@ -17,10 +17,9 @@ use Rattle.craft_reader.specs.Faults.{fault_in}
 use Rattle.craft_reader.specs.declared.fault.DumpFault.{DumpFault}
 use Rattle.dump_reader.specs.Dump.{◌▷◌}
 use Rattle.game_types.specs.Lookups.{item_at, recipe_at}
-use Rattle.game_types.specs.Nodes.{shape_of}
+use Rattle.game_types.specs.Nodes.{node_limit, shape_of}
 use Rattle.game_types.specs.Sound.{IsCrafter, IsGood, IsItem}
 use Rattle.game_types.specs.declared.games.Game.{Game}
-use Rattle.game_types.specs.declared.games.TheConstants.{NODE_LIMIT}
 use Rattle.game_types.specs.declared.goods.Item.{Item}
 use Rattle.game_types.specs.declared.machinery.Machine.{Machine}
 use Rattle.game_types.specs.declared.machinery.MachineKind.{MachineKind}
@@ -119,7 +118,7 @@ unfoldable pub flight_taken : Game → Option Flight
 flight_taken g = option_and_then (slice_get (flights g)) (first_taken g.recipe_names [] (map (launch_name g) (flights g)))
 
 unfoldable pub flight_beyond : Game → Option Flight
-flight_beyond g = slice_get (flights g) (NODE_LIMIT - node_count (shape_of g))
+flight_beyond g = slice_get (flights g) (node_limit - node_count (shape_of g))
 
 unfoldable pub launch_fault : Game → FieldCode → Flight → DumpFault
 launch_fault g code flight = fault_in (codes "rocket-silo") (name_at g.machine_names flight.silo.machine.0) (record { code = code; within = Prototype; key = Some RocketPartsRequired })

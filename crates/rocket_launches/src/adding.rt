@@ -1,13 +1,14 @@
 //! A game with its launches.
 ghost use Rattle.std.specs.Prelude.{◌≡◌, ◌≢◌, ◌<◌, ◌≤◌, ◌+◌, ◌-◌, ◌++◌, IfOk, length, map};
 ghost use Rattle.plan_base.specs.Shape.{node_count};
-ghost use Rattle.game_types.specs.Nodes.{shape_of};
+ghost use Rattle.game_types.specs.Nodes.{node_limit, shape_of};
 ghost use Rattle.craft_reader.specs.Faults.{GivesDump};
 ghost use Rattle.game_types.specs.Sound.{IsSound};
 ghost use Rattle.rocket_launches.specs.Launches.{AddsNames, IsThere, flights, launch_fault, launch_name, launch_recipe, with_launches};
 
 use crate::launches::{launch_names, launch_recipes, name_at};
 use crate::silos::{Flight, flights};
+use crate::taken::first_taken;
 use craft_reader::{DumpCode, DumpFault};
 use game_types::{Game, NODE_LIMIT, Recipe};
 use name_table::Names;
@@ -115,7 +116,7 @@ fn with_names(
 ) -> Result<Game, DumpFault>
     requires sound { IsSound game }
     requires flights { all.now ≡ flights game }
-    requires room { node_count (shape_of game) + length all.now ≤ NODE_LIMIT }
+    requires room { node_count (shape_of game) + length all.now ≤ node_limit }
     requires names { names.now ≡ map (launch_name game) all.now }
     requires recipes { recipes.items ≡ map (launch_recipe game) all.now }
     ensures { GivesDump (with_launches game) result }
@@ -137,9 +138,25 @@ fn with_names(
 // How many nodes there may still be.
 fn room(game: &Game) -> usize
     requires { IsSound game.now }
-    ensures { result ≡ NODE_LIMIT - node_count (shape_of game.now) }
+    ensures { result ≡ node_limit - node_count (shape_of game.now) }
 {
     (NODE_LIMIT - game.shape().len()) as usize
+}
+
+// The fault of a game with more flights than there is room for.
+fn refused(alloc: Global, game: &Game, all: &[Flight]) -> DumpFault
+    requires sound { IsSound game.now }
+    requires flights { all.now ≡ flights game.now }
+    requires more { node_limit - node_count (shape_of game.now) < length all.now }
+    ensures { result.code ≢ DumpCode.NoMemory → with_launches game.now ≡ Err result }
+{
+    let Ok(taken) = first_taken(alloc, game, all) else {
+        return DumpFault::of_code(alloc, DumpCode::NoMemory);
+    };
+    match taken {
+        Some(place) => launch_fault(alloc, game, FieldCode::Twice, &all[place]),
+        None => launch_fault(alloc, game, FieldCode::Limit, &all[room(game)]),
+    }
 }
 
 // The game with its launches.
@@ -152,8 +169,7 @@ fn launched(alloc: Global, game: Game) -> Result<Game, DumpFault>
     };
     let all = flights.as_slice();
     if room(&game) < all.len() {
-        // Open: which fault it is, as far as no name was looked at that comes after the limit.
-        return Err(DumpFault::of_code(alloc, DumpCode::NoMemory));
+        return Err(refused(alloc, &game, all));
     }
     let Ok(names) = launch_names(alloc, &game, all) else {
         return Err(DumpFault::of_code(alloc, DumpCode::NoMemory));

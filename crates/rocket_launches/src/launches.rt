@@ -83,8 +83,9 @@ pub fn name_at(names: &Names, place: u32) -> &str
     names.name_of(place)
 }
 
+/// The name of a flight's launch.
 #[tactic(auto, unfolding(crate::specs::Launches::launch_name))]
-fn launch_name(alloc: Global, game: &Game, flight: &Flight) -> Result<Text, NoMemory>
+pub fn launch_name(alloc: Global, game: &Game, flight: &Flight) -> Result<Text, NoMemory>
     requires sound { IsSound game.now }
     requires there { IsThere game.now flight.now }
     ensures { IfOk result (λ name. name ≡ launch_name game.now flight.now) }

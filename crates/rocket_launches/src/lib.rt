@@ -4,6 +4,7 @@
 mod adding;
 mod launches;
 mod silos;
+mod taken;
 
 pub use adding::add_launches;
 pub use silos::{Flight, Silo};

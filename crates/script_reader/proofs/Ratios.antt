@@ -6,7 +6,7 @@ use Rattle.fractions.specs.declared.numeral.NumeralFault.TheVariants.{NotNumeral
 use Rattle.fractions.specs.Fraction.{Fraction}
 use Rattle.fractions.specs.Numeral.{Numeral, Writes, magnitude, limit}
 use Rattle.fractions.specs.Quotient.{Quotient, WritesQuotient}
-use Rattle.fractions.specs.Reading.{Gives, GivesQuotient, ReadsRatio}
+use Rattle.fractions.specs.Reading.{GivesNumeral, GivesQuotient, ReadsRatio}
 use Rattle.fractions.proofs.Order.{<ʳ_not_≤ʳ}
 use Rattle.script_reader.specs.declared.command.ScriptFault.{ScriptFault}
 use Rattle.script_reader.specs.declared.command.ScriptFault.TheVariants.{UnknownCommand, WrongWords, BadNumber, BadQuoting, BadObject, NoMemory}
@@ -14,7 +14,7 @@ use Rattle.script_reader.specs.Reading.{the_one, Answers}
 use Rattle.script_reader.specs.Arguments.{ratio, ratio_or}
 
 -- what is refused has no value
-pub no_ratio : (text : List ℕ) (fault : NumeralFault) → ((n : Numeral) → Writes text n → Gives (Err fault) n) → ((q : Quotient) → WritesQuotient text q → GivesQuotient (Err fault) q) → (x : Fraction) → ¬ ReadsRatio text (Ok x)
+pub no_ratio : (text : List ℕ) (fault : NumeralFault) → ((n : Numeral) → Writes text n → GivesNumeral (Err fault) n) → ((q : Quotient) → WritesQuotient text q → GivesQuotient (Err fault) q) → (x : Fraction) → ¬ ReadsRatio text (Ok x)
 no_ratio text NotNumeral f g x h = ⊎_elim (λ n. f n.0 n.1) (λ q. g q.0 q.1) h
 no_ratio text TooLarge f g x h = ⊎_elim (λ n. <ʳ_not_≤ʳ (magnitude n.0) limit n.2.0 (f n.0 n.1)) (λ q. g q.0 q.1 q.2.0) h
 

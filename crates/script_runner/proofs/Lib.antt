@@ -4,4 +4,7 @@ pub mod LinesLemmas
 pub mod PlanLemmas
 pub mod SessionLemmas
 pub mod SoFarLemmas
+pub mod ProvingLemmas
+pub mod TrialLemmas
+pub mod TrialNotes
 pub mod WritingLemmas

@@ -27,7 +27,7 @@ pub record SoFar (first now : Planned) (script rest : List ℕ) (count : ℕ) (r
   pub steps : new ≤ old + work answers
   pub later : old ≤ new
 
-pub so_far_first : (first : Planned) (script : List ℕ) (found : List SolveAnswer) (known : Option (List ℕ)) (steps : ℕ) → found ≡ [] → SoFar first first script script 0 false found known known steps steps
+unfoldable pub so_far_first : (first : Planned) (script : List ℕ) (found : List SolveAnswer) (known : Option (List ℕ)) (steps : ℕ) → found ≡ [] → SoFar first first script script 0 false found known known steps steps
 so_far_first first script found known steps none = record {
   answers = [];
   session = session_first first;
@@ -40,7 +40,7 @@ so_far_first first script found known steps none = record {
   later = omega arith;
 }
 
-drop_next : (lines : List (List ℕ)) (count : ℕ) (line : List ℕ) (more : List (List ℕ)) → drop count lines ≡ line ∷ more
+pub drop_next : (lines : List (List ℕ)) (count : ℕ) (line : List ℕ) (more : List (List ℕ)) → drop count lines ≡ line ∷ more
     → (count < length lines) × (drop (suc count) lines ≡ more) × (take (suc count) lines ≡ take count lines ++ line ∷ [])
 drop_next [] zero line more is = cc
 drop_next [] (suc count) line more is = cc
@@ -102,8 +102,15 @@ so_far_next {first} {now} {script} {rest} {count} {refused} {found} {before} {mi
       later = omega (arith, so.later, later);
     }
 
+pub next_answers : {first now : Planned} {script rest : List ℕ} {count : ℕ} {refused : Bool} {found : List SolveAnswer} {before mid : Option (List ℕ)} {old new : ℕ} → (so : SoFar first now script rest count refused found before mid old new)
+    → (line more : List ℕ) (next : Planned) (text : List ℕ) (refuses : Bool) (solved : Option SolveAnswer) (after : Option (List ℕ)) (newer : ℕ) → (is : lines_of rest ≡ line ∷ lines_of more) → (told : AnswersLine (count + 1) line now next text refuses solved new newer)
+    → (later : new ≤ newer) → (appends : Appends mid after text) → (later_found : List SolveAnswer) → (grows : later_found ≡ found ++ option_to_list solved)
+    → (so_far_next so line more next text refuses solved after newer is told later appends later_found grows).answers ≡ so.answers ++ told.answer ∷ []
+unfolding so_far_next
+next_answers so line more next text refuses solved after newer is told later appends later_found grows = refl
+
 -- ---- the endings
-all_taken : (lines : List (List ℕ)) (count : ℕ) → drop count lines ≡ [] → take count lines ≡ lines
+pub all_taken : (lines : List (List ℕ)) (count : ℕ) → drop count lines ≡ [] → take count lines ≡ lines
 all_taken lines count none = sym (append-nil (take count lines)) ∙ (ap (λ t. take count lines ++ t) (sym none) ∙ take-append-drop count lines)
 
 tells_all : {first now : Planned} {script rest : List ℕ} {count : ℕ} {refused : Bool} {found : List SolveAnswer} {before after : Option (List ℕ)} {old new : ℕ} → (so : SoFar first now script rest count refused found before after old new)

@@ -5,3 +5,8 @@ pub mod Plans
 pub mod Scripts
 pub mod Sessions
 pub mod Writing
+pub mod Verdicts
+pub mod Trials
+pub mod Checks
+pub mod Certificates
+pub mod TrialLines

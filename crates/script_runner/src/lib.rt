@@ -2,17 +2,24 @@
 #![tactic(auto)]
 
 mod answer;
+mod checking;
 mod laws;
 mod lines;
 mod output;
+mod proving;
 mod reading;
 mod report;
 mod run;
 mod solutions;
+mod trial;
+mod verdict;
 
 pub use answer::{is_refusal, reply_to};
+pub use checking::{check_lines, has_many_lines, tell_many_lines};
 pub use laws::{planners_grow_from_the_base, plans_cost_least};
 pub use lines::{split_line, trim_return};
 pub use output::write_all;
+pub use proving::prove_script;
 pub use reading::reading_of;
 pub use run::{LINE_LIMIT, ScriptEnd, run_script};
+pub use verdict::Verdict;

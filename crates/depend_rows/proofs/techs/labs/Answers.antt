@@ -12,17 +12,17 @@ use Rattle.depend_rows.proofs.LabLemmas.{common_labs, lists_rise}
 use Rattle.depend_rows.proofs.Walks.{numbers_below}
 use Rattle.depend_rows.proofs.techs.labs.Goals as goal
 
-pub in_all-requires-clause-rise : goal.in_all-requires-clause-rise
-in_all-requires-clause-rise c =
+pub in_each-requires-clause-rise : goal.in_each-requires-clause-rise
+in_each-requires-clause-rise c =
     let game = c.args.game.now in
     let all_rise : List (Vec NodeId Global) → Type 0 = λ lists. (k : ℕ) → k < length lists → Rise (list_at lists k) in
     subst all_rise (sym c.as_slice-else-is_empty.ensures.value) (lists_rise c.args.index.now.takers.items (first_machine game) (length game.items) game.machines c.requires.index.takers)
 
-pub in_all-requires-clause-within : goal.in_all-requires-clause-within
-in_all-requires-clause-within c =
+pub in_each-requires-clause-within : goal.in_each-requires-clause-within
+in_each-requires-clause-within c =
     let game = c.args.game.now in
     let below : List ℕ → Type 0 = λ l. All (λ k. k < length c.as_slice-else-is_empty.result.now) l in
-    subst below (sym c.as_slice-else-is_empty-2.ensures.value)
+    subst below (sym c.as_slice-else-is_empty-3.ensures.value)
     (numbers_below (λ part. part.0.0) c.args.tech.now.ingredients c.as_slice.result.now c.in_ok-goods.goods.items (length c.as_slice-else-is_empty.result.now) (length game.items) c.requires.tech.ingredients c.as_slice.ensures c.in_ok-goods.ensures
     (ap length c.as_slice-else-is_empty.ensures.value ∙ c.requires.index.takers.as_long))
 
@@ -35,6 +35,6 @@ returns c =
     let goods = c.in_ok-goods.goods.items in
     let are : goods ≡ map (λ (part : GoodId × Fraction). part.0.0) parts = c.in_ok-goods.ensures ∙ ap (map (λ (part : GoodId × Fraction). part.0.0)) c.as_slice.ensures in
     let below : All (λ k. k < length game.items) goods = numbers_below (λ part. part.0.0) parts c.as_slice.result.now goods (length game.items) (length game.items) c.requires.tech.ingredients c.as_slice.ensures c.in_ok-goods.ensures refl in
-    let common : AreCommon lists goods c.in_ok-nodes.nodes.items = rw (c.as_slice-else-is_empty.ensures.value, c.as_slice-else-is_empty-2.ensures.value) at c.in_ok-nodes.ensures in
+    let common : AreCommon lists goods c.in_ok-nodes.nodes.items = rw (c.as_slice-else-is_empty.ensures.value, c.as_slice-else-is_empty-3.ensures.value) at c.in_ok-nodes.ensures in
     let some : 0 < length goods = grind (arith, nat_tests, c.is_empty.ensures, c.if-is_empty.false) in
     common_labs lists (first_machine game) (length game.items) game.machines parts goods c.in_ok-nodes.nodes.items c.requires.index.takers are some below common

@@ -1,12 +1,18 @@
-use Rattle.std.proofs.Common.{◌∙◌, ap, length, sym, arith}
-use Rattle.fluid_variants.specs.Contents.{contents}
+use Rattle.std.proofs.Common.{◌∙◌, ap, length, subst, sym, arith}
+use Rattle.std.specs.Prelude.{All}
+use Rattle.fluid_temperatures.specs.Temperatures.{IsRising}
+use Rattle.fluid_temperatures.proofs.Rising.{all_rise}
+use Rattle.fluid_temperatures.specs.Contents.{contents}
 use Rattle.fluid_variants.specs.Places.{Listed}
 use Rattle.fluid_variants.specs.Records.{all_records}
 use Rattle.fluid_variants.proofs.AssemblyLemmas.{as_many_lists, places_room, split_is}
 use Rattle.fluid_variants.proofs.assembly.split.Goals as goal
 
-pub make-requires : goal.make-requires
-make-requires c = places_room c.args.game c.args.lists.items c.len-items.result c.requires.lists c.len-items.ensures c.requires.few
+pub make-requires-clause-rising : goal.make-requires-clause-rising
+make-requires-clause-rising c = subst (All IsRising) (sym c.requires.lists) (all_rise c.args.game)
+
+pub make-requires-clause-few : goal.make-requires-clause-few
+make-requires-clause-few c = places_room c.args.game c.args.lists.items c.len-items.result c.requires.lists c.len-items.ensures c.requires.few
 
 pub records-requires : goal.records-requires
 records-requires c = ap length c.as_slice.ensures ∙ as_many_lists c.args.game c.args.lists.items c.requires.lists ∙ sym (ap (λ (p : Listed). length p.lists) c.in_ok-places.ensures)

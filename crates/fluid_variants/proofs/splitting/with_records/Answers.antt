@@ -2,7 +2,7 @@ use Rattle.std.proofs.Common.{◌≡◌, ◌∙◌, true, false, Err, Some, ap, 
 use Rattle.std.proofs.lemmas.Grind.{common_steps}
 use Rattle.plan_base.specs.Shape.{node_count}
 use Rattle.game_types.specs.Nodes.{shape_of}
-use Rattle.fluid_variants.specs.Contents.{contents}
+use Rattle.fluid_temperatures.specs.Contents.{contents}
 use Rattle.fluid_variants.specs.Records.{all_names}
 use Rattle.fluid_variants.specs.Split.{split}
 use Rattle.fluid_variants.proofs.SplittingLemmas.{all_split, as_many, few_from, one_twice, too_many}

@@ -1,6 +1,6 @@
 use Rattle.std.proofs.Common.{sym, subst}
 use Rattle.fractions.specs.Numeral.{Numeral}
-use Rattle.fractions.specs.Reading.{Gives}
+use Rattle.fractions.specs.Reading.{GivesNumeral}
 use Rattle.fractions.proofs.Grammar.{numeral_sound, power_digits}
 use Rattle.fractions.proofs.ReadsAs.{reads_by, same_numeral, no_numeral}
 use Rattle.fractions.proofs.numeral.read_numeral.Goals as goal
@@ -20,7 +20,7 @@ returns-in-Some-clause-reading c =
 
 pub returns-in-Some-clause-unique : goal.returns-in-Some-clause-unique
 returns-in-Some-clause-unique c n w =
-    subst (λ (m : Numeral). Gives c.numeral_value.result m) (same_numeral c.args.text.now c.in-Some.written n (sym c.in-Some.ensures) w) c.numeral_value.ensures
+    subst (λ (m : Numeral). GivesNumeral c.numeral_value.result m) (same_numeral c.args.text.now c.in-Some.written n (sym c.in-Some.ensures) w) c.numeral_value.ensures
 
 pub returns-in-None-clause-reading : goal.returns-in-None-clause-reading
 returns-in-None-clause-reading c n w = no_numeral c.args.text.now n (sym c.in-None.ensures) w

@@ -1,4 +1,4 @@
-use Rattle.std.proofs.Common.{◌≡◌, ◌∙◌, ◌+◌, ap, sym, drop, arith}
+use Rattle.std.proofs.Common.{◌∙◌, ◌+◌, ap, sym, drop, arith}
 use Rattle.game_types.specs.Temperatures.{coolest, is_fit_variant}
 use Rattle.game_types.proofs.ChoiceLemmas.{coolest_next}
 use Rattle.game_types.proofs.choices.coolest.Goals as goal

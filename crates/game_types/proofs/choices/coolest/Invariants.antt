@@ -1,4 +1,4 @@
-use Rattle.std.proofs.Common.{◌≡◌, ◌+◌, drop, length}
+use Rattle.std.proofs.Common.{◌≡◌, ◌+◌, drop}
 use Rattle.std.specs.Prelude.{None}
 use Rattle.game_types.specs.Temperatures.{coolest, is_fit_variant}
 use Rattle.game_types.proofs.choices.coolest.Given as goal

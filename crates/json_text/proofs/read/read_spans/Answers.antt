@@ -1,4 +1,4 @@
-use Rattle.std.proofs.Common.{◌∙◌, sym, arith, [], refl}
+use Rattle.std.proofs.Common.{◌∙◌, ◌≢◌, sym, subst, arith, [], refl}
 use Rattle.json_text.specs.Machine.{start, done}
 use Rattle.json_text.specs.Seen.{wishes}
 use Rattle.json_text.specs.SpanSeen.{span_seen}
@@ -7,7 +7,9 @@ use Rattle.json_text.proofs.Lexed.{said}
 use Rattle.json_text.proofs.SpanLemmas.{from-first, from-done-refused}
 use Rattle.json_text.proofs.Sound.{sound}
 use Rattle.json_text.proofs.Faults.{first_fault}
-use Rattle.json_text.specs.Accepted.{all_bounds}
+use Rattle.json_text.specs.Accepted.{IsFault, all_bounds}
+use Rattle.json_text.specs.declared.fault.JsonFault.{JsonFault}
+use Rattle.json_text.specs.declared.fault.JsonCode.TheVariants.{NoMemory}
 use Rattle.json_text.proofs.read.read_spans.Goals as goal
 
 pub returns-then-next-bytes-clause-tree : goal.returns-then-next-bytes-clause-tree
@@ -30,4 +32,6 @@ pub returns-clause-fault : goal.returns-clause-fault
 returns-clause-fault c = λ nm.
     let w = wishes c.args.wanted.now in
     let bytes = c.args.bytes.now in
-    first_fault w bytes c.in-Err.fault.code c.in-Err.fault.at (sym (from-first w bytes start) ∙ c.skip_space-at.ensures.skips w start tt ∙ c.in-Err.ensures.fault nm [] refl)
+    let had : c.in-Err.fault.code ≢ NoMemory = λ out. nm (c.settled.ensures.code ∙ out) in
+    subst (λ (f : JsonFault). IsFault w bytes f.code f.at) (sym (c.settled.ensures.same had))
+    (first_fault w bytes c.in-Err.fault.code c.in-Err.fault.at (sym (from-first w bytes start) ∙ c.skip_space-at.ensures.skips w start tt ∙ c.in-Err.ensures.fault had [] refl))

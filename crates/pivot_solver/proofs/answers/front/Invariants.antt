@@ -4,4 +4,4 @@ use Rattle.pivot_solver.specs.Numbers.{ListsEach}
 use Rattle.pivot_solver.proofs.answers.front.Given as goal
 
 abbrev pub invariant-loop-g : goal.invariant-loop-g
-invariant-loop-g l = ListsEach l.g (λ g x. x ≡ number_at l.row g) l.prices.items
+invariant-loop-g l = ListsEach l.g (λ g x. x ≡ number_at l.row.items g) l.prices.items

@@ -20,13 +20,13 @@ returns-in_ok-push-in-Ok c =
           (record {
             basis = with_item c.args.path.basis c.args.row c.args.enter;
             rows = with_items c.args.path.rows c.pivot.new.rows;
-            cost = with_items c.args.path.cost c.pivot.new.cost;
+            cost = c.pivot.new.cost;
             trail = c.push.new.self;
           })
           c.args.row c.args.enter (record { enter = c.name_of_place.result; leave = c.name_of_place-2.result }) c.requires.is_path c.requires.is_next
-          (pivoted_at c.args.row c.args.enter c.deref_mut.ensures.value c.deref_mut-2.ensures.value
+          (pivoted_at c.args.row c.args.enter c.deref_mut.ensures.value (λ i. c.args.path.cost.items)
           (sym (with_items_is c.args.path.rows c.pivot.new.rows (c.in-Ok.ensures.ok.row_count ∙ (ap length c.deref_mut.ensures.value ∙ sym c.args.path.rows.ok.0))))
-          (sym (with_items_is c.args.path.cost c.pivot.new.cost (c.in-Ok.ensures.ok.cost_row.length_is ∙ (ap (λ (x : List Fraction). length x) c.deref_mut-2.ensures.value ∙ sym c.args.path.cost.ok.0))))
+          (λ i. c.pivot.new.cost.items)
           c.in-Ok.ensures.ok)
           refl c.in_ok-push-in-Ok.ensures.items c.name_of_place.ensures (ap (λ (k : ℕ). name_at c.args.linear.now k) (sym leave) ∙ c.name_of_place-2.ensures),
       omega (arith, ap (λ (x : List Exchange). length x) c.in_ok-push-in-Ok.ensures.items, length-append {A = Exchange}),
@@ -40,7 +40,7 @@ returns-in-Err c =
     λ budget fewer. (
       path_wide c.args.linear.now budget c.args.path c.args.row c.args.enter (record { enter = c.name_of_place.result; leave = c.name_of_place-2.result }) c.in-Err.at c.place_of.result c.from_vec.result
           c.requires.is_path c.requires.is_next
-          (wide_at c.args.row c.args.enter c.in-Err.at c.deref_mut.ensures.value c.deref_mut-2.ensures.value c.in-Err.ensures.err)
+          (wide_at c.args.row c.args.enter c.in-Err.at c.deref_mut.ensures.value (λ i. c.args.path.cost.items) c.in-Err.ensures.err)
           c.place_of.ensures fewer c.from_vec.ensures c.name_of_place.ensures (ap (λ (k : ℕ). name_at c.args.linear.now k) (sym leave) ∙ c.name_of_place-2.ensures),
       tt,
     )

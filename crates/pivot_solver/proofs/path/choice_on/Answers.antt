@@ -6,7 +6,7 @@ use Rattle.pivot_solver.proofs.path.choice_on.Goals as goal
 
 pub choose-requires : goal.choose-requires
 choose-requires g c = (
-  tableau_at (system_of g.l) c.deref.ensures.value c.deref-2.ensures.value c.deref-3.ensures.value c.requires.1.1.1.1.tableau,
+  tableau_at (system_of g.l) c.deref.ensures.value c.deref-2.ensures.value (λ i. c.args.path.now.cost.items) c.requires.1.1.1.1.tableau,
   (
     refl,
     (

@@ -7,4 +7,5 @@ pub invariant_of-result : goal.invariant_of-result
 invariant_of-result c = (
   kept-first c.args.book c.args.graph c.args.worlds c.requires.sound c.requires.rows c.requires.none c.requires.worlds,
   subst (AreSoundTables c.args.book.game) (sym c.new.ensures.items) (no-tables c.args.book.game),
+  c.requires.index,
 )

@@ -1,6 +1,10 @@
-use Rattle.std.proofs.Common.{◌≡◌, ◌∙◌, ◌+◌, ◌≤◌, ap, arith}
+use Rattle.std.proofs.Common.{◌≡◌, ◌∙◌, ◌+◌, ◌≤◌, List, ap, subst, sym, arith}
+use Rattle.std.specs.Prelude.{All, Vec}
+use Rattle.std.specs.Global.{Global}
+use Rattle.fractions.specs.Fraction.{Fraction}
+use Rattle.fluid_temperatures.specs.Temperatures.{IsRising}
 use Rattle.plan_base.specs.declared.ids.GoodId.{GoodId}
-use Rattle.fluid_variants.specs.Contents.{contents}
+use Rattle.fluid_temperatures.specs.Contents.{contents}
 use Rattle.fluid_variants.specs.Records.{list_at, record_of, variant_offset}
 use Rattle.fluid_variants.proofs.PlaceLemmas.{made_of}
 use Rattle.fluid_variants.proofs.places.Places.made.Goals as goal
@@ -24,3 +28,6 @@ returns c =
     (made_of c.self.inside.items (contents c.self.inside.lists.items) c.self.inside.places.items c.self.inside.last c.args.self.now c.args.made.now c.plain-plain.result c.saturating_sub-number.result c.offset_in-offset.result
     c.self.invariant c.self.view_is c.plain-plain.ensures c.saturating_sub-number.ensures
     (c.offset_in-offset.ensures ∙ ap (λ lists. variant_offset (list_at (contents lists) c.saturating_sub-number.result) c.args.made.now.at) c.as_slice.ensures.value)).1
+
+pub offset_in-offset-requires : goal.offset_in-offset-requires
+offset_in-offset-requires c = subst (λ (ls : List (Vec Fraction Global)). All IsRising (contents ls)) (sym c.as_slice.ensures.value) c.self.invariant.rising

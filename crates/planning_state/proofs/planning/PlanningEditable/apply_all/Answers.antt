@@ -28,3 +28,6 @@ returns-in-Take-clause-fault g c =
     subst (λ (s : State). IfErr c.take_milestone.result (IsFaultOf (apply_edits effect_of s c.args.edits.now))) c.self.view_is
     (subst (λ (changes : List Change). IfErr c.take_milestone.result (IsFaultOf (apply_edits effect_of (state_of c.self.inside.book (milestones_of c.self.inside.worlds) c.self.inside.tables.items) changes))) (sym c.in-Take.ensures)
     (c.take_milestone.ensures.fault c.self.inside.tables.items))
+
+pub invariant_of-self-in-Take : goal.invariant_of-self-in-Take
+invariant_of-self-in-Take g c = (c.take_milestone.ensures.kept c.self.inside.graph c.self.invariant.0, c.self.invariant.1, c.self.invariant.2)

@@ -1,0 +1,4 @@
+pub mod Loops
+pub mod Once
+pub mod ReadingLemmas
+pub mod TreeLemmas

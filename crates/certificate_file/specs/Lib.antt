@@ -1,0 +1,4 @@
+pub mod Tree
+pub mod Said
+pub mod Reading
+pub mod Narrow

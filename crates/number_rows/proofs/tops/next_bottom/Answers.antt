@@ -1,0 +1,17 @@
+use Rattle.std.proofs.Common.{◌≡◌, ◌<◌, ◌*◌, ◌/◌, ℕ, sym, subst, arith, unsigned_abs}
+use Rattle.std.specs.Int.{◌∣◌}
+use Rattle.number_rows.proofs.Lists.{common_is}
+use Rattle.number_rows.proofs.Over.{own_is, wrap128}
+use Rattle.number_rows.proofs.tops.next_bottom.Goals as goal
+
+pub returns : goal.returns
+returns c =
+    let own = unsigned_abs (wrap128 c.denominator-own.result) in
+    let same : own ≡ c.args.number.now.den = own_is c.denominator-own.result c.args.number.now.den c.denominator-own.ensures.value c.denominator-own.ensures.narrow in
+    let d = c.common_divisor-common in
+    let all = common_is c.args.bottom own d.result c.requires.positive (subst (λ (k : ℕ). 0 < k) (sym same) c.args.number.now.positive) d.ensures.second d.ensures.first in (
+      all.0,
+      omega (arith, c.if-next.false),
+      all.1,
+      subst (λ (k : ℕ). k ∣ c.args.bottom * (own / d.result)) same all.2,
+    )

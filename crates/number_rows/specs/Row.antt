@@ -1,0 +1,15 @@
+-- How a row keeps its numbers: short, as whole numbers over one denominator, or each as a fraction.
+use Rattle.std.specs.Prelude.{◌≡◌, ℕ, ◌<◌, ◌^◌, ℤ, Bool, true, false, List, length, map}
+use Rattle.fractions.specs.Fraction.{Fraction, frac}
+use Rattle.number_rows.specs.Tops.{AreWithin}
+
+abbrev pub kept : Bool → ℕ → List ℤ → List Fraction → List Fraction
+kept true bottom tops numbers = map (λ t. frac t bottom) tops
+kept false bottom tops numbers = numbers
+
+pub record IsKept (bottom bound : ℕ) (tops : List ℤ) (numbers : List Fraction) : Type 0 where
+  pub same_length : length tops ≡ length numbers
+  pub positive : 0 < bottom
+  pub bottom_small : bottom < 2 ^ 62
+  pub bound_small : bound < 2 ^ 62
+  pub within : AreWithin tops bound

@@ -1,0 +1,8 @@
+//! Rows of fractions, kept as whole numbers over one denominator wherever that fits.
+#![tactic(auto)]
+
+mod long;
+mod row;
+mod tops;
+
+pub use row::Row;

@@ -1,0 +1,305 @@
+//! A row of numbers.
+
+ghost use Rattle.std.specs.Prelude.{◌≡◌, ◌≢◌, ◌<◌, ℕ, ◌^◌, pos, [], length, OnOk, IfErr, IfOk, IfSome, IsTrue, ◌↔◌};
+ghost use Rattle.std.specs.Bool.{OnTrue, OnFalse};
+ghost use Rattle.std.specs.Ordering.{MatchOrdering};
+ghost use Rattle.fractions.specs.Fraction.{zero_fraction, ◌/ʳ◌, ◌<ʳ◌, ◌≤ʳ◌};
+ghost use Rattle.fractions.specs.Limits.{IsNarrow};
+ghost use Rattle.linear_table.specs.Plans.{number_at};
+ghost use Rattle.linear_table.specs.Wide.{LessFits};
+ghost use Rattle.number_rows.specs.Changed.{AreNarrow, IsDividedRow, IsReducedRow};
+ghost use Rattle.number_rows.specs.Row.{kept};
+ghost use Rattle.number_rows.specs.Tops.{top_at};
+
+use crate::long::{divide_numbers, reduce_numbers};
+use crate::tops::{
+    LIMIT, combine, common_bottom, common_divisor, content, divide_all, keeps_within, long_product,
+    quotient, turn_all, write_numbers, write_tops,
+};
+use fractions::Ratio;
+use plan_base::NoMemory;
+use std::alloc::Global;
+use std::cmp::Ordering;
+use std::marker::Model;
+
+/// A row of fractions. It is kept as whole numbers over one denominator, which take few steps to add and multiply, wherever
+/// these are below 2^62, else each as a fraction.
+#[derive(Drop)]
+pub struct Row {
+    short: bool,
+    bottom: u64,
+    bound: u64,
+    tops: Vec<i64>,
+    numbers: Vec<Ratio>,
+}
+
+impl Model for Row {
+    ghost use Rattle.number_rows.specs.Changed.{Numbers, numbers_code};
+    ghost use Rattle.number_rows.specs.Row.{kept, IsKept};
+
+    ghost Value = { Numbers };
+
+    ghost coded = { numbers_code };
+
+    ghost view = { λ r. record { items = kept r.short r.bottom r.tops.items r.numbers.items } };
+
+    ghost invariant = { λ r. IsKept r.bottom r.bound r.tops.items r.numbers.items };
+}
+
+// So many zeros.
+fn zeros(alloc: Global, count: usize) -> Result<Vec<i64>, NoMemory>
+    ensures length_is { IfOk result (λ tops. length tops.items ≡ count) }
+    ensures zero { IfOk result (λ tops. (k : ℕ) → k < count → top_at tops.items k ≡ pos 0) }
+{
+    let mut tops = Vec::with_capacity(alloc, count)?;
+    for _k in 0..count {
+        tops.push(0)?;
+    }
+    Ok(tops)
+}
+
+// Writes each number of a short row as a fraction.
+fn write_kept(numbers: &mut [Ratio], tops: &[i64], bottom: u64, short: bool)
+    requires lengths { length numbers.old ≡ length tops.now }
+    requires positive { 0 < bottom }
+    requires small { bottom < 2 ^ 62 }
+    ensures { numbers.new ≡ kept short bottom tops.now numbers.old }
+{
+    if short {
+        write_numbers(numbers, tops, bottom);
+    }
+}
+
+impl Row {
+    /// A row of no numbers.
+    pub fn empty(alloc: Global) -> Row
+        ensures { result.items ≡ [] }
+    {
+        Row {
+            short: false,
+            bottom: 1,
+            bound: 0,
+            tops: Vec::new(alloc),
+            numbers: Vec::new(alloc),
+        }
+    }
+
+    /// A row of these numbers.
+    ///
+    /// # Errors
+    ///
+    /// `NoMemory` where memory could not be had.
+    pub fn from_numbers(alloc: Global, numbers: Vec<Ratio>) -> Result<Row, NoMemory>
+        ensures { IfOk result (λ row. row.items ≡ numbers.items) }
+    {
+        let tops = zeros(alloc, numbers.len())?;
+        let mut row = Row {
+            short: false,
+            bottom: 1,
+            bound: 0,
+            tops,
+            numbers,
+        };
+        row.shorten();
+        Ok(row)
+    }
+
+    /// How many numbers there are.
+    pub fn len(&self) -> usize
+        ensures { result ≡ length self.now.items }
+    {
+        self.tops.len()
+    }
+
+    /// The number at a place.
+    pub fn number(&self, k: usize) -> Ratio
+        requires { k < length self.now.items }
+        ensures { result ≡ number_at self.now.items k }
+    {
+        if self.short {
+            Ratio::part(self.tops[k], self.bottom as i64)
+        } else {
+            self.numbers[k]
+        }
+    }
+
+    /// Whether the number at a place is above 0.
+    pub fn is_above(&self, k: usize) -> bool
+        requires { k < length self.now.items }
+        ensures { IsTrue result ↔ (zero_fraction <ʳ number_at self.now.items k) }
+    {
+        if self.short {
+            self.tops[k] > 0
+        } else {
+            self.numbers[k].is_positive()
+        }
+    }
+
+    /// Whether the number at a place is below 0.
+    pub fn is_below(&self, k: usize) -> bool
+        requires { k < length self.now.items }
+        ensures { IsTrue result ↔ (number_at self.now.items k <ʳ zero_fraction) }
+    {
+        if self.short {
+            self.tops[k] < 0
+        } else {
+            self.numbers[k].is_neg()
+        }
+    }
+
+    /// Whether the number at a place is 0.
+    pub fn is_zero(&self, k: usize) -> bool
+        requires { k < length self.now.items }
+        ensures { IsTrue result ↔ (number_at self.now.items k ≡ zero_fraction) }
+    {
+        if self.short {
+            self.tops[k] == 0
+        } else {
+            self.numbers[k].is_zero()
+        }
+    }
+
+    /// How the quotients of two numbers of two rows compare, where both rows are short.
+    pub fn compare_short(&self, other: &Row, value: usize, enter: usize) -> Option<Ordering>
+        requires inside { (value < length self.now.items) × (enter < length self.now.items) }
+        requires other_inside { (value < length other.now.items) × (enter < length other.now.items) }
+        requires above { zero_fraction <ʳ number_at self.now.items enter }
+        requires other_above { zero_fraction <ʳ number_at other.now.items enter }
+        ensures { IfSome result (λ o. MatchOrdering o ((number_at self.now.items value /ʳ number_at self.now.items enter) <ʳ (number_at other.now.items value /ʳ number_at other.now.items enter)) ((number_at self.now.items value /ʳ number_at self.now.items enter) ≡ (number_at other.now.items value /ʳ number_at other.now.items enter)) ((number_at other.now.items value /ʳ number_at other.now.items enter) <ʳ (number_at self.now.items value /ʳ number_at self.now.items enter))) }
+    {
+        if self.short && other.short {
+            let first = long_product(self.tops[value], other.tops[enter]);
+            let second = long_product(other.tops[value], self.tops[enter]);
+            Some(first.cmp(&second))
+        } else {
+            None
+        }
+    }
+
+    // Takes out of a short row what its denominator and its numbers have in common.
+    fn cancel(&mut self)
+        ensures { self.new ≡ self.old }
+    {
+        if !self.short {
+            return;
+        }
+        let common = content(self.bottom, &self.tops);
+        self.bound = divide_all(&mut self.tops, common);
+        self.bottom = self.bottom / common;
+    }
+
+    // Makes a row short, where it fits.
+    fn shorten(&mut self)
+        ensures { self.new ≡ self.old }
+    {
+        if self.short {
+            return;
+        }
+        let Some(bottom) = common_bottom(&self.numbers) else {
+            return;
+        };
+        let fits = write_tops(&mut self.tops, &self.numbers, bottom);
+        self.bound = LIMIT - 1;
+        if fits {
+            self.bottom = bottom;
+            self.short = true;
+        }
+    }
+
+    /// Divides each number by the one at `enter`, or says which quotient is wide.
+    pub fn divide(&mut self, enter: usize) -> Result<(), usize>
+        requires inside { enter < length self.old.items }
+        requires not_zero { number_at self.old.items enter ≢ zero_fraction }
+        ensures ok { OnOk result (IsDividedRow self.old.items (number_at self.old.items enter) self.new.items) }
+        ensures err { IfErr result (λ k. (k < length self.old.items) × ¬ IsNarrow (number_at self.old.items k /ʳ number_at self.old.items enter)) }
+    {
+        if self.short {
+            let pivot = self.tops[enter];
+            turn_all(&mut self.tops, pivot < 0);
+            self.bottom = pivot.unsigned_abs();
+            self.cancel();
+            return Ok(());
+        }
+        let pivot = self.numbers[enter];
+        divide_numbers(&mut self.numbers, &pivot)
+    }
+
+    // Takes its number at `enter` times the pivot's row from a row, where both are short and stay within the limits.
+    fn reduce_short(&mut self, enter: usize, pivot_row: &Row) -> bool
+        requires inside { enter < length self.old.items }
+        requires width { length self.old.items ≡ length pivot_row.now.items }
+        ensures done { OnTrue result (IsReducedRow self.old.items (number_at self.old.items enter) pivot_row.now.items self.new.items) }
+        ensures not { OnFalse result (self.new ≡ self.old) }
+    {
+        if !self.short {
+            return false;
+        }
+        if !pivot_row.short {
+            return false;
+        }
+        let top = self.tops[enter];
+        let common = common_divisor(top.unsigned_abs(), pivot_row.bottom);
+        let scale = pivot_row.bottom / common;
+        let factor = quotient(top, common);
+        if !keeps_within(
+            self.bound,
+            scale,
+            pivot_row.bound,
+            factor.unsigned_abs(),
+            self.bottom,
+        ) {
+            return false;
+        }
+        self.bound = combine(
+            &mut self.tops,
+            scale as i64,
+            &pivot_row.tops,
+            factor,
+            self.bound,
+            pivot_row.bound,
+        );
+        self.bottom = self.bottom * scale;
+        true
+    }
+
+    // The same for any row, or which number that makes wide.
+    fn reduce_long(&mut self, enter: usize, pivot_row: &Row) -> Result<(), usize>
+        requires inside { enter < length self.old.items }
+        requires width { length self.old.items ≡ length pivot_row.now.items }
+        requires narrow { AreNarrow self.old.items }
+        ensures ok { OnOk result (IsReducedRow self.old.items (number_at self.old.items enter) pivot_row.now.items self.new.items) }
+        ensures err { IfErr result (λ k. (k < length self.old.items) × ¬ LessFits (number_at self.old.items k) (number_at self.old.items enter) (number_at pivot_row.now.items k)) }
+    {
+        write_kept(&mut self.numbers, &self.tops, self.bottom, self.short);
+        self.short = false;
+        let factor = self.numbers[enter];
+        reduce_numbers(&mut self.numbers, &factor, pivot_row)
+    }
+
+    /// Takes its number at `enter` times the pivot's row from a row, or says which number that makes wide.
+    pub fn reduce(&mut self, enter: usize, pivot_row: &Row) -> Result<(), usize>
+        requires inside { enter < length self.old.items }
+        requires width { length self.old.items ≡ length pivot_row.now.items }
+        requires narrow { AreNarrow self.old.items }
+        ensures ok { OnOk result (IsReducedRow self.old.items (number_at self.old.items enter) pivot_row.now.items self.new.items) }
+        ensures err { IfErr result (λ k. (k < length self.old.items) × ¬ LessFits (number_at self.old.items k) (number_at self.old.items enter) (number_at pivot_row.now.items k)) }
+    {
+        if self.is_zero(enter) {
+            return Ok(());
+        }
+        if self.reduce_short(enter, pivot_row) {
+            return Ok(());
+        }
+        self.cancel();
+        if self.reduce_short(enter, pivot_row) {
+            return Ok(());
+        }
+        match self.reduce_long(enter, pivot_row) {
+            Ok(()) => {
+                self.shorten();
+                Ok(())
+            }
+            Err(place) => Err(place),
+        }
+    }
+}

@@ -1,0 +1,251 @@
+//! Whole numbers of 64 bits that stand over one denominator.
+
+ghost use Rattle.std.specs.Prelude.{◌≡◌, ℕ, ◌<◌, ◌≤◌, ◌+◌, ◌*◌, ◌^◌, ℤ, pos, ◌*ℤ◌, ◌-ℤ◌, neg_ℤ, int_div, unsigned_abs, length, IfSome};
+ghost use Rattle.std.specs.Bool.{OnTrue};
+ghost use Rattle.std.specs.Int.{◌∣◌};
+ghost use Rattle.fractions.specs.Fraction.{frac};
+ghost use Rattle.fractions.specs.Gcd.{gcd};
+ghost use Rattle.number_rows.specs.Tops.{top_at, AreWithin, DividesAll, IsDividedBy, IsCombined, IsTurned, AreOver, DividesInto};
+
+use fractions::Ratio;
+
+/// Magnitudes and denominators stay below this.
+pub const LIMIT: u64 = 1 << 62;
+
+/// The greatest common divisor.
+pub fn common_divisor(first: u64, second: u64) -> u64
+    ensures exact { result ≡ gcd first second }
+    ensures positive { 0 < second → 0 < result }
+    ensures first { result ∣ first }
+    ensures second { result ∣ second }
+{
+    let mut a = first;
+    let mut b = second;
+    while b > 1 {
+        let rest = a % b;
+        a = b;
+        b = rest;
+    }
+    if b == 0 { a } else { 1 }
+}
+
+/// A divisor that a denominator and all numbers have in common.
+pub fn content(bottom: u64, tops: &[i64]) -> u64
+    requires positive { 0 < bottom }
+    requires small { (k : ℕ) → k < length tops.now → unsigned_abs (top_at tops.now k) < 2 ^ 62 }
+    ensures positive { 0 < result }
+    ensures bottom { result ∣ bottom }
+    ensures tops { DividesAll result tops.now }
+{
+    let mut common = bottom;
+    for k in 0..tops.len() {
+        common = common_divisor(tops[k].unsigned_abs(), common);
+    }
+    common
+}
+
+// A number divided by a natural, toward zero.
+pub fn quotient(top: i64, divisor: u64) -> i64
+    requires positive { 0 < divisor }
+    requires small { unsigned_abs top < 2 ^ 62 }
+    requires small_divisor { divisor < 2 ^ 62 }
+    ensures value { result ≡ int_div top (pos divisor) }
+    ensures small { unsigned_abs result ≤ unsigned_abs top }
+{
+    top / divisor as i64
+}
+
+// The greater of two numbers.
+fn greater(a: u64, b: u64) -> u64
+    ensures first { a ≤ result }
+    ensures second { b ≤ result }
+    ensures small { a < 2 ^ 62 → b < 2 ^ 62 → result < 2 ^ 62 }
+{
+    if a < b { b } else { a }
+}
+
+/// Divides each number by what divides all. Says how great their magnitudes are at most.
+pub fn divide_all(tops: &mut [i64], divisor: u64) -> u64
+    requires positive { 0 < divisor }
+    requires small_divisor { divisor < 2 ^ 62 }
+    requires small { (k : ℕ) → k < length tops.old → unsigned_abs (top_at tops.old k) < 2 ^ 62 }
+    requires divides { DividesAll divisor tops.old }
+    ensures divided { IsDividedBy tops.old divisor tops.new }
+    ensures within { AreWithin tops.new result }
+    ensures small { result < 2 ^ 62 }
+{
+    let mut bound = 0;
+    for k in 0..tops.len() {
+        let top = quotient(tops[k], divisor);
+        bound = greater(bound, top.unsigned_abs());
+        tops[k] = top;
+    }
+    bound
+}
+
+// Turns the sign of each number.
+fn negate_all(tops: &mut [i64])
+    requires { (k : ℕ) → k < length tops.old → unsigned_abs (top_at tops.old k) < 2 ^ 62 }
+    ensures length_is { length tops.new ≡ length tops.old }
+    ensures numbers { (k : ℕ) → k < length tops.old → top_at tops.new k ≡ neg_ℤ (top_at tops.old k) }
+{
+    for k in 0..tops.len() {
+        tops[k] = -tops[k];
+    }
+}
+
+/// Turns the sign of each number, where that is called for.
+pub fn turn_all(tops: &mut [i64], turned: bool)
+    requires { (k : ℕ) → k < length tops.old → unsigned_abs (top_at tops.old k) < 2 ^ 62 }
+    ensures { IsTurned tops.old turned tops.new }
+{
+    if turned {
+        negate_all(tops);
+    }
+}
+
+// One number times a scale, less another times a factor.
+fn combined(top: i64, scale: i64, other: i64, factor: i64) -> i64
+    requires { unsigned_abs top * unsigned_abs scale + unsigned_abs other * unsigned_abs factor < 2 ^ 62 }
+    ensures value { result ≡ top *ℤ scale -ℤ other *ℤ factor }
+    ensures small { unsigned_abs result < 2 ^ 62 }
+{
+    top * scale - other * factor
+}
+
+/// Makes of each number that number times the scale, less the other row's times the factor. Says how great their
+/// magnitudes are at most.
+pub fn combine(
+    tops: &mut [i64],
+    scale: i64,
+    others: &[i64],
+    factor: i64,
+    bound: u64,
+    other_bound: u64,
+) -> u64
+    requires lengths { length tops.old ≡ length others.now }
+    requires within { AreWithin tops.old bound }
+    requires others_within { AreWithin others.now other_bound }
+    requires bound_small { bound < 2 ^ 62 }
+    requires other_bound_small { other_bound < 2 ^ 62 }
+    requires fits { bound * unsigned_abs scale + other_bound * unsigned_abs factor < 2 ^ 62 }
+    ensures combined { IsCombined tops.old scale others.now factor tops.new }
+    ensures within { AreWithin tops.new result }
+    ensures small { result < 2 ^ 62 }
+{
+    let mut most = 0;
+    for k in 0..tops.len() {
+        let top = combined(tops[k], scale, others[k], factor);
+        most = greater(most, top.unsigned_abs());
+        tops[k] = top;
+    }
+    most
+}
+
+/// The product of two numbers.
+pub fn long_product(a: i64, b: i64) -> i128
+    requires first { unsigned_abs a < 2 ^ 62 }
+    requires second { unsigned_abs b < 2 ^ 62 }
+    ensures value { result ≡ a *ℤ b }
+    ensures small { unsigned_abs result < 2 ^ 124 }
+{
+    a as i128 * b as i128
+}
+
+/// Whether the products of a bound and a scale, of another and a factor, and of a denominator and the scale keep within
+/// the limit, the first two together.
+pub fn keeps_within(bound: u64, scale: u64, other_bound: u64, factor: u64, bottom: u64) -> bool
+    requires bound { bound < 2 ^ 62 }
+    requires scale { scale < 2 ^ 62 }
+    requires other_bound { other_bound < 2 ^ 62 }
+    requires factor { factor < 2 ^ 62 }
+    requires bottom { bottom < 2 ^ 62 }
+    ensures { OnTrue result ((bound * scale + other_bound * factor < 2 ^ 62) × (bottom * scale < 2 ^ 62)) }
+{
+    let first = bound as u128 * scale as u128;
+    let second = other_bound as u128 * factor as u128;
+    let bottom = bottom as u128 * scale as u128;
+    first + second < LIMIT as u128 && bottom < LIMIT as u128
+}
+
+/// Writes each number as a fraction.
+pub fn write_numbers(numbers: &mut [Ratio], tops: &[i64], bottom: u64)
+    requires lengths { length numbers.old ≡ length tops.now }
+    requires positive { 0 < bottom }
+    requires small { bottom < 2 ^ 62 }
+    ensures { AreOver tops.now bottom numbers.new }
+{
+    for k in 0..numbers.len() {
+        numbers[k] = Ratio::part(tops[k], bottom as i64);
+    }
+}
+
+// The denominator of a fraction and a denominator that it divides, as multiple of another.
+fn next_bottom(bottom: u64, number: &Ratio) -> Option<u64>
+    requires positive { 0 < bottom }
+    requires small { bottom < 2 ^ 62 }
+    ensures { IfSome result (λ d. (0 < d) × (d < 2 ^ 62) × (bottom ∣ d) × (number.now.den ∣ d)) }
+{
+    let own = number.denominator() as u128;
+    if own >= LIMIT as u128 {
+        return None;
+    }
+    let common = common_divisor(own as u64, bottom);
+    let next = bottom as u128 * (own as u64 / common) as u128;
+    if next >= LIMIT as u128 {
+        return None;
+    }
+    Some(next as u64)
+}
+
+/// A denominator below the limit that all fractions can be written over.
+pub fn common_bottom(numbers: &[Ratio]) -> Option<u64>
+    ensures { IfSome result (λ d. (0 < d) × (d < 2 ^ 62) × DividesInto numbers.now d) }
+{
+    let mut bottom = 1;
+    for k in 0..numbers.len() {
+        match next_bottom(bottom, &numbers[k]) {
+            Some(next) => bottom = next,
+            None => return None,
+        }
+    }
+    Some(bottom)
+}
+
+// The number that a fraction is over a denominator, where its magnitude is below the limit.
+fn top_over(number: &Ratio, bottom: u64) -> Option<i64>
+    requires positive { 0 < bottom }
+    requires small { bottom < 2 ^ 62 }
+    requires divides { number.now.den ∣ bottom }
+    ensures { IfSome result (λ t. (number.now ≡ frac t bottom) × (unsigned_abs t < 2 ^ 62)) }
+{
+    let own = number.numerator();
+    if own.unsigned_abs() >= LIMIT as u128 {
+        return None;
+    }
+    let top = own * (bottom / number.denominator() as u64) as i128;
+    if top.unsigned_abs() >= LIMIT as u128 {
+        return None;
+    }
+    Some(top as i64)
+}
+
+/// Writes each fraction over a denominator, where all fit.
+pub fn write_tops(tops: &mut [i64], numbers: &[Ratio], bottom: u64) -> bool
+    requires lengths { length tops.old ≡ length numbers.now }
+    requires positive { 0 < bottom }
+    requires small { bottom < 2 ^ 62 }
+    requires divides { DividesInto numbers.now bottom }
+    requires old_small { (k : ℕ) → k < length tops.old → unsigned_abs (top_at tops.old k) < 2 ^ 62 }
+    ensures length_is { length tops.new ≡ length tops.old }
+    ensures small { (k : ℕ) → k < length tops.new → unsigned_abs (top_at tops.new k) < 2 ^ 62 }
+    ensures over { OnTrue result (AreOver tops.new bottom numbers.now) }
+{
+    for k in 0..numbers.len() {
+        match top_over(&numbers[k], bottom) {
+            Some(top) => tops[k] = top,
+            None => return false,
+        }
+    }
+    true
+}

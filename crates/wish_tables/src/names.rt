@@ -1,0 +1,124 @@
+//! Names of goods, activities and rows.
+ghost use Rattle.game_types.specs.Sound.{IsSound};
+
+use game_types::{Activity, Game, Setup};
+use plan_base::{EntityId, GoodId, Kind, NoMemory, Text};
+use plan_report::object_word;
+use std::alloc::Global;
+
+/// The kind and the name of the thing of a kind at a place, empty past the last.
+pub fn name_at(game: &Game, kind: Kind, place: u32) -> &str {
+    let names = match kind {
+        Kind::Special => return "electricity",
+        Kind::Item => &game.item_names,
+        Kind::Fluid => &game.fluid_names,
+        Kind::Recipe => &game.recipe_names,
+        Kind::Source => &game.source_names,
+        Kind::Machine => &game.machine_names,
+        Kind::Tech => &game.tech_names,
+    };
+    if place < names.len() {
+        names.name_of(place)
+    } else {
+        ""
+    }
+}
+
+// The kind of a good of a table, and its place among those.
+fn good_place(game: &Game, good: GoodId) -> (Kind, u32)
+    requires { IsSound game.now }
+{
+    let shape = game.shape();
+    let power = shape.items + shape.fluids;
+    if good.0 < shape.items {
+        (Kind::Item, good.0)
+    } else if good.0 < power {
+        (Kind::Fluid, good.0 - shape.items)
+    } else if good.0 == power {
+        (Kind::Special, 1)
+    } else {
+        (Kind::Tech, good.0 - power - 1)
+    }
+}
+
+/// The name of a good of a table, without its kind.
+pub fn good_name(game: &Game, good: GoodId) -> &str
+    requires { IsSound game.now }
+{
+    let (kind, place) = good_place(game, good);
+    name_at(game, kind, place)
+}
+
+/// A good of a table as a word.
+pub fn good_text(alloc: Global, game: &Game, good: GoodId) -> Result<String, NoMemory>
+    requires { IsSound game.now }
+{
+    let (kind, place) = good_place(game, good);
+    Ok(object_word(alloc, kind, name_at(game, kind, place))?)
+}
+
+/// A machine as a word.
+pub fn machine_text(alloc: Global, game: &Game, machine: EntityId) -> Result<String, NoMemory> {
+    Ok(object_word(
+        alloc,
+        Kind::Machine,
+        name_at(game, Kind::Machine, machine.0),
+    )?)
+}
+
+/// What a set-up does as a word.
+pub fn activity_text(alloc: Global, game: &Game, activity: Activity) -> Result<String, NoMemory>
+    requires { IsSound game.now }
+{
+    let (kind, place) = match activity {
+        Activity::Craft(recipe) => (Kind::Recipe, recipe.0),
+        Activity::Mine(source) => (Kind::Source, source.0),
+        Activity::Pump(good) => good_place(game, good),
+        Activity::Boil(good) => good_place(game, good),
+        Activity::Generate => (Kind::Special, 1),
+        Activity::Research(tech) => (Kind::Tech, tech.0),
+    };
+    Ok(object_word(alloc, kind, name_at(game, kind, place))?)
+}
+
+/// The label of a row: the recipe's name, or what is done and with what.
+pub fn label_of(alloc: Global, game: &Game, setup: &Setup) -> Result<String, NoMemory>
+    requires { IsSound game.now }
+{
+    let (verb, name) = match setup.activity {
+        Activity::Craft(recipe) => ("", name_at(game, Kind::Recipe, recipe.0)),
+        Activity::Mine(source) => ("mine:", name_at(game, Kind::Source, source.0)),
+        Activity::Pump(good) => ("pump:", good_name(game, good)),
+        Activity::Boil(good) => ("heat:", good_name(game, good)),
+        Activity::Generate => match setup.at.as_slice().first() {
+            Some(fluid) => ("power:", good_name(game, *fluid)),
+            None => ("power:", name_at(game, Kind::Machine, setup.machine.0)),
+        },
+        Activity::Research(tech) => ("study:", name_at(game, Kind::Tech, tech.0)),
+    };
+    Ok(format!(in alloc; "{verb}{name}")?)
+}
+
+/// Names of a kind that have a text in them, at most eight.
+pub fn like_names(alloc: Global, game: &Game, kind: Kind, text: &str) -> Result<Vec<Text>, NoMemory>
+    requires { IsSound game.now }
+{
+    let mut found = Vec::new(alloc);
+    let shape = game.shape();
+    let count = match kind {
+        Kind::Special => 0,
+        Kind::Item => shape.items,
+        Kind::Fluid => shape.fluids,
+        Kind::Recipe => shape.recipes,
+        Kind::Source => shape.sources,
+        Kind::Machine => shape.machines,
+        Kind::Tech => shape.techs,
+    };
+    for place in 0..count {
+        let name = name_at(game, kind, place);
+        if found.len() < 8 && name != text && name.contains(text) {
+            found.push(Text::copy(alloc, name)?)?;
+        }
+    }
+    Ok(found)
+}

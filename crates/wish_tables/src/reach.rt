@@ -1,0 +1,122 @@
+//! What is reached, and what of it is taken as it is.
+ghost use Rattle.std.specs.Prelude.{◌≡◌, false, slice_index_or};
+ghost use Rattle.plan_base.specs.Shape.{count_of};
+ghost use Rattle.game_types.specs.Sound.{IsSound};
+ghost use Rattle.wish_tables.specs.Answers.{is_reached};
+
+use game_types::{Game, Product};
+use plan_base::{GoodId, Kind, NoMemory, Shape};
+use std::alloc::Global;
+
+fn count_of(shape: &Shape, kind: Kind) -> u32
+    ensures { result ≡ count_of shape.now kind }
+{
+    match kind {
+        Kind::Special => 3,
+        Kind::Item => shape.items,
+        Kind::Fluid => shape.fluids,
+        Kind::Recipe => shape.recipes,
+        Kind::Source => shape.sources,
+        Kind::Machine => shape.machines,
+        Kind::Tech => shape.techs,
+    }
+}
+
+/// Whether a mark stands at a place.
+pub fn is_marked(marks: &[bool], place: usize) -> bool
+    ensures { result ≡ slice_index_or marks.now place false }
+{
+    match marks.get(place) {
+        Some(mark) => *mark,
+        None => false,
+    }
+}
+
+/// Marks a place, where it is there.
+pub fn mark(marks: &mut [bool], place: usize) {
+    if let Some(mark) = marks.get_mut(place) {
+        *mark = true;
+    }
+}
+
+/// Whether a good is marked.
+pub fn is_good_marked(marks: &[bool], good: GoodId) -> bool {
+    is_marked(marks, good.0 as usize)
+}
+
+/// Marks a good.
+pub fn mark_good(marks: &mut [bool], good: GoodId) {
+    mark(marks, good.0 as usize);
+}
+
+/// Whether the thing of a kind at a place is there and reached.
+pub fn is_reached(game: &Game, reached: &[bool], kind: Kind, place: u32) -> bool
+    requires { IsSound game.now }
+    ensures { result ≡ is_reached game.now reached.now kind place }
+{
+    let shape = game.shape();
+    if place < count_of(&shape, kind) {
+        is_marked(reached, shape.node_of(kind, place).0 as usize)
+    } else {
+        false
+    }
+}
+
+/// Whether an item or a fluid is reached.
+pub fn is_good_reached(game: &Game, reached: &[bool], good: GoodId) -> bool
+    requires { IsSound game.now }
+{
+    let shape = game.shape();
+    good.0 < shape.items + shape.fluids && is_marked(reached, game.good_node(good).0 as usize)
+}
+
+/// Whether some of a product can be expected.
+pub fn is_expected(product: &Product) -> bool {
+    product.probability.is_positive() && (product.low.is_positive() || product.high.is_positive())
+}
+
+/// Whether some of a good can be expected of products.
+pub fn gives(products: &[Product], good: GoodId) -> bool {
+    products
+        .iter()
+        .any(|product| product.good == good && is_expected(product))
+}
+
+fn mark_products(marks: &mut [bool], products: &[Product]) {
+    for product in products {
+        if is_expected(product) {
+            mark_good(marks, product.good);
+        }
+    }
+}
+
+/// Marks for each item and fluid whether a reached source gives it.
+pub fn mined_goods(alloc: Global, game: &Game, reached: &[bool]) -> Result<Vec<bool>, NoMemory>
+    requires { IsSound game.now }
+{
+    let shape = game.shape();
+    let mut marks = vec![in alloc; false; (shape.items + shape.fluids) as usize]?;
+    for place in 0..shape.sources {
+        if is_reached(game, reached, Kind::Source, place) {
+            if let Some(source) = game.sources.as_slice().get(place as usize) {
+                mark_products(marks.as_mut_slice(), source.products.as_slice());
+            }
+        }
+    }
+    Ok(marks)
+}
+
+/// The reached items that are fuels.
+pub fn reached_fuels(alloc: Global, game: &Game, reached: &[bool]) -> Result<Vec<GoodId>, NoMemory>
+    requires { IsSound game.now }
+{
+    let mut fuels = Vec::new(alloc);
+    for place in 0..game.shape().items {
+        if let Some(item) = game.items.as_slice().get(place as usize) {
+            if item.fuel.is_some() && is_reached(game, reached, Kind::Item, place) {
+                fuels.push(GoodId(place))?;
+            }
+        }
+    }
+    Ok(fuels)
+}

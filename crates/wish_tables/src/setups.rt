@@ -1,0 +1,284 @@
+//! Set-ups: which of them can stand in a table, and how fast they are.
+ghost use Rattle.std.specs.Prelude.{◌≡◌, All, IfSome};
+ghost use Rattle.std.specs.Bool.{OnTrue};
+ghost use Rattle.game_types.specs.Sound.{IsBeacon, IsFluid, IsGood, IsItem, IsModule, IsSound, IsSoundActivity, IsSoundGroup, IsSoundSetup};
+ghost use Rattle.table_rows.specs.Setups.{IsFitting};
+
+use crate::{Wish, WishBeacon};
+use fractions::Ratio;
+use game_types::{Activity, BeaconGroup, Game, MachineKind, Setup};
+use plan_base::{EntityId, GoodId, Items, NoMemory};
+use power_rows::{Input, input_of};
+use std::alloc::Global;
+use table_rows::{RowFault, check_setup, column_of, row_rates};
+
+/// A machine that does something, with its fuel and the fluids that it takes before others.
+pub fn bare_setup(
+    alloc: Global,
+    activity: Activity,
+    machine: EntityId,
+    fuel: Option<GoodId>,
+    at: &[GoodId],
+) -> Result<Setup, NoMemory> {
+    let at = Vec::from_slice(alloc, at)?;
+    Ok(Setup {
+        activity,
+        machine,
+        fuel,
+        modules: Items::from_vec(Vec::new(alloc)),
+        beacons: Items::from_vec(Vec::new(alloc)),
+        at: Items::from_vec(at),
+    })
+}
+
+fn is_item(game: &Game, good: GoodId) -> bool
+    ensures { OnTrue result (IsItem game.now good.0) }
+{
+    (good.0 as usize) < game.items.len()
+}
+
+fn is_good(game: &Game, good: GoodId) -> bool
+    requires { IsSound game.now }
+    ensures { OnTrue result (IsGood game.now good.0) }
+{
+    let shape = game.shape();
+    good.0 < shape.items + shape.fluids
+}
+
+fn is_fluid(game: &Game, good: GoodId) -> bool
+    requires { IsSound game.now }
+    ensures { OnTrue result (IsFluid game.now good.0) }
+{
+    game.shape().items <= good.0 && is_good(game, good)
+}
+
+fn is_module(game: &Game, good: GoodId) -> bool
+    ensures { OnTrue result (IsModule game.now good) }
+{
+    match game.items.as_slice().get(good.0 as usize) {
+        Some(item) => item.module.is_some(),
+        None => false,
+    }
+}
+
+fn is_beacon(game: &Game, machine: EntityId) -> bool
+    ensures { OnTrue result (IsBeacon game.now machine) }
+{
+    match game.machines.as_slice().get(machine.0 as usize) {
+        Some(machine) => match machine.kind {
+            MachineKind::Beacon { .. } => true,
+            _ => false,
+        },
+        None => false,
+    }
+}
+
+fn are_modules(game: &Game, modules: &[(GoodId, u32)]) -> bool
+    ensures { OnTrue result (All (λ m. IsModule game.now m.0) modules.now) }
+{
+    modules.iter().all(|module| is_module(game, module.0))
+}
+
+fn is_group(game: &Game, group: &BeaconGroup) -> bool
+    ensures { OnTrue result (IsSoundGroup game.now group.now) }
+{
+    is_beacon(game, group.beacon) && are_modules(game, group.modules.as_slice())
+}
+
+fn is_activity(game: &Game, activity: Activity) -> bool
+    requires { IsSound game.now }
+    ensures { OnTrue result (IsSoundActivity game.now activity) }
+{
+    match activity {
+        Activity::Craft(recipe) => (recipe.0 as usize) < game.recipes.len(),
+        Activity::Mine(source) => (source.0 as usize) < game.sources.len(),
+        Activity::Pump(good) => is_good(game, good),
+        Activity::Generate => true,
+        Activity::Boil(good) => is_good(game, good),
+        Activity::Research(tech) => (tech.0 as usize) < game.techs.len(),
+    }
+}
+
+fn is_fuel(game: &Game, fuel: Option<GoodId>) -> bool
+    ensures { OnTrue result (IfSome fuel (λ good. IsItem game.now good.0)) }
+{
+    match fuel {
+        Some(good) => is_item(game, good),
+        None => true,
+    }
+}
+
+fn are_groups(game: &Game, groups: &[BeaconGroup]) -> bool
+    ensures { OnTrue result (All (IsSoundGroup game.now) groups.now) }
+{
+    groups.iter().all(|group| is_group(game, group))
+}
+
+fn are_fluids(game: &Game, goods: &[GoodId]) -> bool
+    requires { IsSound game.now }
+    ensures { OnTrue result (All (λ good. IsFluid game.now good.0) goods.now) }
+{
+    goods.iter().all(|good| is_fluid(game, *good))
+}
+
+// Whether all that a set-up names is there.
+fn is_sound(game: &Game, setup: &Setup) -> bool
+    requires { IsSound game.now }
+    ensures { OnTrue result (IsSoundSetup game.now setup.now) }
+{
+    is_activity(game, setup.activity)
+        && (setup.machine.0 as usize) < game.machines.len()
+        && is_fuel(game, setup.fuel)
+        && are_modules(game, setup.modules.as_slice())
+        && are_groups(game, setup.beacons.as_slice())
+        && are_fluids(game, setup.at.as_slice())
+}
+
+/// Whether a set-up can stand in a table.
+pub fn is_fitting(game: &Game, setup: &Setup) -> bool
+    requires { IsSound game.now }
+    ensures { OnTrue result (IsFitting game.now setup.now) }
+{
+    is_sound(game, setup) && check_setup(game, setup).is_ok()
+}
+
+/// Whether a boiler or a generator that can stand in a table takes a fluid in.
+pub fn takes_in(game: &Game, setup: &Setup, fluid: GoodId) -> bool
+    requires { IsSound game.now }
+{
+    if !is_sound(game, setup) {
+        return false;
+    }
+    match input_of(game, setup) {
+        Input::Fluid(good) => good == fluid,
+        _ => false,
+    }
+}
+
+/// How many machines one craft a second takes, where the set-up can stand in a table.
+pub fn machines_of(game: &Game, setup: &Setup) -> Option<Ratio>
+    requires { IsSound game.now }
+{
+    if !is_fitting(game, setup) {
+        return None;
+    }
+    match row_rates(game, setup) {
+        Ok(rates) => Some(rates.1.machines),
+        Err(_) => None,
+    }
+}
+
+/// What one craft adds to each good, where the set-up can stand in a table and no number is too wide.
+pub fn column_in(
+    alloc: Global,
+    game: &Game,
+    power: bool,
+    setup: &Setup,
+) -> Result<Option<Vec<(GoodId, Ratio)>>, NoMemory>
+    requires { IsSound game.now }
+{
+    if !is_fitting(game, setup) {
+        return Ok(None);
+    }
+    match column_of(alloc, game, power, setup) {
+        Ok(column) => Ok(Some(column)),
+        Err(RowFault::Wide(_)) => Ok(None),
+        Err(RowFault::NoMemory) => Err(NoMemory),
+    }
+}
+
+// How many modules a machine holds.
+fn slots_of(game: &Game, machine: EntityId) -> u32 {
+    match game.machines.as_slice().get(machine.0 as usize) {
+        Some(machine) => machine.slots,
+        None => 0,
+    }
+}
+
+// A module in so many slots.
+fn filled(alloc: Global, module: GoodId, slots: u32) -> Result<Items<(GoodId, u32)>, NoMemory> {
+    let mut modules = Vec::new(alloc);
+    if slots > 0 {
+        modules.push((module, slots))?;
+    }
+    Ok(Items::from_vec(modules))
+}
+
+// The modules that a machine is filled with.
+fn wished_modules(
+    alloc: Global,
+    game: &Game,
+    module: Option<GoodId>,
+    machine: EntityId,
+) -> Result<Items<(GoodId, u32)>, NoMemory> {
+    match module {
+        Some(module) => filled(alloc, module, slots_of(game, machine)),
+        None => Ok(Items::from_vec(Vec::new(alloc))),
+    }
+}
+
+// The beacons round a machine.
+fn wished_beacons(
+    alloc: Global,
+    game: &Game,
+    beacon: Option<WishBeacon>,
+) -> Result<Items<BeaconGroup>, NoMemory> {
+    let mut groups = Vec::new(alloc);
+    if let Some(beacon) = beacon {
+        let modules = filled(alloc, beacon.module, slots_of(game, beacon.beacon))?;
+        groups.push(BeaconGroup {
+            beacon: beacon.beacon,
+            count: beacon.count,
+            share: beacon.share,
+            modules,
+        })?;
+    }
+    Ok(Items::from_vec(groups))
+}
+
+// The set-up with modules and beacons, where it can stand in a table so.
+fn with_extras(
+    alloc: Global,
+    game: &Game,
+    setup: &Setup,
+    module: Option<GoodId>,
+    beacon: Option<WishBeacon>,
+) -> Result<Option<Setup>, NoMemory>
+    requires { IsSound game.now }
+{
+    let modules = wished_modules(alloc, game, module, setup.machine)?;
+    let beacons = wished_beacons(alloc, game, beacon)?;
+    let at = Vec::from_slice(alloc, setup.at.as_slice())?;
+    let full = Setup {
+        activity: setup.activity,
+        machine: setup.machine,
+        fuel: setup.fuel,
+        modules,
+        beacons,
+        at: Items::from_vec(at),
+    };
+    if is_fitting(game, &full) {
+        Ok(Some(full))
+    } else {
+        Ok(None)
+    }
+}
+
+/// A set-up with those of the wish's modules and beacons that it takes: both, else the modules, else the beacons, else none.
+pub fn dressed(alloc: Global, game: &Game, wish: &Wish, setup: Setup) -> Result<Setup, NoMemory>
+    requires { IsSound game.now }
+{
+    if wish.module.is_none() && wish.beacon.is_none() {
+        return Ok(setup);
+    }
+    if let Some(both) = with_extras(alloc, game, &setup, wish.module, wish.beacon)? {
+        return Ok(both);
+    }
+    if let Some(one) = with_extras(alloc, game, &setup, wish.module, None)? {
+        return Ok(one);
+    }
+    if let Some(one) = with_extras(alloc, game, &setup, None, wish.beacon)? {
+        return Ok(one);
+    }
+    Ok(setup)
+}
