@@ -4,7 +4,7 @@ use plan_base::{NoMemory, Text};
 use std::alloc::Global;
 
 /// The version of the programs.
-const VERSION: &str = "0.6.0";
+const VERSION: &str = "0.5.0";
 
 /// What the words of a program ask for.
 pub enum Asked<'a> {
