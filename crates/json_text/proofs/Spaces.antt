@@ -37,8 +37,3 @@ colon_spelled bytes at i end le lt within s c t = record {
   space_before = s;
   space_behind = t;
 }
-
--- a byte above a blank is no white space
-pub class_above : (b : ℕ) → 32 < b → class b ≡ Space → ⊥
-unfolding class
-class_above b above h = grind (arith, nat_tests)

@@ -46,7 +46,6 @@ pub enum LexGo {
 }
 
 /// A byte that can't stand there, behind a whole character.
-#[inline(always)]
 fn bad_byte(byte: u8) -> LexGo
     ensures { result ≡ bad_byte byte }
 {
@@ -58,7 +57,6 @@ fn bad_byte(byte: u8) -> LexGo
 }
 
 /// The first byte of a character that isn't ASCII.
-#[inline(always)]
 fn lead(byte: u8) -> LexGo
     ensures { result ≡ lead byte }
 {
@@ -83,7 +81,6 @@ fn lead(byte: u8) -> LexGo
     }
 }
 
-#[inline(always)]
 fn between(byte: u8) -> LexGo
     ensures { result ≡ between byte }
 {
@@ -101,7 +98,6 @@ fn between(byte: u8) -> LexGo
 }
 
 /// A further byte of a character.
-#[inline(always)]
 fn ranged(low: u8, high: u8, next: Lex, byte: u8) -> LexGo
     ensures { result ≡ ranged low high next byte }
 {
@@ -112,7 +108,6 @@ fn ranged(low: u8, high: u8, next: Lex, byte: u8) -> LexGo
     }
 }
 
-#[inline(always)]
 fn escape(byte: u8) -> LexGo
     ensures { result ≡ escape byte }
 {
@@ -134,7 +129,6 @@ fn escape(byte: u8) -> LexGo
 }
 
 /// The value of a hexadecimal digit.
-#[inline(always)]
 pub fn hex_of(byte: u8) -> Option<u8>
     ensures { result ≡ hex_of byte }
 {
@@ -147,7 +141,6 @@ pub fn hex_of(byte: u8) -> Option<u8>
 }
 
 /// A byte that must be this one.
-#[inline(always)]
 fn expect(wanted: u8, next: Lex, byte: u8) -> LexGo
     ensures { result ≡ expect wanted next byte }
 {
@@ -158,7 +151,6 @@ fn expect(wanted: u8, next: Lex, byte: u8) -> LexGo
     }
 }
 
-#[inline(always)]
 fn first_hex(byte: u8) -> LexGo
     ensures { result ≡ lex_next Hex0 byte }
 {
@@ -168,7 +160,6 @@ fn first_hex(byte: u8) -> LexGo
     }
 }
 
-#[inline(always)]
 fn second_hex(value: u8, byte: u8) -> LexGo
     ensures { result ≡ lex_next (Hex1 value) byte }
 {
@@ -185,7 +176,6 @@ fn second_hex(value: u8, byte: u8) -> LexGo
     }
 }
 
-#[inline(always)]
 fn third_hex(value: u16, byte: u8) -> LexGo
     ensures { result ≡ lex_next (Hex2 value) byte }
 {
@@ -195,7 +185,6 @@ fn third_hex(value: u16, byte: u8) -> LexGo
     }
 }
 
-#[inline(always)]
 fn last_hex(value: u32, byte: u8) -> LexGo
     ensures { result ≡ lex_next (Hex3 value) byte }
 {
@@ -212,7 +201,6 @@ fn last_hex(value: u32, byte: u8) -> LexGo
     }
 }
 
-#[inline(always)]
 fn low_first(high: u32, byte: u8) -> LexGo
     ensures { result ≡ lex_next (Low0 high) byte }
 {
@@ -228,7 +216,6 @@ fn low_first(high: u32, byte: u8) -> LexGo
     }
 }
 
-#[inline(always)]
 fn low_second(high: u32, byte: u8) -> LexGo
     ensures { result ≡ lex_next (Low1 high) byte }
 {
@@ -245,7 +232,6 @@ fn low_second(high: u32, byte: u8) -> LexGo
     }
 }
 
-#[inline(always)]
 fn low_third(high: u32, value: u16, byte: u8) -> LexGo
     ensures { result ≡ lex_next (Low2 high value) byte }
 {
@@ -255,7 +241,6 @@ fn low_third(high: u32, value: u16, byte: u8) -> LexGo
     }
 }
 
-#[inline(always)]
 fn low_last(byte: u8) -> LexGo
     ensures { result ≡ if_hex byte (Goes Between) }
 {
@@ -266,7 +251,6 @@ fn low_last(byte: u8) -> LexGo
 }
 
 /// What a byte does in a string.
-#[inline(always)]
 pub fn lex_next(lex: Lex, byte: u8) -> LexGo
     ensures { result ≡ lex_next lex byte }
 {

@@ -1,24 +1,15 @@
-use Rattle.std.proofs.Common.{length, ◌-◌, ◌≤◌}
-use Rattle.json_text.specs.Lanes.{AllPassBetween}
+use Rattle.std.proofs.Common.{length, ◌-◌, ◌≡◌, ◌≤◌, true}
+use Rattle.std.specs.Prelude.{slice_range}
+use Rattle.std.specs.List.{list_all}
 use Rattle.json_text.specs.Lexing.{is_plain}
 use Rattle.json_text.proofs.scan.plain_end.Given as goal
 
-abbrev pub invariant-groups : goal.invariant-groups
-invariant-groups l = record {
-  behind : l.at ≤ l.end;
-  within : l.end ≤ length l.bytes;
-  plain : AllPassBetween is_plain l.bytes l.at l.end;
+abbrev pub invariant-loop-i : goal.invariant-loop-i
+invariant-loop-i l = record {
+  behind : l.at ≤ l.i;
+  within : l.i ≤ length l.bytes;
+  plain : list_all is_plain (slice_range l.bytes l.at l.i) ≡ true;
 }
 
-abbrev pub decreases-groups : goal.decreases-groups
-decreases-groups l = length l.bytes - l.end
-
-abbrev pub invariant-loop-end : goal.invariant-loop-end
-invariant-loop-end l = record {
-  behind : l.at ≤ l.end;
-  within : l.end ≤ length l.bytes;
-  plain : AllPassBetween is_plain l.bytes l.at l.end;
-}
-
-abbrev pub decreases-loop-end : goal.decreases-loop-end
-decreases-loop-end l = length l.bytes - l.end
+abbrev pub decreases-loop-i : goal.decreases-loop-i
+decreases-loop-i l = length l.bytes - l.i
