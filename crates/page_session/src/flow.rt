@@ -1,0 +1,172 @@
+//! The graph of a table's plan behind the last line of a script.
+ghost use Rattle.std.specs.Prelude.{◌≡◌};
+ghost use Rattle.game_types.specs.declared.games.Game.{Game};
+ghost use Rattle.planning_state.specs.States.{State};
+ghost use Rattle.planner_core.specs.Lines.{first_planned, IsSessionOf};
+
+use crate::session::{LINES, answered, form_at, place_of};
+use crate::told::PageFault;
+use linear_table::SolveAnswer;
+use plan_base::{NoMemory, Steps, Text};
+use plan_pages::{Shown, chart_of, dot_text};
+use plan_report::Reply;
+use planner_cli::Ready;
+use planner_core::{Planner, state_is_of_the_active_edits};
+use script_reader::Command;
+use script_runner::{split_line, trim_return};
+use std::alloc::Global;
+
+// The most exchanges of columns.
+const BUDGET: u32 = 20_000;
+
+// What a reply says of the plan of a table.
+enum News {
+    /// Nothing.
+    Old,
+    /// The table may have changed.
+    Gone,
+    /// This is its plan.
+    New,
+}
+
+fn is_plan(answer: &SolveAnswer) -> bool {
+    matches!(answer, SolveAnswer::Planned(_))
+}
+
+fn news_of(reply: &Reply, name: &str) -> News {
+    match reply {
+        Reply::Ok => News::Gone,
+        Reply::Nothing => News::Gone,
+        Reply::Solved { table, answer, .. } => {
+            if table.as_str() == name && is_plan(answer) {
+                News::New
+            } else {
+                News::Old
+            }
+        }
+        _ => News::Old,
+    }
+}
+
+// The plan that is known of a table behind a line.
+fn known_after(known: Option<Reply>, reply: Reply, name: &str) -> Option<Reply> {
+    match news_of(&reply, name) {
+        News::Old => known,
+        News::Gone => None,
+        News::New => Some(reply),
+    }
+}
+
+// Answers each line, and keeps what the last one leaves of the plan of a table.
+fn answer_lines<L>(
+    alloc: Global,
+    planner: &mut Planner,
+    script: &[u8],
+    name: &str,
+    steps: &mut Steps<L>,
+) -> Result<Option<Reply>, PageFault>
+    requires session { (base : State) × IsSessionOf base planner.old }
+    ensures history { (base : State) → IsSessionOf base planner.old → IsSessionOf base planner.new }
+{
+    let mut rest = script;
+    let mut number: u32 = 0;
+    let mut known = None;
+    while !rest.is_empty() {
+        if number >= LINES {
+            return Err(PageFault::TooManyLines);
+        }
+        number += 1;
+        let (line, more) = split_line(rest);
+        rest = more;
+        let reply = answered(alloc, planner, number, trim_return(line), steps)?;
+        known = known_after(known, reply, name);
+    }
+    Ok(known)
+}
+
+// Solves a table. What an open batch holds isn't done.
+fn solved<L>(
+    alloc: Global,
+    planner: &mut Planner,
+    name: &str,
+    steps: &mut Steps<L>,
+) -> Result<Reply, NoMemory>
+    requires session { (base : State) × IsSessionOf base planner.old }
+{
+    let number = 0;
+    let _closed = planner.step(number, Command::Cancel, steps)?;
+    let table = Text::copy(alloc, name)?;
+    planner.step(
+        number,
+        Command::Solve {
+            table,
+            budget: BUDGET,
+        },
+        steps,
+    )
+}
+
+// The graph of a reply that is a plan.
+fn graph_of(alloc: Global, planner: &Planner, reply: &Reply) -> Result<String, PageFault> {
+    let Reply::Solved {
+        table: name,
+        rows,
+        total,
+        answer,
+        ..
+    } = reply
+    else {
+        return Err(PageFault::NoPlan);
+    };
+    let SolveAnswer::Planned(plan) = answer else {
+        return Err(PageFault::NoPlan);
+    };
+    let game = planner.game();
+    let tables = planner.tables();
+    let Some(place) = place_of(tables, name.as_str()) else {
+        return Err(PageFault::NoPlan);
+    };
+    let Some(linear) = form_at(alloc, game, tables, place)? else {
+        return Err(PageFault::NoPlan);
+    };
+    let shown = Shown {
+        game,
+        table: &tables[place],
+        linear: &linear,
+        plan,
+        rows: rows.as_slice(),
+        total,
+    };
+    let chart = chart_of(alloc, &shown)?;
+    let text = dot_text(alloc, name.as_str(), &chart)?;
+    Ok(text)
+}
+
+/// The graph of the plan of a table behind the last line of a script. The table is solved anew unless the script's last solution of it
+/// still stands.
+///
+/// # Errors
+///
+/// `NoPlan` where there is no such table, or no plan of it is found within 20,000 exchanges of columns; `TooManyLines` where the
+/// script has more than 100,000 lines; or `NoMemory`.
+pub fn flow_of<L>(
+    alloc: Global,
+    ready: Ready,
+    name: &str,
+    steps: &mut Steps<L>,
+) -> Result<String, PageFault>
+    requires loaded { (game : Game) × (ready.planner ≡ first_planned game) }
+{
+    // A planner that was just loaded has a history.
+    state_is_of_the_active_edits();
+    let Ready {
+        mut planner,
+        script,
+    } = ready;
+    let known = answer_lines(alloc, &mut planner, &script, name, steps)?;
+    let reply = match known {
+        Some(reply) => reply,
+        None => solved(alloc, &mut planner, name, steps)?,
+    };
+    graph_of(alloc, &planner, &reply)
+}
