@@ -1,14 +1,14 @@
-//! The replies to a script about a dump, as one HTML page.
+//! The replies to a script about a dump as one HTML page, or the plan of a table as a graph.
 #![tactic(auto)]
 
-use page_session::{End, page_program, program_words};
+use page_session::{End, run_program, program_words};
 use plan_base::NoMemory;
 use std::process::ExitCode;
 
 fn main(rt: HostRuntime) -> ExitCode {
     let alloc = rt.alloc();
     let end = match program_words(&rt, alloc) {
-        Ok(words) => page_program(&rt, alloc, &words),
+        Ok(words) => run_program(&rt, alloc, &words),
         Err(NoMemory) => End {
             said: None,
             exit: 6,

@@ -1,4 +1,4 @@
-//! From the words of a program to a page, or to the graph of a table.
+//! From the words of the program to a page, or to the graph of a table.
 #![tactic(auto)]
 
 mod asked;
@@ -7,5 +7,5 @@ mod running;
 mod session;
 mod told;
 
-pub use running::{flow_program, page_program, program_words};
+pub use running::{program_words, run_program};
 pub use told::{End, NO_PLAN, PageFault};

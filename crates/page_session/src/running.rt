@@ -18,6 +18,12 @@ use std::{env, io};
 #[derive(Drop)]
 struct Program;
 
+// What the two forms of the program are for.
+const PAGE: &str =
+    "Writes the replies to a script as one HTML page. With --flow as the first word it writes the graph of a table.";
+
+const FLOW: &str = "Writes the plan of a table as a graph for Graphviz.";
+
 const DUMP: (&str, &str) = (
     "DUMP",
     "the file data-raw-dump.json that factorio --dump-data writes",
@@ -111,16 +117,10 @@ fn no_run<R: Print + Eprint>(rt: &R, asked: Result<Asked<'_>, NoMemory>) -> End 
     End { said: None, exit }
 }
 
-/// The run of `factoplan_page`: a script over a dump, as a page on standard output.
-pub fn page_program<R: Files + Print + Eprint>(rt: &R, alloc: Global, words: &[Text]) -> End {
+// A script over a dump, as a page on standard output.
+fn page_program<R: Files + Print + Eprint>(rt: &R, alloc: Global, words: &[Text]) -> End {
     let names = [DUMP, SCRIPT];
-    match read_words(
-        alloc,
-        "factoplan_page",
-        "Writes the replies to a script as one HTML page.",
-        &names,
-        words,
-    ) {
+    match read_words(alloc, "factoplan_page", PAGE, &names, words) {
         Ok(Asked::Given(values)) => match values.as_slice() {
             [dump, script] => page_run(rt, alloc, Names { dump, script }),
             _ => End {
@@ -132,16 +132,10 @@ pub fn page_program<R: Files + Print + Eprint>(rt: &R, alloc: Global, words: &[T
     }
 }
 
-/// The run of `factoplan_flow`: the plan of a table behind a script, as a graph on standard output.
-pub fn flow_program<R: Files + Print + Eprint>(rt: &R, alloc: Global, words: &[Text]) -> End {
+// The plan of a table behind a script, as a graph on standard output.
+fn flow_program<R: Files + Print + Eprint>(rt: &R, alloc: Global, words: &[Text]) -> End {
     let names = [DUMP, SCRIPT, TABLE];
-    match read_words(
-        alloc,
-        "factoplan_flow",
-        "Writes the plan of a table as a graph for Graphviz.",
-        &names,
-        words,
-    ) {
+    match read_words(alloc, "factoplan_flow", FLOW, &names, words) {
         Ok(Asked::Given(values)) => match values.as_slice() {
             [dump, script, table] => flow_run(rt, alloc, Names { dump, script }, table),
             _ => End {
@@ -150,5 +144,13 @@ pub fn flow_program<R: Files + Print + Eprint>(rt: &R, alloc: Global, words: &[T
             },
         },
         other => no_run(rt, other),
+    }
+}
+
+/// The run of the program: the graph of a table where `--flow` is the first word, else a page.
+pub fn run_program<R: Files + Print + Eprint>(rt: &R, alloc: Global, words: &[Text]) -> End {
+    match words {
+        [first, rest @ ..] if first.as_str() == "--flow" => flow_program(rt, alloc, rest),
+        _ => page_program(rt, alloc, words),
     }
 }
