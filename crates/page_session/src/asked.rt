@@ -1,9 +1,9 @@
-//! The words of a program, as clap reads them.
+//! The words of the program, as clap reads them.
 use clap::{Arg, Command, Error};
 use plan_base::{NoMemory, Text};
 use std::alloc::Global;
 
-/// The version of the programs.
+/// The version of the program.
 const VERSION: &str = "0.5.0";
 
 /// What the words of a program ask for.

@@ -1,17 +1,16 @@
 //! The graph of a table's plan behind the last line of a script.
-ghost use Rattle.std.specs.Prelude.{◌≡◌};
-ghost use Rattle.game_types.specs.declared.games.Game.{Game};
 ghost use Rattle.planning_state.specs.States.{State};
-ghost use Rattle.planner_core.specs.Lines.{first_planned, IsSessionOf};
+ghost use Rattle.planner_core.specs.Lines.{IsSessionOf};
 
-use crate::session::{LINES, answered, form_at, place_of};
-use crate::told::PageFault;
+use crate::fault::PageFault;
+use crate::session::{form_at, place_of};
 use linear_table::SolveAnswer;
 use plan_base::{NoMemory, Steps, Text};
 use plan_pages::{Shown, chart_of, dot_text};
-use plan_report::Reply;
+use plan_report::{RefusalCode, Reply};
 use planner_cli::Ready;
-use planner_core::{Planner, state_is_of_the_active_edits};
+use planner_core::Planner;
+use program_runs::{LINES, answered, step};
 use script_reader::Command;
 use script_runner::{split_line, trim_return};
 use std::alloc::Global;
@@ -65,8 +64,8 @@ fn answer_lines<L>(
     name: &str,
     steps: &mut Steps<L>,
 ) -> Result<Option<Reply>, PageFault>
-    requires session { (base : State) × IsSessionOf base planner.old }
-    ensures history { (base : State) → IsSessionOf base planner.old → IsSessionOf base planner.new }
+    requires { (base : State) × IsSessionOf base planner.old }
+    ensures { (base : State) × IsSessionOf base planner.new }
 {
     let mut rest = script;
     let mut number: u32 = 0;
@@ -91,19 +90,31 @@ fn solved<L>(
     name: &str,
     steps: &mut Steps<L>,
 ) -> Result<Reply, NoMemory>
-    requires session { (base : State) × IsSessionOf base planner.old }
+    requires { (base : State) × IsSessionOf base planner.old }
 {
     let number = 0;
-    let _closed = planner.step(number, Command::Cancel, steps)?;
+    let _closed = step(planner, number, Command::Cancel, steps)?;
     let table = Text::copy(alloc, name)?;
-    planner.step(
-        number,
-        Command::Solve {
-            table,
-            budget: BUDGET,
-        },
-        steps,
-    )
+    let solve = Command::Solve {
+        table,
+        budget: BUDGET,
+    };
+    step(planner, number, solve, steps)
+}
+
+// Why a reply is no plan.
+fn fault_of(reply: &Reply) -> PageFault {
+    match reply {
+        Reply::Refused {
+            code: RefusalCode::P1,
+            ..
+        } => PageFault::NoTable,
+        Reply::Solved {
+            answer: SolveAnswer::Infeasible(_),
+            ..
+        } => PageFault::NoPlan,
+        _ => PageFault::Unsolved,
+    }
 }
 
 // The graph of a reply that is a plan.
@@ -116,18 +127,18 @@ fn graph_of(alloc: Global, planner: &Planner, reply: &Reply) -> Result<String, P
         ..
     } = reply
     else {
-        return Err(PageFault::NoPlan);
+        return Err(fault_of(reply));
     };
     let SolveAnswer::Planned(plan) = answer else {
-        return Err(PageFault::NoPlan);
+        return Err(fault_of(reply));
     };
     let game = planner.game();
     let tables = planner.tables();
     let Some(place) = place_of(tables, name.as_str()) else {
-        return Err(PageFault::NoPlan);
+        return Err(PageFault::NoTable);
     };
     let Some(linear) = form_at(alloc, game, tables, place)? else {
-        return Err(PageFault::NoPlan);
+        return Err(PageFault::Unsolved);
     };
     let shown = Shown {
         game,
@@ -147,18 +158,16 @@ fn graph_of(alloc: Global, planner: &Planner, reply: &Reply) -> Result<String, P
 ///
 /// # Errors
 ///
-/// `NoPlan` where there is no such table, or no plan of it is found within 20,000 exchanges of columns; `TooManyLines` where the
-/// script has more than 100,000 lines; or `NoMemory`.
+/// `NoTable` where there is no such table, `NoPlan` where it has no plan, `Unsolved` where that isn't found within 20,000 exchanges of
+/// columns and the limits of numbers; `TooManyLines` where the script has more than 100,000 lines; or `NoMemory`.
 pub fn flow_of<L>(
     alloc: Global,
     ready: Ready,
     name: &str,
     steps: &mut Steps<L>,
 ) -> Result<String, PageFault>
-    requires loaded { (game : Game) × (ready.planner ≡ first_planned game) }
+    requires { (base : State) × IsSessionOf base ready.planner }
 {
-    // A planner that was just loaded has a history.
-    state_is_of_the_active_edits();
     let Ready {
         mut planner,
         script,

@@ -2,10 +2,10 @@
 #![tactic(auto)]
 
 mod asked;
+mod fault;
 mod flow;
 mod running;
 mod session;
-mod told;
 
-pub use running::{program_words, run_program};
-pub use told::{End, NO_PLAN, PageFault};
+pub use fault::{NO_PLAN, PageFault};
+pub use running::run_program;

@@ -1,41 +1,23 @@
 //! The lines of a script, and the page of their replies.
-ghost use Rattle.std.specs.Prelude.{◌≡◌, ◌<◌, IfSome, length};
-ghost use Rattle.game_types.specs.declared.games.Game.{Game};
+ghost use Rattle.std.specs.Prelude.{◌<◌, IfSome, length};
 ghost use Rattle.game_types.specs.Sound.{IsSound};
 ghost use Rattle.planning_state.specs.States.{State};
-ghost use Rattle.planner_core.specs.Lines.{first_planned, IsSessionOf};
+ghost use Rattle.planner_core.specs.Lines.{IsSessionOf};
 ghost use Rattle.planner_tables.specs.Effects.{AreSoundTables, IsSoundOn};
 
-use crate::told::PageFault;
+use crate::fault::PageFault;
 use game_types::Game;
 use linear_table::Linear;
 use plan_base::{NoMemory, Steps};
 use plan_pages::Page;
 use plan_report::Reply;
 use planner_cli::Ready;
-use planner_core::{Planner, state_is_of_the_active_edits};
+use planner_core::Planner;
 use production_table::{Table, TableFault};
-use script_runner::{is_refusal, reading_of, reply_to, split_line, trim_return};
+use program_runs::{LINES, answered};
+use script_runner::{is_refusal, split_line, trim_return};
 use std::alloc::Global;
 use std::str::from_utf8;
-
-/// The most lines that a script may have.
-pub const LINES: u32 = 100_000;
-
-/// The reply to a line.
-pub fn answered<L>(
-    alloc: Global,
-    planner: &mut Planner,
-    number: u32,
-    line: &[u8],
-    steps: &mut Steps<L>,
-) -> Result<Reply, NoMemory>
-    requires session { (base : State) × IsSessionOf base planner.old }
-    ensures history { (base : State) → IsSessionOf base planner.old → IsSessionOf base planner.new }
-{
-    let reading = reading_of(alloc, line)?;
-    reply_to(planner, number, reading, steps)
-}
 
 // The linear form of a table, where it has one.
 fn linear_form(alloc: Global, game: &Game, table: &Table) -> Result<Option<Linear>, NoMemory>
@@ -108,8 +90,8 @@ fn add_line<L>(
     page: &mut Page,
     steps: &mut Steps<L>,
 ) -> Result<bool, NoMemory>
-    requires session { (base : State) × IsSessionOf base planner.old }
-    ensures history { (base : State) → IsSessionOf base planner.old → IsSessionOf base planner.new }
+    requires { (base : State) × IsSessionOf base planner.old }
+    ensures { (base : State) × IsSessionOf base planner.new }
 {
     let reply = answered(alloc, planner, number, line, steps)?;
     let words = from_utf8(line).unwrap_or("(no UTF-8)");
@@ -130,7 +112,7 @@ fn add_lines<L>(
     page: &mut Page,
     steps: &mut Steps<L>,
 ) -> Result<bool, PageFault>
-    requires session { (base : State) × IsSessionOf base planner.old }
+    requires { (base : State) × IsSessionOf base planner.old }
 {
     let mut rest = script;
     let mut number: u32 = 0;
@@ -157,10 +139,8 @@ pub fn page_of<L>(
     ready: Ready,
     steps: &mut Steps<L>,
 ) -> Result<(String, bool), PageFault>
-    requires loaded { (game : Game) × (ready.planner ≡ first_planned game) }
+    requires { (base : State) × IsSessionOf base ready.planner }
 {
-    // A planner that was just loaded has a history.
-    state_is_of_the_active_edits();
     let Ready {
         mut planner,
         script,

@@ -1,4 +1,8 @@
 //! A chart as a graph for Graphviz.
+ghost use Rattle.std.specs.Prelude.{◌≡◌, true, IfOk, string_bytes};
+ghost use Rattle.std.specs.List.{list_all};
+ghost use Rattle.plan_pages.specs.Escape.{is_harmless};
+
 use crate::Done;
 use crate::amounts::{Amount, Flow};
 use crate::cards::{Card, CardKind, Chart};
@@ -14,6 +18,21 @@ fn look(kind: CardKind) -> &'static str {
         CardKind::Surplus => "shape=box, style=\"rounded,dashed\"",
         CardKind::Want => "shape=box, style=\"rounded,bold\"",
     }
+}
+
+// A text as it stands in a label: Graphviz reads two backslashes as one, and breaks lines or ends at letters below the space.
+fn label(alloc: Global, plain: &str) -> Result<String, NoMemory>
+    ensures harmless { IfOk result (λ text. list_all is_harmless (string_bytes text) ≡ true) }
+{
+    let mut text = String::new(alloc);
+    for letter in plain.chars() {
+        match letter {
+            '\\' => text.push_str("\\\\")?,
+            '\0'..='\x1f' => text.push('\u{fffd}')?,
+            _ => text.push(letter)?,
+        }
+    }
+    escaped(alloc, text.as_str())
 }
 
 /// An amount without its sign: the fraction, and a decimal where it isn't whole.
@@ -47,8 +66,8 @@ fn push_flow(alloc: Global, out: &mut String, card: usize, flow: &Flow) -> Done 
 }
 
 fn push_card(alloc: Global, out: &mut String, number: usize, card: &Card) -> Done {
-    let title = escaped(alloc, card.title.as_str())?;
-    let about = escaped(alloc, card.about.as_str())?;
+    let title = label(alloc, card.title.as_str())?;
+    let about = label(alloc, card.about.as_str())?;
     let look = look(card.kind);
     if about.is_empty() {
         write!(out, "  c{number} [label=\"{title}\", {look}];\n")?;
@@ -75,12 +94,12 @@ fn flows_at_all(cards: &[Card], good: usize) -> bool {
 
 /// The graph of a chart: boxes for what is done, ellipses for goods, and on each edge how much flows per second.
 pub fn dot_text(alloc: Global, table: &str, chart: &Chart) -> Result<String, NoMemory> {
-    let name = escaped(alloc, table)?;
+    let name = label(alloc, table)?;
     let mut out = format!(in alloc; "digraph plan {{\n  rankdir=LR;\n  label=\"{name}\";\n")?;
     let mut number: usize = 0;
     for good in chart.goods.as_slice() {
         if flows_at_all(chart.cards.as_slice(), number) {
-            let name = escaped(alloc, good.name.as_str())?;
+            let name = label(alloc, good.name.as_str())?;
             write!(out, "  g{number} [label=\"{name}\", shape=ellipse];\n")?;
         }
         number = number.saturating_add(1);

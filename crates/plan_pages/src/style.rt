@@ -35,7 +35,8 @@ thead th{color:var(--soft);font-weight:500}
 tbody tr:hover{background:var(--mark)}
 tfoot th,tfoot td{font-weight:600;border-bottom:0}
 .idle{opacity:.5}
-td i{display:block}
+td i{display:block;max-width:13em;margin-left:auto;white-space:normal;overflow-wrap:anywhere}
+th:first-child{position:sticky;left:0;background:var(--card)}
 .item{color:var(--item)}.fluid{color:var(--fluid)}.special{color:var(--special)}.tech{color:var(--tech)}.recipe{color:var(--recipe)}.source{color:var(--source)}.machine{color:var(--machine)}
 .part p,.part details{margin:.25rem 0;overflow-wrap:anywhere}
 .part p,.part details details{padding:0}
@@ -43,6 +44,7 @@ td i{display:block}
 code{background:var(--mark);padding:.05rem .3rem;border-radius:4px;font-size:.88em}
 pre{white-space:pre-wrap;font-size:.82em}
 ol{columns:17rem;margin:.3rem 0}
+ol>li{break-inside:avoid}
 svg text{font:11.5px system-ui,sans-serif;fill:var(--ink)}
 svg .name{font-weight:600;font-size:13px}
 svg .what{fill:var(--soft)}

@@ -5,7 +5,7 @@ use Rattle.page_session.proofs.flow.answer_lines.Given as goal
 
 abbrev pub invariant-loop-rest : goal.invariant-loop-rest
 invariant-loop-rest g l = record {
-  history : (base : State) → IsSessionOf base l.initial.planner → IsSessionOf base l.planner;
+  session : (base : State) × IsSessionOf base l.planner;
   few : l.number ≤ 100_000;
 }
 

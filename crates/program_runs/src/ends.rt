@@ -1,27 +1,13 @@
 //! How the programs end, and what they say of it on standard error.
 use plan_base::{NoMemory, Text};
-use planner_cli::{Long, Status};
+use planner_cli::Status;
 use run_hints::{hint, unread_hint};
 use std::alloc::Global;
 use std::fs::File;
+use std::io;
+use std::io::Write;
+use std::process::ExitCode;
 use std::rt::Files;
-
-/// Why there is no page or no graph.
-#[derive(Clone, Copy, Debug, PartialEq, Eq)]
-pub enum PageFault {
-    /// The table has no plan.
-    NoPlan,
-    /// The script has more than 100,000 lines.
-    TooManyLines,
-    /// Memory could not be had.
-    NoMemory,
-}
-
-impl From<NoMemory> for PageFault {
-    fn from(_: NoMemory) -> Self {
-        PageFault::NoMemory
-    }
-}
 
 /// The end of a program: what it says on standard error, and the number that it ends with.
 #[derive(Drop)]
@@ -30,8 +16,20 @@ pub struct End {
     pub exit: u8,
 }
 
-/// The number of an end because there is no plan.
-pub const NO_PLAN: u8 = 8;
+impl End {
+    /// An end of which nothing is said.
+    pub fn quiet(exit: u8) -> End {
+        End { said: None, exit }
+    }
+
+    /// An end of which this is said, where there is memory for it.
+    pub fn saying(alloc: Global, text: &str, exit: u8) -> End {
+        End {
+            said: Text::copy(alloc, text).ok(),
+            exit,
+        }
+    }
+}
 
 /// The files of a run.
 #[derive(Clone, Copy)]
@@ -73,7 +71,7 @@ fn said<R: Files>(rt: &R, alloc: Global, status: &Status, names: Names<'_>) -> O
     hint(alloc, status, words.as_slice(), None).ok()
 }
 
-/// The end by a status.
+/// The end by a status of a run over these files.
 pub fn end_by<R: Files>(rt: &R, alloc: Global, status: &Status, names: Names<'_>) -> End {
     End {
         said: said(rt, alloc, status, names),
@@ -81,14 +79,26 @@ pub fn end_by<R: Files>(rt: &R, alloc: Global, status: &Status, names: Names<'_>
     }
 }
 
-/// The end by a fault.
-pub fn end_by_fault<R: Files>(rt: &R, alloc: Global, fault: PageFault, names: Names<'_>) -> End {
-    match fault {
-        PageFault::NoPlan => End {
-            said: Text::copy(alloc, "factoplan: the table has no plan\n").ok(),
-            exit: NO_PLAN,
-        },
-        PageFault::TooManyLines => { end_by(rt, alloc, &Status::TooLong(Long::ScriptLines), names) }
-        PageFault::NoMemory => end_by(rt, alloc, &Status::NoMemory, names),
+/// Writes what a run made to standard output, and answers the end of this number, or the one by the write fault.
+pub fn written<R: Files + Print>(
+    rt: &R,
+    alloc: Global,
+    made: &[u8],
+    exit: u8,
+    names: Names<'_>,
+) -> End {
+    let mut out = io::writer(rt);
+    match out.write_all(made) {
+        Ok(()) => End::quiet(exit),
+        Err(_) => end_by(rt, alloc, &Status::WriteFault, names),
     }
+}
+
+/// Says what is to be said of an end, and answers its number.
+pub fn ended<R: Eprint>(rt: &R, end: &End) -> ExitCode {
+    if let Some(said) = &end.said {
+        // Where nothing can be said, the status still tells.
+        let _ = rt.eprint(said.as_str());
+    }
+    ExitCode::from(end.exit)
 }
