@@ -72,6 +72,16 @@ fn page_program<R: Files + Print + Eprint>(rt: &R, alloc: Global, words: &[Text]
     }
 }
 
+// The words behind `--flow`, with the name of the program that they are for before them.
+fn flow_words(alloc: Global, words: &[Text]) -> Result<Vec<Text>, NoMemory> {
+    let mut all = Vec::new(alloc);
+    all.push(Text::copy(alloc, "factoplan_flow")?)?;
+    for word in words {
+        all.push(Text::copy(alloc, word.as_str())?)?;
+    }
+    Ok(all)
+}
+
 // The plan of a table behind a script, as a graph on standard output.
 fn flow_program<R: Files + Print + Eprint>(rt: &R, alloc: Global, words: &[Text]) -> End {
     let names = [DUMP, SCRIPT, TABLE];
@@ -84,10 +94,13 @@ fn flow_program<R: Files + Print + Eprint>(rt: &R, alloc: Global, words: &[Text]
     }
 }
 
-/// The run of the program: the graph of a table where `--flow` is the first word, else a page.
+/// The run of the program, of which the first word is its name: the graph of a table where `--flow` is the next, else a page.
 pub fn run_program<R: Files + Print + Eprint>(rt: &R, alloc: Global, words: &[Text]) -> End {
     match words {
-        [first, rest @ ..] if first.as_str() == "--flow" => flow_program(rt, alloc, rest),
+        [_, first, rest @ ..] if first.as_str() == "--flow" => match flow_words(alloc, rest) {
+            Ok(words) => flow_program(rt, alloc, words.as_slice()),
+            Err(NoMemory) => End::quiet(6),
+        },
         _ => page_program(rt, alloc, words),
     }
 }
