@@ -168,7 +168,7 @@ impl Page {
         let mut out = String::from_str(alloc, HEAD)?;
         write!(
             out,
-            "<style>{STYLE}</style></head>\n<body>\n<header><h1>Plans</h1><p>{plans} plans · {answers} answers · {refusals} refusals</p><input id=\"find\" type=\"search\" placeholder=\"find\" aria-label=\"find\"></header>\n"
+            "<style>{STYLE}</style></head>\n<body>\n<header><h1>Plans</h1><p>plans {plans} · answers {answers} · refusals {refusals}</p><input id=\"find\" type=\"search\" placeholder=\"find\" aria-label=\"find\"></header>\n"
         )?;
         if plans > 0 {
             let contents = self.contents.as_str();
