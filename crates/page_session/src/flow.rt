@@ -18,58 +18,33 @@ use std::alloc::Global;
 // The most exchanges of columns.
 const BUDGET: u32 = 20_000;
 
-// What a reply says of the plan of a table.
-enum News {
-    /// Nothing.
-    Old,
-    /// The table may have changed.
-    Gone,
-    /// This is its plan.
-    New,
+// Answers a line.
+fn answer_line<L>(
+    alloc: Global,
+    planner: &mut Planner,
+    number: u32,
+    line: &[u8],
+    steps: &mut Steps<L>,
+) -> Result<(), NoMemory>
+    requires { (base : State) × IsSessionOf base planner.old }
+    ensures { (base : State) × IsSessionOf base planner.new }
+{
+    let _reply = answered(alloc, planner, number, line, steps)?;
+    Ok(())
 }
 
-fn is_plan(answer: &SolveAnswer) -> bool {
-    matches!(answer, SolveAnswer::Planned(_))
-}
-
-fn news_of(reply: &Reply, name: &str) -> News {
-    match reply {
-        Reply::Ok => News::Gone,
-        Reply::Nothing => News::Gone,
-        Reply::Solved { table, answer, .. } => {
-            if table.as_str() == name && is_plan(answer) {
-                News::New
-            } else {
-                News::Old
-            }
-        }
-        _ => News::Old,
-    }
-}
-
-// The plan that is known of a table behind a line.
-fn known_after(known: Option<Reply>, reply: Reply, name: &str) -> Option<Reply> {
-    match news_of(&reply, name) {
-        News::Old => known,
-        News::Gone => None,
-        News::New => Some(reply),
-    }
-}
-
-// Answers each line, and keeps what the last one leaves of the plan of a table.
+// Answers each line.
 fn answer_lines<L>(
     alloc: Global,
     planner: &mut Planner,
     script: &[u8],
-    name: &str,
     steps: &mut Steps<L>,
-) -> Result<Option<Reply>, PageFault>
+) -> Result<(), PageFault>
     requires { (base : State) × IsSessionOf base planner.old }
     ensures { (base : State) × IsSessionOf base planner.new }
 {
     let mut rest = script;
     let mut number: u32 = 0;
-    let mut known = None;
     while !rest.is_empty() {
         if number >= LINES {
             return Err(PageFault::TooManyLines);
@@ -77,13 +52,22 @@ fn answer_lines<L>(
         number += 1;
         let (line, more) = split_line(rest);
         rest = more;
-        let reply = answered(alloc, planner, number, trim_return(line), steps)?;
-        known = known_after(known, reply, name);
+        answer_line(alloc, planner, number, trim_return(line), steps)?;
     }
-    Ok(known)
+    Ok(())
 }
 
-// Solves a table. What an open batch holds isn't done.
+// Closes a batch that is open. What it holds isn't done.
+fn close_batch<L>(planner: &mut Planner, steps: &mut Steps<L>) -> Result<(), NoMemory>
+    requires { (base : State) × IsSessionOf base planner.old }
+    ensures { (base : State) × IsSessionOf base planner.new }
+{
+    let number = 0;
+    let _reply = step(planner, number, Command::Cancel, steps)?;
+    Ok(())
+}
+
+// Solves a table.
 fn solved<L>(
     alloc: Global,
     planner: &mut Planner,
@@ -93,7 +77,6 @@ fn solved<L>(
     requires { (base : State) × IsSessionOf base planner.old }
 {
     let number = 0;
-    let _closed = step(planner, number, Command::Cancel, steps)?;
     let table = Text::copy(alloc, name)?;
     let solve = Command::Solve {
         table,
@@ -153,8 +136,23 @@ fn graph_of(alloc: Global, planner: &Planner, reply: &Reply) -> Result<String, P
     Ok(text)
 }
 
-/// The graph of the plan of a table behind the last line of a script. The table is solved anew unless the script's last solution of it
-/// still stands.
+// The graph of the plan of a table behind the last line of a script.
+fn flow_in<L>(
+    alloc: Global,
+    planner: &mut Planner,
+    script: &[u8],
+    name: &str,
+    steps: &mut Steps<L>,
+) -> Result<String, PageFault>
+    requires { (base : State) × IsSessionOf base planner.old }
+{
+    answer_lines(alloc, planner, script, steps)?;
+    close_batch(planner, steps)?;
+    let reply = solved(alloc, planner, name, steps)?;
+    graph_of(alloc, planner, &reply)
+}
+
+/// The graph of the plan of a table behind the last line of a script, for which the table is solved anew.
 ///
 /// # Errors
 ///
@@ -168,14 +166,6 @@ pub fn flow_of<L>(
 ) -> Result<String, PageFault>
     requires { (base : State) × IsSessionOf base ready.planner }
 {
-    let Ready {
-        mut planner,
-        script,
-    } = ready;
-    let known = answer_lines(alloc, &mut planner, &script, name, steps)?;
-    let reply = match known {
-        Some(reply) => reply,
-        None => solved(alloc, &mut planner, name, steps)?,
-    };
-    graph_of(alloc, &planner, &reply)
+    let mut ready = ready;
+    flow_in(alloc, &mut ready.planner, &ready.script, name, steps)
 }

@@ -81,6 +81,24 @@ fn add_solved(
     }
 }
 
+// Puts the reply to a line on the page.
+fn add_reply(
+    alloc: Global,
+    planner: &Planner,
+    number: u32,
+    line: &[u8],
+    reply: &Reply,
+    page: &mut Page,
+) -> Result<(), NoMemory> {
+    let words = from_utf8(line).unwrap_or("(no UTF-8)");
+    match reply {
+        Reply::Solved { table, .. } => {
+            add_solved(alloc, planner, number, words, table.as_str(), reply, page)
+        }
+        _ => page.add(alloc, number, words, planner.game(), None, reply),
+    }
+}
+
 // Answers a line, puts its reply on the page, and answers whether it is a refusal.
 fn add_line<L>(
     alloc: Global,
@@ -94,14 +112,12 @@ fn add_line<L>(
     ensures { (base : State) × IsSessionOf base planner.new }
 {
     let reply = answered(alloc, planner, number, line, steps)?;
-    let words = from_utf8(line).unwrap_or("(no UTF-8)");
-    match &reply {
-        Reply::Solved { table, .. } => {
-            add_solved(alloc, planner, number, words, table.as_str(), &reply, page)?;
-        }
-        _ => page.add(alloc, number, words, planner.game(), None, &reply)?,
+    let added = add_reply(alloc, planner, number, line, &reply, page);
+    let refused = is_refusal(&reply);
+    match added {
+        Ok(()) => Ok(refused),
+        Err(NoMemory) => Err(NoMemory),
     }
-    Ok(is_refusal(&reply))
 }
 
 // Answers each line, and puts its reply on the page.
@@ -129,6 +145,21 @@ fn add_lines<L>(
     Ok(refused)
 }
 
+// The page of a script over its planner, and whether some line was refused.
+fn page_in<L>(
+    alloc: Global,
+    planner: &mut Planner,
+    script: &[u8],
+    steps: &mut Steps<L>,
+) -> Result<(String, bool), PageFault>
+    requires { (base : State) × IsSessionOf base planner.old }
+{
+    let mut page = Page::new(alloc);
+    let refused = add_lines(alloc, planner, script, &mut page, steps)?;
+    let text = page.text(alloc)?;
+    Ok((text, refused))
+}
+
 /// The page of a script over its planner, and whether some line was refused.
 ///
 /// # Errors
@@ -141,12 +172,6 @@ pub fn page_of<L>(
 ) -> Result<(String, bool), PageFault>
     requires { (base : State) × IsSessionOf base ready.planner }
 {
-    let Ready {
-        mut planner,
-        script,
-    } = ready;
-    let mut page = Page::new(alloc);
-    let refused = add_lines(alloc, &mut planner, &script, &mut page, steps)?;
-    let text = page.text(alloc)?;
-    Ok((text, refused))
+    let mut ready = ready;
+    page_in(alloc, &mut ready.planner, &ready.script, steps)
 }
