@@ -31,6 +31,7 @@ use Rattle.depend_rows.specs.Alike.{AlikeBut, is_of_product, is_of_unlock, passe
 use Rattle.depend_rows.specs.Indexed.{IsIndex}
 use Rattle.depend_rows.specs.Doing.{burning_fluids, is_machine, placers}
 use Rattle.depend_rows.specs.Kinds.{crafts_all_of, crafts_alone, has_category, is_drill_of, is_fuel_of, is_lab, is_recipe, takes}
+use Rattle.depend_rows.specs.Coolest.{AreSorted}
 use Rattle.depend_rows.specs.Lists.{has_node, is_among, list_at, AreLists, AreMarks, HoldThose, Rise, Widen}
 use Rattle.depend_rows.specs.Words.{AreWords}
 use Rattle.depend_rows.specs.Making.{first_machine, first_recipe, first_source, first_tech, good_count, leavers, putters, puts_out, variants}
@@ -243,6 +244,8 @@ module _ (old new : Game) (kept : KeepsGame old new) where
   index_after index recipe_makers unlockers is makers_hold unlockers_hold = record {
     leavers = lists_same (leavers old) (leavers new) (good_count old) (good_count new) index.leavers.items leavers_same goods_same is.leavers;
     variants = lists_same (variants old) (variants new) (good_count old) (good_count new) index.variants.items variants_same goods_same is.variants;
+    coolest_variants = subst (λ n. AreSorted new.fluids (3 + n) index.variants.items index.coolest_variants.items) (sym item_count)
+        (subst (λ (fluids : List Fluid). AreSorted fluids (3 + length old.items) index.variants.items index.coolest_variants.items) (sym kept.fluids) is.coolest_variants);
     recipe_makers = subst (λ n. HoldThose false (λ (recipe : Recipe) good. gives recipe.products good) (first_recipe new) new.recipes n recipe_makers.items) (sym goods_same)
         (subst (λ n. HoldThose false (λ (recipe : Recipe) good. gives recipe.products good) n new.recipes (good_count old) recipe_makers.items) (sym first_recipe_same) makers_hold);
     source_makers = lists_same (λ good. those (λ source. gives source.products good) (first_source old) old.sources) (λ good. those (λ source. gives source.products good) (first_source new) new.sources) (good_count old) (good_count new)

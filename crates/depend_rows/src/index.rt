@@ -1,5 +1,5 @@
 //! The nodes that rows are put together from, made once in time in proportion to the game.
-ghost use Rattle.std.specs.Prelude.{◌≡◌, ℕ, ◌==◌, ◌&&◌, IfOk, length, slice_get, true};
+ghost use Rattle.std.specs.Prelude.{◌≡◌, ℕ, ◌+◌, ◌==◌, ◌&&◌, IfOk, length, slice_get, true};
 ghost use Rattle.std.specs.List.{list_any};
 ghost use Rattle.std.specs.Option.{option_copied, option_to_list};
 ghost use Rattle.game_types.specs.Making.{gives};
@@ -11,6 +11,7 @@ ghost use Rattle.depend_rows.specs.Doing.{burning_fluids, is_machine, names_good
 ghost use Rattle.depend_rows.specs.Kinds.{crafts_all_of, crafts_alone, has_category, is_drill_of, is_fuel_of, takes};
 ghost use Rattle.depend_rows.specs.Lists.{AreLists, HoldThose, is_among};
 ghost use Rattle.depend_rows.specs.Words.{AreWords};
+ghost use Rattle.depend_rows.specs.Coolest.{AreSorted};
 
 use crate::goods::is_expected;
 use crate::lists::{Keys, lists_of};
@@ -20,6 +21,7 @@ use crate::places::{
     first_fluid, first_machine, first_recipe, first_source, first_tech, good_count,
 };
 use crate::techs::all_labs;
+use crate::temperatures::sorted_lists;
 use crate::words::words_of_all;
 use game_types::{
     Fluid, Fuel, Game, Item, Machine, MachineKind, Product, Recipe, Source, Tech, holds,
@@ -35,6 +37,8 @@ pub struct Index {
     pub leavers: Vec<Vec<NodeId>>,
     /// For each good, its variants.
     pub variants: Vec<Vec<NodeId>>,
+    /// For each good, its variants, the coolest first.
+    pub coolest_variants: Vec<Vec<NodeId>>,
     /// For each good, the recipes that give it, and perhaps others.
     pub recipe_makers: Vec<Vec<NodeId>>,
     /// For each good, the sources that give it.
@@ -404,6 +408,17 @@ fn variants(alloc: Global, game: &Game) -> Result<Vec<Vec<NodeId>>, NoMemory>
     )
 }
 
+fn coolest_variants(
+    alloc: Global,
+    game: &Game,
+    variants: &[Vec<NodeId>],
+) -> Result<Vec<Vec<NodeId>>, NoMemory>
+    requires { IsSound game.now }
+    ensures { IfOk result (λ lists. AreSorted game.now.fluids (3 + length game.now.items) variants.now lists.items) }
+{
+    sorted_lists(alloc, game.fluids.as_slice(), first_fluid(game), variants)
+}
+
 #[tactic(auto, unfolding(crate::specs::Making::putters))]
 fn putters(alloc: Global, game: &Game) -> Result<Vec<Vec<NodeId>>, NoMemory>
     requires { IsSound game.now }
@@ -577,6 +592,7 @@ impl Index {
     {
         let leavers = leavers(alloc, game)?;
         let variants = variants(alloc, game)?;
+        let coolest_variants = coolest_variants(alloc, game, variants.as_slice())?;
         let recipe_makers = recipe_makers(alloc, game)?;
         let source_makers = source_makers(alloc, game)?;
         let putters = putters(alloc, game)?;
@@ -597,6 +613,7 @@ impl Index {
         Ok(Index {
             leavers,
             variants,
+            coolest_variants,
             recipe_makers,
             source_makers,
             putters,

@@ -98,6 +98,15 @@ pub fn lists_of<T, K: Keys<T>>(
     Ok(lists)
 }
 
+/// The list of a number.
+pub fn list_of(lists: &[Vec<NodeId>], number: u32) -> &[NodeId]
+    requires { number < length lists.now }
+    ensures { result.now ≡ list_at lists.now number }
+{
+    let list = &lists[number as usize];
+    list.as_slice()
+}
+
 /// A copy of the list of a number.
 pub fn list_at(alloc: Global, lists: &[Vec<NodeId>], number: u32) -> Result<Vec<NodeId>, NoMemory>
     requires { number < length lists.now }

@@ -1,7 +1,7 @@
 //! What recipes and sources need.
-ghost use Rattle.std.specs.Prelude.{◌≡◌, ◌<◌, ◌++◌, ◌∷◌, [], All, IfOk, None, Some, length, map, nat_lt, slice_get};
+ghost use Rattle.std.specs.Prelude.{◌≡◌, ◌+◌, ◌<◌, ◌++◌, ◌∷◌, [], All, IfOk, None, Some, length, map, nat_lt, slice_get};
 ghost use Rattle.std.specs.List.{cons_option, filter_map, list_all};
-ghost use Rattle.game_types.specs.Temperatures.{fits_alone, fluid_at, is_fit_variant, is_good};
+ghost use Rattle.game_types.specs.Temperatures.{fits_alone, fluid_at, is_fit_variant};
 ghost use Rattle.game_types.specs.Making.{character_crafts, character_mines, is_fixed_to_another, kind_crafts, kind_mines};
 ghost use Rattle.game_types.specs.Sound.{IsGood, IsSound, IsSoundRecipe, IsSoundSource};
 ghost use Rattle.depend_rows.specs.Indexed.{IsIndex};
@@ -13,13 +13,14 @@ ghost use Rattle.depend_rows.specs.Making.{bounded_group, bounded_groups, crafte
 use crate::among::techs_unlocking;
 use crate::goods::is_base;
 use crate::index::Index;
-use crate::lists::list_at;
+use crate::lists::{list_at, list_of};
 use crate::marks::is_marked;
 use crate::members::{Test, all_of, all_of_good, any_of, named, row_with, those, with_character};
 use crate::places::{first_fluid, first_machine, good_count};
+use crate::temperatures::numbers_within;
 use crate::unions::{in_order, push_list};
 use game_types::{
-    Character, Fluid, Game, Machine, MachineKind, Part, Product, Recipe, Source, holds, is_within,
+    Character, Game, Machine, MachineKind, Part, Product, Recipe, Source, holds, is_within,
 };
 use graph_store::{Group, Row};
 use plan_base::{EntityId, GoodId, NoMemory, NodeId, RecipeId};
@@ -76,28 +77,25 @@ fn ingredients(alloc: Global, game: &Game, recipe: &Recipe) -> Result<Vec<NodeId
     named(alloc, 3, good_count(game), goods)
 }
 
-// The variants of a base within bounds.
-#[derive(Drop)]
-struct FitVariants<'a> {
-    part: &'a Part,
-}
-
-impl Test<Fluid> for FitVariants<'_> {
-    ghost passes = { λ t fluid. is_fit_variant t.part.now.good.0 t.part.now.low t.part.now.high fluid };
-
-    fn passes(&self, fluid: &Fluid) -> bool {
-        is_variant_of(fluid.of, self.part.good)
-            && is_within(&self.part.low, &self.part.high, &fluid.at)
-    }
-}
-
-fn is_variant_of(of: Option<GoodId>, base: GoodId) -> bool
-    ensures { result ≡ is_good of base.0 }
+// The variants of a base within the bounds of an ingredient.
+fn fit_variants(
+    alloc: Global,
+    game: &Game,
+    index: &Index,
+    part: &Part,
+) -> Result<Vec<NodeId>, NoMemory>
+    requires sound { IsSound game.now }
+    requires index { IsIndex game.now index.now }
+    requires part { part.now.good.0 < good_count game.now }
+    ensures { IfOk result (λ nodes. nodes.items ≡ those (is_fit_variant part.now.good.0 part.now.low part.now.high) (3 + length game.now.items) game.now.fluids) }
 {
-    match of {
-        Some(of) => of.0 == base.0,
-        None => false,
-    }
+    let first = first_fluid(game);
+    let fluids = game.fluids.as_slice();
+    let lists = index.coolest_variants.as_slice();
+    let variants = list_of(lists, part.good.0);
+    let fits = numbers_within(alloc, fluids, first, &part.low, &part.high, variants)?;
+    let nodes = in_order(alloc, fits)?;
+    Ok(nodes)
 }
 
 // Whether a good that is no base fits its own ingredient.
@@ -130,8 +128,7 @@ fn fits(alloc: Global, game: &Game, index: &Index, part: &Part) -> Result<Vec<No
     ensures { IfOk result (λ nodes. nodes.items ≡ fits game.now part.now) }
 {
     if is_base(game, index, part.good.0) {
-        let test = FitVariants { part };
-        those(alloc, first_fluid(game), game.fluids.as_slice(), &test)
+        fit_variants(alloc, game, index, part)
     } else if fits_alone(game, part) {
         good_itself(alloc, game, part.good)
     } else {
