@@ -254,18 +254,14 @@ module _ (old new : Game) (kept : KeepsGame old new) where
     unlockers = subst (λ n. HoldThose false (λ (tech : Tech) number. list_any (λ r. r.0 == number) tech.unlocks) (first_tech new) new.techs n unlockers.items) (sym recipe_count)
         (subst (λ n. HoldThose false (λ (tech : Tech) number. list_any (λ r. r.0 == number) tech.unlocks) n new.techs (length old.recipes) unlockers.items) (sym first_tech_same) unlockers_hold);
     placers = lists_same (placers old) (placers new) (length old.machines) (length new.machines) index.placers.items placers_same machine_count is.placers;
-    crafters = lists_same (λ category. those (λ machine. crafts_all_of machine.kind category) (first_machine old) old.machines) (λ category. those (λ machine. crafts_all_of machine.kind category) (first_machine new) new.machines)
-        (length index.crafters.items) (length index.crafters.items) index.crafters.items (λ category. machines_same (λ machine. crafts_all_of machine.kind category)) refl is.crafters;
+    crafters = λ category. is.crafters category ∙ sym (machines_same (λ machine. crafts_all_of machine.kind category));
     fixed = lists_same (λ number. those (λ machine. crafts_alone old.recipes machine.kind number) (first_machine old) old.machines) (λ number. those (λ machine. crafts_alone new.recipes machine.kind number) (first_machine new) new.machines)
         (length old.recipes) (length new.recipes) index.fixed.items
         (λ number. those_same (λ (machine : Machine). crafts_alone new.recipes machine.kind number) (λ (machine : Machine). crafts_alone old.recipes machine.kind number) (λ machine. same_alone old.recipes new.recipes kept.recipes number machine.kind) new.machines (first_machine new)
         ∙ machines_same (λ machine. crafts_alone old.recipes machine.kind number)) recipe_count is.fixed;
-    drills = lists_same (λ category. those (λ machine. is_drill_of false machine.kind category) (first_machine old) old.machines) (λ category. those (λ machine. is_drill_of false machine.kind category) (first_machine new) new.machines)
-        (length index.drills.items) (length index.drills.items) index.drills.items (λ category. machines_same (λ machine. is_drill_of false machine.kind category)) refl is.drills;
-    boxed_drills = lists_same (λ category. those (λ machine. is_drill_of true machine.kind category) (first_machine old) old.machines) (λ category. those (λ machine. is_drill_of true machine.kind category) (first_machine new) new.machines)
-        (length index.boxed_drills.items) (length index.boxed_drills.items) index.boxed_drills.items (λ category. machines_same (λ machine. is_drill_of true machine.kind category)) refl is.boxed_drills;
-    fuels = lists_same (λ category. those (λ item. is_fuel_of item.fuel category) 3 old.items) (λ category. those (λ item. is_fuel_of item.fuel category) 3 new.items) (length index.fuels.items) (length index.fuels.items) index.fuels.items
-        (λ category. those_moved (λ (item : Item). is_fuel_of item.fuel category) 3 3 old.items new.items refl kept.items) refl is.fuels;
+    drills = λ category. is.drills category ∙ sym (machines_same (λ machine. is_drill_of false machine.kind category));
+    boxed_drills = λ category. is.boxed_drills category ∙ sym (machines_same (λ machine. is_drill_of true machine.kind category));
+    fuels = λ category. is.fuels category ∙ sym (those_moved (λ (item : Item). is_fuel_of item.fuel category) 3 3 old.items new.items refl kept.items);
     burning = is.burning ∙ sym burning_same;
     labs = is.labs ∙ sym (machines_same (λ machine. is_lab machine.kind));
     takers = lists_same (λ good. those (λ machine. takes machine.kind good) (first_machine old) old.machines) (λ good. those (λ machine. takes machine.kind good) (first_machine new) new.machines) (length old.items) (length new.items)

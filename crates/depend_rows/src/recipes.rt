@@ -2,10 +2,10 @@
 ghost use Rattle.std.specs.Prelude.{◌≡◌, ◌+◌, ◌<◌, ◌++◌, ◌∷◌, [], All, IfOk, None, Some, length, map, nat_lt, slice_get};
 ghost use Rattle.std.specs.List.{cons_option, filter_map, list_all};
 ghost use Rattle.game_types.specs.Temperatures.{fits_alone, fluid_at, is_fit_variant};
-ghost use Rattle.game_types.specs.Making.{character_crafts, character_mines, is_fixed_to_another, kind_crafts, kind_mines};
+ghost use Rattle.game_types.specs.Making.{character_crafts, character_mines, kind_crafts, kind_mines};
 ghost use Rattle.game_types.specs.Sound.{IsGood, IsSound, IsSoundRecipe, IsSoundSource};
 ghost use Rattle.depend_rows.specs.Indexed.{IsIndex};
-ghost use Rattle.depend_rows.specs.Lists.{list_at, AreLists, AreMarks, HoldInOrder};
+ghost use Rattle.depend_rows.specs.Lists.{list_at, AreAllLists, AreMarks, HoldInOrder};
 ghost use Rattle.depend_rows.specs.Kinds.{is_drill_of};
 ghost use Rattle.depend_rows.specs.Members.{named, those};
 ghost use Rattle.depend_rows.specs.Making.{bounded_group, bounded_groups, crafters, crafters_by, first_machine, fits, free_good, good_count, ingredients, is_free, miners, recipe_row, source_row};
@@ -15,12 +15,12 @@ use crate::goods::is_base;
 use crate::index::Index;
 use crate::lists::{list_at, list_of};
 use crate::marks::is_marked;
-use crate::members::{Test, all_of, all_of_good, any_of, named, row_with, those, with_character};
+use crate::members::{all_of, all_of_good, any_of, named, row_with, with_character};
 use crate::places::{first_fluid, first_machine, good_count};
 use crate::temperatures::numbers_within;
 use crate::unions::{in_order, push_list};
 use game_types::{
-    Character, Game, Machine, MachineKind, Part, Product, Recipe, Source, holds, is_within,
+    Character, Game, Part, Product, Recipe, Source, is_within,
 };
 use graph_store::{Group, Row};
 use plan_base::{EntityId, GoodId, NoMemory, NodeId, RecipeId};
@@ -199,54 +199,13 @@ fn character_crafts(character: &Character, marks: &[bool], items: usize, recipe:
         && gives_items(recipe.products.as_slice(), items)
 }
 
-fn is_fixed_to_another(fixed: Option<RecipeId>, number: u32) -> bool
-    ensures { result ≡ is_fixed_to_another fixed number }
-{
-    match fixed {
-        Some(fixed) => fixed.0 != number,
-        None => false,
-    }
-}
-
-fn kind_crafts(kind: &MachineKind, number: u32, recipe: &Recipe) -> bool
-    ensures { result ≡ kind_crafts kind.now number recipe.now }
-{
-    match kind {
-        MachineKind::Crafter {
-            categories,
-            fixed,
-            ..
-        } => {
-            holds(categories.as_slice(), recipe.category) && !is_fixed_to_another(*fixed, number)
-        }
-        _ => false,
-    }
-}
-
-// The machines that craft a recipe.
-#[derive(Drop)]
-struct CraftersOf<'a> {
-    number: u32,
-    recipe: &'a Recipe,
-}
-
-impl Test<Machine> for CraftersOf<'_> {
-    ghost passes = { λ t machine. kind_crafts machine.kind t.number t.recipe.now };
-
-    fn passes(&self, machine: &Machine) -> bool {
-        kind_crafts(&machine.kind, self.number, self.recipe)
-    }
-}
-
-// The machines that craft a recipe whose category has lists.
+// The machines that craft all recipes of its category, and those that craft a recipe alone.
 fn crafters_listed(
     alloc: Global,
     index: &Index,
     number: u32,
     recipe: &Recipe,
 ) -> Result<Vec<NodeId>, NoMemory>
-    requires category { recipe.now.category < length index.now.crafters.items }
-    requires number { number < length index.now.fixed.items }
     ensures { IfOk result (λ nodes. HoldInOrder (map (λ n. n.0) (list_at index.now.crafters.items recipe.now.category) ++ map (λ n. n.0) (list_at index.now.fixed.items number)) nodes.items) }
 {
     let mut numbers = Vec::new(alloc);
@@ -269,13 +228,9 @@ fn machines_crafting(
     requires number { number < length game.now.recipes }
     ensures { IfOk result (λ nodes. nodes.items ≡ those (λ machine. kind_crafts machine.kind number recipe.now) (first_machine game.now) game.now.machines) }
 {
-    if (recipe.category as usize) < index.crafters.len() {
-        let nodes = crafters_listed(alloc, index, number, recipe)?;
-        Ok(nodes)
-    } else {
-        let test = CraftersOf { number, recipe };
-        those(alloc, first_machine(game), game.machines.as_slice(), &test)
-    }
+    let _game = game;
+    let nodes = crafters_listed(alloc, index, number, recipe)?;
+    Ok(nodes)
 }
 
 // The silo of a launch.
@@ -376,41 +331,10 @@ fn character_mines(character: &Character, marks: &[bool], source: &Source) -> bo
             && source.fluid.is_none())
 }
 
-fn kind_mines(kind: &MachineKind, source: &Source) -> bool
-    ensures { result ≡ kind_mines kind.now source.now }
-{
-    match kind {
-        MachineKind::Drill {
-            categories,
-            fluid_box,
-            ..
-        } => {
-            source.drilled
-                && holds(categories.as_slice(), source.category)
-                && (source.fluid.is_none() || *fluid_box)
-        }
-        _ => false,
-    }
-}
-
-// The drills that mine a source.
-#[derive(Drop)]
-struct DrillsOf<'a> {
-    source: &'a Source,
-}
-
-impl Test<Machine> for DrillsOf<'_> {
-    ghost passes = { λ t machine. kind_mines machine.kind t.source.now };
-
-    fn passes(&self, machine: &Machine) -> bool {
-        kind_mines(&machine.kind, self.source)
-    }
-}
-
 // The lists of drills: of all, or of those that take a fluid.
 fn drills_of<'a>(game: &Game, index: &'a Index, boxed: bool) -> &'a [Vec<NodeId>]
     requires { IsIndex game.now index.now }
-    ensures { AreLists (λ category. those (λ machine. is_drill_of boxed machine.kind category) (first_machine game.now) game.now.machines) (length result.now) result.now }
+    ensures { AreAllLists (λ category. those (λ machine. is_drill_of boxed machine.kind category) (first_machine game.now) game.now.machines) result.now }
 {
     let _game = game;
     if boxed {
@@ -435,12 +359,9 @@ fn drills_mining(
     let drills = drills_of(game, index, boxed);
     if !source.drilled {
         Ok(Vec::new(alloc))
-    } else if (source.category as usize) < drills.len() {
+    } else {
         let nodes = list_at(alloc, drills, source.category)?;
         Ok(nodes)
-    } else {
-        let test = DrillsOf { source };
-        those(alloc, first_machine(game), game.machines.as_slice(), &test)
     }
 }
 
