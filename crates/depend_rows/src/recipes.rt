@@ -19,9 +19,7 @@ use crate::members::{all_of, all_of_good, any_of, named, row_with, with_characte
 use crate::places::{first_fluid, first_machine, good_count};
 use crate::temperatures::numbers_within;
 use crate::unions::{in_order, push_list};
-use game_types::{
-    Character, Game, Part, Product, Recipe, Source, is_within,
-};
+use game_types::{Character, Game, Part, Product, Recipe, Source, is_within};
 use graph_store::{Group, Row};
 use plan_base::{EntityId, GoodId, NoMemory, NodeId, RecipeId};
 use std::alloc::Global;
