@@ -2,6 +2,7 @@
 use Rattle.std.specs.Prelude.{ℕ, ◌+◌, ◌==◌, ◌&&◌, Bool, true, false, not, is_none, List, [], ◌∷◌, ◌++◌, Option, Some, None, length, map}
 use Rattle.std.specs.List.{list_all, list_any}
 use Rattle.fractions.specs.Fraction.{Fraction}
+use Rattle.plan_base.specs.Shape.{electricity_node, heat_node}
 use Rattle.plan_base.specs.declared.ids.NodeId.{NodeId}
 use Rattle.plan_base.specs.declared.ids.EntityId.{EntityId}
 use Rattle.plan_base.specs.declared.ids.GoodId.{GoodId}
@@ -16,7 +17,7 @@ use Rattle.game_types.specs.declared.machinery.Machine.{Machine}
 use Rattle.game_types.specs.declared.machinery.MachineKind.{MachineKind}
 use Rattle.game_types.specs.declared.machinery.MachineKind.TheVariants.{Boiler, Generator, BurnerGenerator, Solar, Reactor, Lab}
 use Rattle.game_types.specs.declared.research.Tech.{Tech}
-use Rattle.depend_rows.specs.Members.{all_of, any_of, good_node, group_where, named, node, row_with, those}
+use Rattle.depend_rows.specs.Members.{all_of, any_of, good_node, group_where, named, row_with, those}
 use Rattle.depend_rows.specs.Making.{first_machine, first_tech, good_count}
 
 -- ---- machines
@@ -47,9 +48,9 @@ fluid_or_burning g (Some fluid) = all_of (good_node fluid ∷ [])
 
 -- what a machine takes its energy from
 unfoldable pub energy_groups : Game → Energy → List Group
-energy_groups g Electric = all_of (node 1 ∷ []) ∷ []
+energy_groups g Electric = all_of (electricity_node ∷ []) ∷ []
 energy_groups g (Burner categories effectivity) = any_of (fuels_taken g (Burner categories effectivity)) ∷ []
-energy_groups g Heat = all_of (node 2 ∷ []) ∷ []
+energy_groups g Heat = all_of (heat_node ∷ []) ∷ []
 energy_groups g (Fluid filter effectivity) = fluid_or_burning g filter ∷ []
 energy_groups g Void = []
 

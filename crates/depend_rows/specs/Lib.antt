@@ -3,6 +3,7 @@ pub mod Making
 pub mod Doing
 pub mod Lists
 pub mod Words
+pub mod Coolest
 pub mod Kinds
 pub mod Indexed
 pub mod Alike

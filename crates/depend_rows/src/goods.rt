@@ -9,7 +9,7 @@ ghost use Rattle.depend_rows.specs.Making.{givers, good_count, good_row, leavers
 
 use crate::among::recipes_giving;
 use crate::index::Index;
-use crate::lists::list_at;
+use crate::lists::{list_at, list_of};
 use crate::members::{any_of, row_with};
 use game_types::{Game, Product, is_positive};
 use graph_store::Row;
@@ -33,11 +33,9 @@ pub fn is_expected(product: &Product) -> bool
 
 // Whether the list of a number has any nodes.
 fn has_nodes(lists: &[Vec<NodeId>], number: u32) -> bool
-    requires { number < length lists.now }
     ensures { result ≡ nat_lt 0 (length (list_at lists.now number)) }
 {
-    let list = &lists[number as usize];
-    list.len() > 0
+    list_of(lists, number).len() > 0
 }
 
 /// Whether a good is a base.
@@ -53,11 +51,9 @@ pub fn is_base(game: &Game, index: &Index, good: u32) -> bool
 
 // Appends the list of a number.
 fn push_list_at(nodes: &mut Vec<NodeId>, lists: &[Vec<NodeId>], number: u32) -> Result<(), NoMemory>
-    requires { number < length lists.now }
     ensures { IfOk result (λ done. nodes.new.items ≡ nodes.old.items ++ list_at lists.now number) }
 {
-    let list = &lists[number as usize];
-    nodes.extend_from_slice(list.as_slice())?;
+    nodes.extend_from_slice(list_of(lists, number))?;
     Ok(())
 }
 

@@ -1,5 +1,5 @@
 //! What machines need, and what gives electricity and heat.
-ghost use Rattle.std.specs.Prelude.{◌&&◌, is_none, ◌≡◌, ◌↔◌, ◌<◌, ◌++◌, ◌∷◌, [], All, IfOk, IfSome, IsTrue, OnOk, length};
+ghost use Rattle.std.specs.Prelude.{◌&&◌, is_none, ◌≡◌, ◌<◌, ◌++◌, ◌∷◌, [], IfOk, IfSome, OnOk, length};
 ghost use Rattle.fractions.specs.Fraction.{Fraction};
 ghost use Rattle.game_types.specs.declared.machinery.Energy.TheVariants.{Burner};
 ghost use Rattle.game_types.specs.Making.{is_positive};
@@ -15,41 +15,17 @@ use crate::lists::{distinct, list_at};
 use crate::members::{Test, all_of_good, all_of_node, any_of, row_with, those};
 use crate::places::{first_fluid, first_machine};
 use crate::unions::{in_order, push_list};
-use game_types::{Energy, Fluid, Fuel, Game, Item, Machine, MachineKind, holds, is_positive};
+use game_types::{Energy, Fluid, Game, Machine, MachineKind, is_positive};
 use graph_store::{Group, Row};
 use plan_base::{GoodId, NoMemory, NodeId};
 use std::alloc::Global;
 
-fn is_fuel_in(categories: &[u32], fuel: Option<Fuel>) -> bool
-    ensures { result ≡ is_fuel_in categories.now fuel }
-{
-    match fuel {
-        Some(fuel) => holds(categories, fuel.category) && is_positive(&fuel.value),
-        None => false,
-    }
-}
-
-// The fuels of some categories.
-#[derive(Drop)]
-struct FuelsIn<'a> {
-    categories: &'a [u32],
-}
-
-impl Test<Item> for FuelsIn<'_> {
-    ghost passes = { λ t item. is_fuel_in t.categories.now item.fuel };
-
-    fn passes(&self, item: &Item) -> bool {
-        is_fuel_in(self.categories, item.fuel)
-    }
-}
-
-// The fuels of categories that have lists.
+// The fuels of these categories, from the lists of all.
 fn fuels_listed(
     alloc: Global,
     fuels: &[Vec<NodeId>],
     categories: &[u32],
 ) -> Result<Vec<NodeId>, NoMemory>
-    requires { All (λ c. c < length fuels.now) categories.now }
     ensures { IfOk result (λ nodes. HoldInOrder (numbers_at fuels.now categories.now) nodes.items) }
 {
     let mut numbers = Vec::new(alloc);
@@ -58,14 +34,6 @@ fn fuels_listed(
     }
     let nodes = in_order(alloc, numbers)?;
     Ok(nodes)
-}
-
-fn are_below(categories: &[u32], count: usize) -> bool
-    ensures { IsTrue result ↔ All (λ c. c < count) categories.now }
-{
-    categories
-        .iter()
-        .all(|category| (*category as usize) < count)
 }
 
 // The fuels that a burner of some categories takes.
@@ -79,15 +47,12 @@ fn fuels_taken(
     requires index { IsIndex game.now index.now }
     ensures { IfOk result (λ nodes. nodes.items ≡ those (λ item. is_fuel_in categories.now item.fuel) 3 game.now.items) }
 {
+    let _game = game;
     let different = distinct(Vec::from_slice(alloc, categories)?);
     let all = different.as_slice();
     let fuels = index.fuels.as_slice();
-    if are_below(all, fuels.len()) {
-        let nodes = fuels_listed(alloc, fuels, all)?;
-        Ok(nodes)
-    } else {
-        those(alloc, 3, game.items.as_slice(), &FuelsIn { categories })
-    }
+    let nodes = fuels_listed(alloc, fuels, all)?;
+    Ok(nodes)
 }
 
 // Whether a fluid burns, and is no variant.
@@ -165,11 +130,11 @@ fn push_energy(
     ensures { OnOk result (groups.new.items ≡ groups.old.items ++ energy_groups game.now energy.now) }
 {
     match energy {
-        Energy::Electric => groups.push(all_of_node(alloc, NodeId(1))?)?,
+        Energy::Electric => groups.push(all_of_node(alloc, NodeId::electricity())?)?,
         Energy::Burner { categories, .. } => {
             groups.push(burner_group(alloc, game, index, categories.as_slice())?)?
         }
-        Energy::Heat => groups.push(all_of_node(alloc, NodeId(2))?)?,
+        Energy::Heat => groups.push(all_of_node(alloc, NodeId::heat())?)?,
         Energy::Fluid { filter, .. } => {
             groups.push(fluid_or_burning(alloc, game, index, *filter)?)?
         }
