@@ -29,12 +29,12 @@ use Rattle.data_edit.specs.declared.books.Book.{Book}
 use Rattle.data_edit.specs.declared.edits.Edit.{Edit}
 use Rattle.depend_rows.specs.Alike.{AlikeBut, is_of_product, is_of_unlock, passes}
 use Rattle.depend_rows.specs.Indexed.{IsIndex}
-use Rattle.depend_rows.specs.Doing.{burning_fluids, is_machine, placers}
+use Rattle.depend_rows.specs.Machines.{burning_fluids, is_machine, placers}
 use Rattle.depend_rows.specs.Kinds.{crafts_all_of, crafts_alone, has_category, is_drill_of, is_fuel_of, is_lab, is_recipe, takes}
 use Rattle.depend_rows.specs.Coolest.{AreSorted}
 use Rattle.depend_rows.specs.Lists.{has_node, is_among, list_at, AreLists, AreMarks, HoldThose, Rise, Widen}
 use Rattle.depend_rows.specs.Words.{AreWords}
-use Rattle.depend_rows.specs.Making.{first_machine, first_recipe, first_source, first_tech, good_count, leavers, putters, puts_out, variants}
+use Rattle.depend_rows.specs.Goods.{first_machine, first_recipe, first_source, first_tech, good_count, leavers, putters, puts_out, variants}
 use Rattle.depend_rows.specs.Members.{those}
 use Rattle.depend_rows.specs.declared.index.Index.{Index}
 use Rattle.depend_rows.proofs.AmongLemmas.{at_those, below_those}

@@ -19,7 +19,7 @@ use Rattle.depend_rows.specs.Alike.{passes}
 use Rattle.depend_rows.specs.Coolest.{AreCoolestFirst, AreSorted, IsCoolestFirst, temperature_in, temperature_of}
 use Rattle.depend_rows.specs.Lists.{contents, has_node, is_among, list_at, number_at, HoldInOrder}
 use Rattle.depend_rows.specs.Indexed.{IsIndex}
-use Rattle.depend_rows.specs.Making.{good_count, variants}
+use Rattle.depend_rows.specs.Goods.{good_count, variants}
 use Rattle.depend_rows.specs.Members.{node, those}
 use Rattle.depend_rows.specs.declared.index.Index.{Index}
 use Rattle.depend_rows.proofs.AmongLemmas.{at_those, below_those}

@@ -6,8 +6,8 @@ use Rattle.game_types.specs.Making.{gives}
 use Rattle.game_types.specs.declared.games.Game.{Game}
 use Rattle.depend_rows.specs.declared.index.Index.{Index}
 use Rattle.depend_rows.specs.Members.{those}
-use Rattle.depend_rows.specs.Making.{first_machine, first_recipe, first_source, first_tech, good_count, leavers, putters, variants}
-use Rattle.depend_rows.specs.Doing.{burning_fluids, placers}
+use Rattle.depend_rows.specs.Goods.{first_machine, first_recipe, first_source, first_tech, good_count, leavers, putters, variants}
+use Rattle.depend_rows.specs.Machines.{burning_fluids, placers}
 use Rattle.depend_rows.specs.Kinds.{crafts_all_of, crafts_alone, is_drill_of, is_fuel_of, is_lab, takes}
 use Rattle.depend_rows.specs.Coolest.{AreSorted}
 use Rattle.depend_rows.specs.Lists.{AreAllLists, AreLists, AreMarks, HoldThose}

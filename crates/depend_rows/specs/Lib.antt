@@ -1,6 +1,6 @@
 pub mod Members
-pub mod Making
-pub mod Doing
+pub mod Goods
+pub mod Machines
 pub mod Lists
 pub mod Words
 pub mod Coolest

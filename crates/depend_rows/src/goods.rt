@@ -5,7 +5,7 @@ ghost use Rattle.game_types.specs.Sound.{IsSound};
 ghost use Rattle.depend_rows.specs.Indexed.{IsIndex};
 ghost use Rattle.game_types.specs.Temperatures.{is_base};
 ghost use Rattle.depend_rows.specs.Lists.{list_at};
-ghost use Rattle.depend_rows.specs.Making.{givers, good_count, good_row, leavers, makers, putters, variants};
+ghost use Rattle.depend_rows.specs.Goods.{givers, good_count, good_row, leavers, makers, putters, variants};
 
 use crate::among::recipes_giving;
 use crate::index::Index;
@@ -58,7 +58,7 @@ fn push_list_at(nodes: &mut Vec<NodeId>, lists: &[Vec<NodeId>], number: u32) -> 
 }
 
 // Appends the recipes and the sources that give a good.
-#[tactic(auto, unfolding(crate::specs::Making::makers))]
+#[tactic(auto, unfolding(crate::specs::Goods::makers))]
 fn push_makers(
     alloc: Global,
     nodes: &mut Vec<NodeId>,
@@ -112,7 +112,7 @@ fn plain_givers(
 }
 
 // What gives a good.
-#[tactic(auto, unfolding(crate::specs::Making::givers))]
+#[tactic(auto, unfolding(crate::specs::Goods::givers))]
 fn givers(alloc: Global, game: &Game, index: &Index, good: u32) -> Result<Vec<NodeId>, NoMemory>
     requires sound { IsSound game.now }
     requires index { IsIndex game.now index.now }
@@ -127,7 +127,7 @@ fn givers(alloc: Global, game: &Game, index: &Index, good: u32) -> Result<Vec<No
 }
 
 /// The row of a good.
-#[tactic(auto, unfolding(crate::specs::Making::good_row))]
+#[tactic(auto, unfolding(crate::specs::Goods::good_row))]
 pub fn good_row(alloc: Global, game: &Game, index: &Index, good: u32) -> Result<Row, NoMemory>
     requires sound { IsSound game.now }
     requires index { IsIndex game.now index.now }

@@ -6,8 +6,8 @@ ghost use Rattle.game_types.specs.Making.{gives};
 ghost use Rattle.game_types.specs.Sound.{IsSound};
 ghost use Rattle.game_types.specs.Temperatures.{is_good};
 ghost use Rattle.depend_rows.specs.Members.{those};
-ghost use Rattle.depend_rows.specs.Making.{first_machine, first_recipe, first_source, first_tech, good_count, leavers, putters, puts_out, variants};
-ghost use Rattle.depend_rows.specs.Doing.{burning_fluids, is_machine, names_good, placers};
+ghost use Rattle.depend_rows.specs.Goods.{first_machine, first_recipe, first_source, first_tech, good_count, leavers, putters, puts_out, variants};
+ghost use Rattle.depend_rows.specs.Machines.{burning_fluids, is_machine, names_good, placers};
 ghost use Rattle.depend_rows.specs.Kinds.{crafts_all_of, crafts_alone, has_category, is_drill_of, is_fuel_of, takes};
 ghost use Rattle.depend_rows.specs.Lists.{AreAllLists, AreLists, HoldThose, is_among};
 ghost use Rattle.depend_rows.specs.Words.{AreWords};
@@ -386,7 +386,7 @@ impl Keys<Machine> for Taken {
 
 // ---- the lists
 
-#[tactic(auto, unfolding(crate::specs::Making::leavers))]
+#[tactic(auto, unfolding(crate::specs::Goods::leavers))]
 fn leavers(alloc: Global, game: &Game) -> Result<Vec<Vec<NodeId>>, NoMemory>
     requires { IsSound game.now }
     ensures { IfOk result (λ lists. AreLists (leavers game.now) (good_count game.now) lists.items) }
@@ -395,7 +395,7 @@ fn leavers(alloc: Global, game: &Game) -> Result<Vec<Vec<NodeId>>, NoMemory>
     lists_of(alloc, count, 3, game.items.as_slice(), &Given)
 }
 
-#[tactic(auto, unfolding(crate::specs::Making::variants))]
+#[tactic(auto, unfolding(crate::specs::Goods::variants))]
 fn variants(alloc: Global, game: &Game) -> Result<Vec<Vec<NodeId>>, NoMemory>
     requires { IsSound game.now }
     ensures { IfOk result (λ lists. AreLists (variants game.now) (good_count game.now) lists.items) }
@@ -420,7 +420,7 @@ fn coolest_variants(
     sorted_lists(alloc, game.fluids.as_slice(), first_fluid(game), variants)
 }
 
-#[tactic(auto, unfolding(crate::specs::Making::putters))]
+#[tactic(auto, unfolding(crate::specs::Goods::putters))]
 fn putters(alloc: Global, game: &Game) -> Result<Vec<Vec<NodeId>>, NoMemory>
     requires { IsSound game.now }
     ensures { IfOk result (λ lists. AreLists (putters game.now) (good_count game.now) lists.items) }
@@ -490,7 +490,7 @@ fn unlockers(alloc: Global, game: &Game) -> Result<Vec<Vec<NodeId>>, NoMemory>
     Ok(lists)
 }
 
-#[tactic(auto, unfolding(crate::specs::Doing::placers))]
+#[tactic(auto, unfolding(crate::specs::Machines::placers))]
 fn placers(alloc: Global, game: &Game) -> Result<Vec<Vec<NodeId>>, NoMemory>
     requires { IsSound game.now }
     ensures { IfOk result (λ lists. AreLists (placers game.now) (length game.now.machines) lists.items) }

@@ -8,7 +8,7 @@ ghost use Rattle.depend_rows.specs.Members.{any_of, row_with, those};
 ghost use Rattle.depend_rows.specs.Indexed.{IsIndex};
 ghost use Rattle.depend_rows.specs.Kinds.{is_fuel_in};
 ghost use Rattle.depend_rows.specs.Lists.{numbers_at, HoldInOrder};
-ghost use Rattle.depend_rows.specs.Doing.{burning_fluids, electricity_row, energy_groups, fluid_or_burning, fuels_taken, heat_row, input_groups, machine_row, makes_electricity, makes_heat};
+ghost use Rattle.depend_rows.specs.Machines.{burning_fluids, electricity_row, energy_groups, fluid_or_burning, fuels_taken, heat_row, input_groups, machine_row, makes_electricity, makes_heat};
 
 use crate::index::Index;
 use crate::lists::{distinct, list_at};
@@ -68,7 +68,7 @@ impl Test<Fluid> for Burning {
 }
 
 /// The fluids that burn.
-#[tactic(auto, unfolding(crate::specs::Doing::burning_fluids))]
+#[tactic(auto, unfolding(crate::specs::Machines::burning_fluids))]
 pub fn burning_fluids(alloc: Global, game: &Game) -> Result<Vec<NodeId>, NoMemory>
     requires { IsSound game.now }
     ensures { IfOk result (λ nodes. nodes.items ≡ burning_fluids game.now) }
@@ -77,7 +77,7 @@ pub fn burning_fluids(alloc: Global, game: &Game) -> Result<Vec<NodeId>, NoMemor
 }
 
 // All of one fluid, or any that burns.
-#[tactic(auto, unfolding(crate::specs::Doing::fluid_or_burning))]
+#[tactic(auto, unfolding(crate::specs::Machines::fluid_or_burning))]
 fn fluid_or_burning(
     alloc: Global,
     game: &Game,
@@ -100,7 +100,7 @@ fn fluid_or_burning(
 }
 
 // The group of a burner.
-#[tactic(auto, unfolding(crate::specs::Doing::fuels_taken))]
+#[tactic(auto, unfolding(crate::specs::Machines::fuels_taken))]
 fn burner_group(
     alloc: Global,
     game: &Game,
@@ -116,7 +116,7 @@ fn burner_group(
 }
 
 // What a machine takes its energy from.
-#[tactic(auto, unfolding(crate::specs::Doing::energy_groups))]
+#[tactic(auto, unfolding(crate::specs::Machines::energy_groups))]
 fn push_energy(
     alloc: Global,
     game: &Game,
@@ -144,7 +144,7 @@ fn push_energy(
 }
 
 // What a boiler heats, and what a generator runs on.
-#[tactic(auto, unfolding(crate::specs::Doing::input_groups))]
+#[tactic(auto, unfolding(crate::specs::Machines::input_groups))]
 fn push_input(
     alloc: Global,
     game: &Game,
@@ -172,7 +172,7 @@ fn push_input(
 }
 
 /// The row of a machine.
-#[tactic(auto, unfolding(crate::specs::Doing::machine_row))]
+#[tactic(auto, unfolding(crate::specs::Machines::machine_row))]
 pub fn machine_row(
     alloc: Global,
     game: &Game,
@@ -248,7 +248,7 @@ fn any_row(alloc: Global, members: Vec<NodeId>) -> Result<Row, NoMemory>
 }
 
 /// The row of electricity.
-#[tactic(auto, unfolding(crate::specs::Doing::electricity_row))]
+#[tactic(auto, unfolding(crate::specs::Machines::electricity_row))]
 pub fn electricity_row(alloc: Global, game: &Game) -> Result<Row, NoMemory>
     requires { IsSound game.now }
     ensures { IfOk result (λ row. row ≡ electricity_row game.now) }
@@ -263,7 +263,7 @@ pub fn electricity_row(alloc: Global, game: &Game) -> Result<Row, NoMemory>
 }
 
 /// The row of heat.
-#[tactic(auto, unfolding(crate::specs::Doing::heat_row))]
+#[tactic(auto, unfolding(crate::specs::Machines::heat_row))]
 pub fn heat_row(alloc: Global, game: &Game) -> Result<Row, NoMemory>
     requires { IsSound game.now }
     ensures { IfOk result (λ row. row ≡ heat_row game.now) }

@@ -8,7 +8,7 @@ ghost use Rattle.depend_rows.specs.Indexed.{IsIndex};
 ghost use Rattle.depend_rows.specs.Lists.{list_at, AreAllLists, AreMarks, HoldInOrder};
 ghost use Rattle.depend_rows.specs.Kinds.{is_drill_of};
 ghost use Rattle.depend_rows.specs.Members.{named, those};
-ghost use Rattle.depend_rows.specs.Making.{bounded_group, bounded_groups, crafters, crafters_by, first_machine, fits, free_good, good_count, ingredients, is_free, miners, recipe_row, source_row};
+ghost use Rattle.depend_rows.specs.Goods.{bounded_group, bounded_groups, crafters, crafters_by, first_machine, fits, free_good, good_count, ingredients, is_free, miners, recipe_row, source_row};
 
 use crate::among::techs_unlocking;
 use crate::goods::is_base;
@@ -65,7 +65,7 @@ fn goods_of_parts(alloc: Global, parts: &[Part]) -> Result<Vec<u32>, NoMemory>
     Ok(goods)
 }
 
-#[tactic(auto, unfolding(crate::specs::Making::ingredients))]
+#[tactic(auto, unfolding(crate::specs::Goods::ingredients))]
 fn ingredients(alloc: Global, game: &Game, recipe: &Recipe) -> Result<Vec<NodeId>, NoMemory>
     requires sound { IsSound game.now }
     requires recipe { IsSoundRecipe game.now recipe.now }
@@ -118,7 +118,7 @@ fn good_itself(alloc: Global, game: &Game, good: GoodId) -> Result<Vec<NodeId>, 
 }
 
 // The goods that fit an ingredient.
-#[tactic(auto, unfolding(crate::specs::Making::fits))]
+#[tactic(auto, unfolding(crate::specs::Goods::fits))]
 fn fits(alloc: Global, game: &Game, index: &Index, part: &Part) -> Result<Vec<NodeId>, NoMemory>
     requires sound { IsSound game.now }
     requires index { IsIndex game.now index.now }
@@ -263,7 +263,7 @@ fn ordinary_crafters(
 }
 
 // What crafts a recipe.
-#[tactic(auto, unfolding(crate::specs::Making::crafters))]
+#[tactic(auto, unfolding(crate::specs::Goods::crafters))]
 fn crafters(
     alloc: Global,
     game: &Game,
@@ -285,7 +285,7 @@ fn crafters(
 }
 
 /// The row of a recipe.
-#[tactic(auto, unfolding(crate::specs::Making::recipe_row, crate::specs::Making::bounded_groups))]
+#[tactic(auto, unfolding(crate::specs::Goods::recipe_row, crate::specs::Goods::bounded_groups))]
 pub fn recipe_row(
     alloc: Global,
     game: &Game,
@@ -364,7 +364,7 @@ fn drills_mining(
 }
 
 // The character and the drills that mine a source.
-#[tactic(auto, unfolding(crate::specs::Making::miners))]
+#[tactic(auto, unfolding(crate::specs::Goods::miners))]
 fn miners(
     alloc: Global,
     game: &Game,
@@ -381,7 +381,7 @@ fn miners(
 }
 
 /// The row of a source.
-#[tactic(auto, unfolding(crate::specs::Making::source_row))]
+#[tactic(auto, unfolding(crate::specs::Goods::source_row))]
 pub fn source_row(
     alloc: Global,
     game: &Game,

@@ -1,5 +1,5 @@
 use Rattle.std.proofs.Common.{◌∙◌, ◌++◌, ap}
-use Rattle.depend_rows.specs.Making.{first_machine}
+use Rattle.depend_rows.specs.Goods.{first_machine}
 use Rattle.depend_rows.specs.Members.{those}
 use Rattle.depend_rows.specs.Kinds.{crafts_all_of}
 use Rattle.depend_rows.specs.Lists.{list_at}

@@ -18,7 +18,7 @@ use Rattle.game_types.specs.declared.machinery.MachineKind.{MachineKind}
 use Rattle.game_types.specs.declared.machinery.MachineKind.TheVariants.{Boiler, Generator, BurnerGenerator, Solar, Reactor, Lab}
 use Rattle.game_types.specs.declared.research.Tech.{Tech}
 use Rattle.depend_rows.specs.Members.{all_of, any_of, good_node, group_where, named, row_with, those}
-use Rattle.depend_rows.specs.Making.{first_machine, first_tech, good_count}
+use Rattle.depend_rows.specs.Goods.{first_machine, first_tech, good_count}
 
 -- ---- machines
 abbrev pub is_machine : Option EntityId → ℕ → Bool

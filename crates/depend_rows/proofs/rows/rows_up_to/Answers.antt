@@ -1,11 +1,10 @@
 use Rattle.std.proofs.Common.{◌∙◌, ◌<◌, ◌≡◌, ap, arith}
 use Rattle.plan_base.specs.Shape.{node_count}
 use Rattle.game_types.specs.Nodes.{shape_of}
-use Rattle.depend_rows.specs.declared.rows.TheConstants.{MEMBER_LIMIT}
 use Rattle.depend_rows.specs.Rows.{row_of, rows_of}
 use Rattle.depend_rows.proofs.Below.{are_rows}
 use Rattle.depend_rows.proofs.Ranges.{rows_first, rows_more, rows_last, steps_first, steps_more, steps_last, members_first, members_more, members_past, members_last}
-use Rattle.depend_rows.proofs.rows.rows_within.Goals as goal
+use Rattle.depend_rows.proofs.rows.rows_up_to.Goals as goal
 
 pub loop-node-init : goal.loop-node-init
 loop-node-init g c = record {
@@ -33,7 +32,7 @@ unfolding rows_of
 returns-in-None-clause-rows g c =
     let game = c.args.book.now.game in
     let within : c.loop-node.node < node_count (shape_of game) = omega (arith, c.loop-node-test.true, c.len-nodes.ensures, ap node_count c.shape.ensures) in
-    λ _. members_past (row_of game) (node_count (shape_of game)) c.loop-node.node c.loop-node.members MEMBER_LIMIT c.in-Ok-row_at.row within c.in-Ok-row_at.ensures c.in-None.ensures c.loop-node.invariant.members
+    λ _. members_past (row_of game) (node_count (shape_of game)) c.loop-node.node c.loop-node.members c.args.limit c.in-Ok-row_at.row within c.in-Ok-row_at.ensures c.in-None.ensures c.loop-node.invariant.members
 
 pub returns-clause-rows : goal.returns-clause-rows
 unfolding rows_of
@@ -41,7 +40,7 @@ returns-clause-rows g c =
     let game = c.args.book.now.game in
     let nodes : c.len-nodes.result ≡ node_count (shape_of game) = c.len-nodes.ensures ∙ ap node_count c.shape.ensures in (
       rows_last (row_of game) (node_count (shape_of game)) c.loop-node.node c.loop-node.rows.items (omega (arith, c.loop-node-test.false, nodes)) c.loop-node.invariant.rows,
-      members_last (row_of game) (node_count (shape_of game)) c.loop-node.node c.loop-node.members MEMBER_LIMIT (omega (arith, c.loop-node-test.false, nodes)) c.loop-node.invariant.few c.loop-node.invariant.members,
+      members_last (row_of game) (node_count (shape_of game)) c.loop-node.node c.loop-node.members c.args.limit (omega (arith, c.loop-node-test.false, nodes)) c.loop-node.invariant.few c.loop-node.invariant.members,
     )
 
 pub returns-clause-graph : goal.returns-clause-graph
