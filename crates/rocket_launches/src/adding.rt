@@ -1,18 +1,19 @@
 //! A game with its launches.
-ghost use Rattle.std.specs.Prelude.{◌≡◌, ◌≢◌, ◌<◌, ◌≤◌, ◌+◌, ◌-◌, ◌++◌, IfOk, length, map};
+ghost use Rattle.std.specs.Prelude.{◌≡◌, ◌≢◌, ◌<◌, ◌≤◌, ◌+◌, ◌-◌, ◌++◌, Some, Err, IfOk, length, map, slice_get};
 ghost use Rattle.plan_base.specs.Shape.{node_count};
 ghost use Rattle.game_types.specs.Nodes.{node_limit, shape_of};
 ghost use Rattle.craft_reader.specs.Faults.{GivesDump};
 ghost use Rattle.game_types.specs.Sound.{IsSound};
-ghost use Rattle.rocket_launches.specs.Launches.{AddsNames, IsThere, flights, launch_fault, launch_name, launch_recipe, with_launches};
+ghost use Rattle.rocket_launches.specs.Launches.{AddsNames, cargo_in, flight_beyond, flights, flights_of, launch_fault, launch_name, launch_recipe, silos_in, with_launches};
 
+use crate::apart::are_apart;
 use crate::launches::{launch_names, launch_recipes, name_at};
-use crate::silos::{Flight, flights};
+use crate::silos::{Flight, Silo, cargo, flights, silos};
 use crate::taken::first_taken;
 use craft_reader::{DumpCode, DumpFault};
 use game_types::{Game, NODE_LIMIT, Recipe};
 use name_table::Names;
-use plan_base::{Items, NoMemory, Text};
+use plan_base::{GoodId, Items, NoMemory, Text};
 use prototype_fields::{FieldCode, FieldFault, Key, Within};
 use std::alloc::Global;
 
@@ -24,8 +25,8 @@ enum Added {
     NoMemory,
 }
 
-#[tactic(auto, using(crate::proofs::NameLemmas::taken_stop, crate::proofs::NameLemmas::taken_pass, crate::proofs::NameLemmas::taken_none, crate::proofs::NameLemmas::one_more, crate::proofs::NameLemmas::all_added))]
 // Adds names of launches up to the first that is taken.
+#[tactic(auto, using(crate::proofs::NameLemmas::taken_stop, crate::proofs::NameLemmas::taken_pass, crate::proofs::NameLemmas::taken_none, crate::proofs::NameLemmas::one_more, crate::proofs::NameLemmas::all_added))]
 fn add_names(names: &mut Names, new: &[Text]) -> Added
     ensures { AddsNames names.old names.new new.now result }
 {
@@ -143,11 +144,39 @@ fn room(game: &Game) -> usize
     (NODE_LIMIT - game.shape().len()) as usize
 }
 
-// The fault of a game with more flights than there is room for.
-fn refused(alloc: Global, game: &Game, all: &[Flight]) -> DumpFault
+// The flight of a place among those of silos with cargo.
+#[tactic(auto, using(crate::proofs::FlightPlaces::flight_there, crate::proofs::FlightPlaces::flight_past, crate::proofs::FlightPlaces::no_flights))]
+fn flight_at(silos: &[Silo], cargo: &[GoodId], place: usize) -> Option<Flight>
+    ensures { result ≡ slice_get (flights_of silos.now cargo.now) place }
+{
+    if cargo.is_empty() {
+        return None;
+    }
+    match silos.get(place / cargo.len()) {
+        Some(silo) => Some(Flight {
+            silo: *silo,
+            cargo: cargo[place % cargo.len()],
+        }),
+        None => None,
+    }
+}
+
+// The first flight for which there is no node.
+#[tactic(auto, unfolding(crate::specs::Launches::flight_beyond, crate::specs::Launches::flights))]
+fn flight_beyond(game: &Game, silos: &[Silo], cargo: &[GoodId]) -> Option<Flight>
+    requires sound { IsSound game.now }
+    requires silos { silos.now ≡ silos_in game.now }
+    requires cargo { cargo.now ≡ cargo_in game.now }
+    ensures { result ≡ flight_beyond game.now }
+{
+    flight_at(silos, cargo, room(game))
+}
+
+// The fault of the first flight whose launch has a name that is taken, or else of one for which there is no node.
+fn first_refused(alloc: Global, game: &Game, all: &[Flight], beyond: &Flight) -> DumpFault
     requires sound { IsSound game.now }
     requires flights { all.now ≡ flights game.now }
-    requires more { node_limit - node_count (shape_of game.now) < length all.now }
+    requires beyond { flight_beyond game.now ≡ Some beyond.now }
     ensures { result.code ≢ DumpCode.NoMemory → with_launches game.now ≡ Err result }
 {
     let Ok(taken) = first_taken(alloc, game, all) else {
@@ -155,22 +184,41 @@ fn refused(alloc: Global, game: &Game, all: &[Flight]) -> DumpFault
     };
     match taken {
         Some(place) => launch_fault(alloc, game, FieldCode::Twice, &all[place]),
-        None => launch_fault(alloc, game, FieldCode::Limit, &all[room(game)]),
+        None => launch_fault(alloc, game, FieldCode::Limit, beyond),
     }
 }
 
-// The game with its launches.
-fn launched(alloc: Global, game: Game) -> Result<Game, DumpFault>
-    requires { IsSound game }
+// The fault of a game with more flights than there is room for. They are made, which may be many, only where names of launches
+// might be taken.
+fn refused(
+    alloc: Global,
+    game: &Game,
+    silos: &[Silo],
+    cargo: &[GoodId],
+    beyond: &Flight,
+) -> DumpFault
+    requires sound { IsSound game.now }
+    requires silos { silos.now ≡ silos_in game.now }
+    requires cargo { cargo.now ≡ cargo_in game.now }
+    requires beyond { flight_beyond game.now ≡ Some beyond.now }
+    ensures { result.code ≢ DumpCode.NoMemory → with_launches game.now ≡ Err result }
+{
+    if are_apart(game, silos) {
+        return launch_fault(alloc, game, FieldCode::Limit, beyond);
+    }
+    match flights(alloc, silos, cargo) {
+        Ok(all) => first_refused(alloc, game, all.as_slice(), beyond),
+        Err(NoMemory) => DumpFault::of_code(alloc, DumpCode::NoMemory),
+    }
+}
+
+// The game with the launches of flights for which there are nodes.
+fn with_flights(alloc: Global, game: Game, all: &[Flight]) -> Result<Game, DumpFault>
+    requires sound { IsSound game }
+    requires flights { all.now ≡ flights game }
+    requires room { node_count (shape_of game) + length all.now ≤ node_limit }
     ensures { GivesDump (with_launches game) result }
 {
-    let Ok(flights) = flights(alloc, &game) else {
-        return Err(DumpFault::of_code(alloc, DumpCode::NoMemory));
-    };
-    let all = flights.as_slice();
-    if room(&game) < all.len() {
-        return Err(refused(alloc, &game, all));
-    }
     let Ok(names) = launch_names(alloc, &game, all) else {
         return Err(DumpFault::of_code(alloc, DumpCode::NoMemory));
     };
@@ -178,6 +226,27 @@ fn launched(alloc: Global, game: Game) -> Result<Game, DumpFault>
         return Err(DumpFault::of_code(alloc, DumpCode::NoMemory));
     };
     with_names(alloc, game, all, names.as_slice(), recipes)
+}
+
+// The game with its launches.
+fn launched(alloc: Global, game: Game) -> Result<Game, DumpFault>
+    requires { IsSound game }
+    ensures { GivesDump (with_launches game) result }
+{
+    let Ok(silos) = silos(alloc, &game) else {
+        return Err(DumpFault::of_code(alloc, DumpCode::NoMemory));
+    };
+    let Ok(cargo) = cargo(alloc, &game) else {
+        return Err(DumpFault::of_code(alloc, DumpCode::NoMemory));
+    };
+    let (silos, cargo) = (silos.as_slice(), cargo.as_slice());
+    if let Some(beyond) = flight_beyond(&game, silos, cargo) {
+        return Err(refused(alloc, &game, silos, cargo, &beyond));
+    }
+    match flights(alloc, silos, cargo) {
+        Ok(all) => with_flights(alloc, game, all.as_slice()),
+        Err(NoMemory) => Err(DumpFault::of_code(alloc, DumpCode::NoMemory)),
+    }
 }
 
 /// The game with a recipe for each launch behind the recipes of the dump.

@@ -3,8 +3,8 @@ use Rattle.std.specs.Prelude.{All, IfSome}
 use Rattle.rocket_launches.specs.Launches.{IsThere}
 use Rattle.rocket_launches.specs.declared.silos.Flight.{Flight}
 use Rattle.rocket_launches.proofs.Flights.{all_there}
-use Rattle.rocket_launches.proofs.SoundLaunches.{beyond_limit, flight_known, taken_first}
-use Rattle.rocket_launches.proofs.adding.refused.Goals as goal
+use Rattle.rocket_launches.proofs.SoundLaunches.{beyond_limit, beyond_named, flight_known, taken_first}
+use Rattle.rocket_launches.proofs.adding.first_refused.Goals as goal
 
 abbrev nothing : Flight
 nothing = record { silo = record { machine = record { 0 = 0 }; category = 0; part = record { 0 = 0 }; parts = 0 }; cargo = record { 0 = 0 } }
@@ -16,10 +16,10 @@ pub launch_fault-requires : goal.launch_fault-requires
 launch_fault-requires c = flight_known c.args.game.now c.requires.sound c.args.all.now c.in-Some.place nothing c.requires.flights (subst (λ (o : Option ℕ). IfSome o (λ place. place < length c.args.all.now)) c.in-Some.is c.in-Ok.ensures.within)
 
 pub launch_fault-requires-in-None : goal.launch_fault-requires-in-None
-launch_fault-requires-in-None c = flight_known c.args.game.now c.requires.sound c.args.all.now c.room.result nothing c.requires.flights (subst (λ (n : ℕ). n < length c.args.all.now) (sym c.room.ensures) c.requires.more)
+launch_fault-requires-in-None c = beyond_named c.args.game.now c.requires.sound c.args.beyond.now c.requires.beyond
 
 pub returns-in-Some : goal.returns-in-Some
 returns-in-Some c = λ memory. taken_first c.args.game.now c.args.all.now c.in-Some.place nothing c.launch_fault.result c.requires.flights (sym c.in-Some.is ∙ c.in-Ok.ensures.first) (subst (λ (o : Option ℕ). IfSome o (λ place. place < length c.args.all.now)) c.in-Some.is c.in-Ok.ensures.within) (c.launch_fault.ensures memory)
 
 pub returns-in-None : goal.returns-in-None
-returns-in-None c = λ memory. beyond_limit c.args.game.now c.args.all.now c.room.result nothing _ c.requires.flights (sym c.in-None.is ∙ c.in-Ok.ensures.first) c.room.ensures c.requires.more (c.launch_fault-in-None.ensures memory)
+returns-in-None c = λ memory. beyond_limit c.args.game.now c.args.all.now c.args.beyond.now _ c.requires.flights (sym c.in-None.is ∙ c.in-Ok.ensures.first) c.requires.beyond (c.launch_fault-in-None.ensures memory)
