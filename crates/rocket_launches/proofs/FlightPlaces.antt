@@ -1,14 +1,15 @@
 -- Where the flights of each silo stand among all.
-use Rattle.std.proofs.Common.{◌≡◌, ◌∙◌, ◌<◌, ◌≤◌, ◌+◌, ◌-◌, ◌*◌, ◌/◌, ◌%◌, ◌++◌, ℕ, Bool, true, false, zero, suc, List, [], ◌∷◌, length, map, refl, ap, arith}
-use Rattle.std.specs.Prelude.{nat_lt, option_map, slice_get, slice_index_or}
+use Rattle.std.proofs.Common.{◌≡◌, ◌∙◌, ◌<◌, ◌≤◌, ◌+◌, ◌-◌, ◌*◌, ◌/◌, ◌%◌, ◌++◌, ℕ, Bool, true, false, zero, suc, List, [], ◌∷◌, Some, None, length, map, refl, sym, ap, arith}
+use Rattle.std.specs.Prelude.{◌==◌, nat_lt, option_map, slice_get, slice_index_or}
 use Rattle.std.specs.List.{flat_map}
 use Rattle.std.proofs.Math.Nat.{mod-lt}
 use Rattle.std.proofs.lemmas.Nat.{div-add-mod'}
 use Rattle.plan_base.specs.declared.ids.GoodId.{GoodId}
+use Rattle.game_types.specs.declared.games.Game.{Game}
 use Rattle.rocket_launches.specs.declared.silos.Flight.{Flight}
 use Rattle.rocket_launches.specs.declared.silos.Silo.{Silo}
-use Rattle.rocket_launches.specs.Launches.{flight, flights_of}
-use Rattle.std.proofs.lemmas.Option.{slice_get-map, slice_get-get_or}
+use Rattle.rocket_launches.specs.Launches.{cargo_in, flight, flights, flights_of, silos_in}
+use Rattle.std.proofs.lemmas.Option.{slice_get_past, slice_get-map, slice_get-get_or}
 use Rattle.std.proofs.lemmas.Bool.Decides.{nat_tests}
 use Rattle.std.proofs.lemmas.List.{length-append, length-map}
 
@@ -92,3 +93,17 @@ no_flights silos [] place is = sym (ap (λ (xs : List Flight). slice_get xs plac
     none [] = refl
     none (silo ∷ silos) = none silos
 no_flights silos (good ∷ cargo) place is = absurd (omega (arith, is))
+
+pub made_flights : (g : Game) (silos : List Silo) (cargo : List GoodId) → silos ≡ silos_in g → cargo ≡ cargo_in g → flights_of silos cargo ≡ flights g
+unfolding flights
+made_flights g silos cargo is are = ap (λ (xs : List Silo). flights_of xs cargo) is ∙ ap (flights_of (silos_in g)) are
+
+-- ---- what looking tells
+pub silo_there : (silos : List Silo) (place : ℕ) (silo : Silo) → true ≡ nat_lt place (length silos) → silo ≡ slice_index_or silos place silo → slice_get silos place ≡ Some silo
+silo_there silos place silo within is = slice_get-get_or silos place silo (grind (arith, nat_tests, within)) ∙ ap Some (sym is)
+
+pub silos_past : (silos : List Silo) (place : ℕ) → false ≡ nat_lt place (length silos) → slice_get silos place ≡ None
+silos_past silos place past = slice_get_past silos place (grind (arith, nat_tests, past))
+
+pub some_cargo : (count : ℕ) → false ≡ (count == 0) → 0 < count
+some_cargo count some = grind (arith, nat_tests, some)

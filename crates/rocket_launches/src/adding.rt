@@ -16,6 +16,7 @@ use name_table::Names;
 use plan_base::{GoodId, Items, NoMemory, Text};
 use prototype_fields::{FieldCode, FieldFault, Key, Within};
 use std::alloc::Global;
+use std::mem;
 
 /// Whether names were added.
 enum Added {
@@ -68,43 +69,13 @@ fn appended(recipes: Items<Recipe>, more: Vec<Recipe>) -> Result<Items<Recipe>, 
     Ok(Items::from_vec(all))
 }
 
-// The game with recipes behind its own.
-fn with_recipes(game: Game, recipes: Vec<Recipe>) -> Result<Game, NoMemory>
-    ensures { IfOk result (λ new. new ≡ record game { recipes = game.recipes ++ recipes.items }) }
+// Puts recipes behind those of a game, which has none after an error.
+fn put_recipes(alloc: Global, game: &mut Game, recipes: Vec<Recipe>) -> Result<(), NoMemory>
+    ensures { IfOk result (λ done. game.new ≡ record game.old { recipes = game.old.recipes ++ recipes.items }) }
 {
-    let Game {
-        items,
-        fluids,
-        recipes: dumped,
-        sources,
-        machines,
-        techs,
-        character,
-        item_names,
-        fluid_names,
-        recipe_names,
-        source_names,
-        machine_names,
-        tech_names,
-        categories,
-    } = game;
-    let recipes = appended(dumped, recipes)?;
-    Ok(Game {
-        items,
-        fluids,
-        recipes,
-        sources,
-        machines,
-        techs,
-        character,
-        item_names,
-        fluid_names,
-        recipe_names,
-        source_names,
-        machine_names,
-        tech_names,
-        categories,
-    })
+    let dumped = mem::replace(&mut game.recipes, Items::from_vec(Vec::new(alloc)));
+    game.recipes = appended(dumped, recipes)?;
+    Ok(())
 }
 
 // The game with names and recipes behind its own, for flights for which there are nodes.
@@ -124,8 +95,8 @@ fn with_names(
 {
     let mut game = game;
     match add_names(&mut game.recipe_names, names) {
-        Added::All => match with_recipes(game, recipes) {
-            Ok(game) => Ok(game),
+        Added::All => match put_recipes(alloc, &mut game, recipes) {
+            Ok(()) => Ok(game),
             Err(NoMemory) => Err(DumpFault::of_code(alloc, DumpCode::NoMemory)),
         },
         Added::Taken(place) => {

@@ -8,7 +8,7 @@ ghost use Rattle.rocket_launches.specs.Launches.{are_apart, begins_as_launch, ha
 use crate::launches::name_at;
 use crate::silos::Silo;
 use game_types::Game;
-use name_table::Names;
+use name_table::{NAME_LIMIT, Names};
 
 // Whether a name begins as that of a launch.
 fn begins_as_launch(name: &str) -> bool
@@ -51,12 +51,24 @@ fn are_plain(names: &Names, silos: &[Silo]) -> bool
     true
 }
 
+// No two machines have the same name, and no two items.
+fn names_differ(game: &Game)
+    ensures machines { AreDifferent game.now.machine_names }
+    ensures items { AreDifferent game.now.item_names }
+{
+    prove!(game.machine_names.len() as usize <= NAME_LIMIT);
+    prove!(game.item_names.len() as usize <= NAME_LIMIT);
+}
+
 /// Whether no launch can have the name of another or of a recipe of the dump: none of these begins as a launch, and a silo's name
 /// ends at the first colon.
 #[tactic(auto, unfolding(crate::specs::Launches::are_apart))]
 pub fn are_apart(game: &Game, silos: &[Silo]) -> bool
     requires { All (λ silo. silo.machine.0 < length game.now.machine_names) silos.now }
-    ensures { result ≡ are_apart game.now silos.now }
+    ensures apart { result ≡ are_apart game.now silos.now }
+    ensures machines { AreDifferent game.now.machine_names }
+    ensures items { AreDifferent game.now.item_names }
 {
+    names_differ(game);
     !any_begins(&game.recipe_names) && are_plain(&game.machine_names, silos)
 }

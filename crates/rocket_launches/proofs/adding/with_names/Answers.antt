@@ -9,7 +9,7 @@ pub launch_fault-requires : goal.launch_fault-requires
 launch_fault-requires c = flight_named c.args.game c.requires.sound c.args.all.now c.args.names.now c.in-Taken.place nothing c.requires.flights c.requires.names c.in-Taken.ensures.1
 
 pub returns-in-Ok : goal.returns-in-Ok
-returns-in-Ok c = names_launched c.args.game c.args.all.now c.args.names.now c.add_names.new.names c.args.recipes.items c.in-Ok.game c.requires.sound c.requires.flights c.requires.room c.requires.names c.requires.recipes c.in-All.ensures.0 c.in-All.ensures.1 c.in-Ok.ensures
+returns-in-Ok c = names_launched c.args.game c.args.all.now c.args.names.now c.add_names.new.names c.args.recipes.items c.put_recipes.new.game c.requires.sound c.requires.flights c.requires.room c.requires.names c.requires.recipes c.in-All.ensures.0 c.in-All.ensures.1 c.in-Ok.ensures
 
 pub returns-in-Taken : goal.returns-in-Taken
 returns-in-Taken c = λ memory.
