@@ -1,5 +1,5 @@
 //! A game with its launches.
-ghost use Rattle.std.specs.Prelude.{◌≡◌, ◌≢◌, ◌<◌, ◌≤◌, ◌+◌, ◌-◌, ◌++◌, Some, Err, IfOk, length, map, slice_get};
+ghost use Rattle.std.specs.Prelude.{◌≡◌, ◌≢◌, ◌<◌, ◌≤◌, ◌+◌, ◌-◌, ◌++◌, Some, Ok, Err, IfErr, IfOk, length, map, slice_get};
 ghost use Rattle.plan_base.specs.Shape.{node_count};
 ghost use Rattle.game_types.specs.Nodes.{node_limit, shape_of};
 ghost use Rattle.craft_reader.specs.Faults.{GivesDump};
@@ -78,30 +78,31 @@ fn put_recipes(alloc: Global, game: &mut Game, recipes: Vec<Recipe>) -> Result<(
     Ok(())
 }
 
-// The game with names and recipes behind its own, for flights for which there are nodes.
-fn with_names(
+// Puts names and recipes behind those of a game, for flights for which there are nodes. After an error the game has some of the
+// names.
+fn put_launches(
     alloc: Global,
-    game: Game,
+    game: &mut Game,
     all: &[Flight],
     names: &[Text],
     recipes: Vec<Recipe>,
-) -> Result<Game, DumpFault>
-    requires sound { IsSound game }
-    requires flights { all.now ≡ flights game }
-    requires room { node_count (shape_of game) + length all.now ≤ node_limit }
-    requires names { names.now ≡ map (launch_name game) all.now }
-    requires recipes { recipes.items ≡ map (launch_recipe game) all.now }
-    ensures { GivesDump (with_launches game) result }
+) -> Result<(), DumpFault>
+    requires sound { IsSound game.old }
+    requires flights { all.now ≡ flights game.old }
+    requires room { node_count (shape_of game.old) + length all.now ≤ node_limit }
+    requires names { names.now ≡ map (launch_name game.old) all.now }
+    requires recipes { recipes.items ≡ map (launch_recipe game.old) all.now }
+    ensures game { IfOk result (λ done. with_launches game.old ≡ Ok game.new) }
+    ensures fault { IfErr result (λ fault. fault.code ≢ DumpCode.NoMemory → with_launches game.old ≡ Err fault) }
 {
-    let mut game = game;
     match add_names(&mut game.recipe_names, names) {
-        Added::All => match put_recipes(alloc, &mut game, recipes) {
-            Ok(()) => Ok(game),
+        Added::All => match put_recipes(alloc, game, recipes) {
+            Ok(()) => Ok(()),
             Err(NoMemory) => Err(DumpFault::of_code(alloc, DumpCode::NoMemory)),
         },
         Added::Taken(place) => {
             let flight = &all[place];
-            Err(launch_fault(alloc, &game, FieldCode::Twice, flight))
+            Err(launch_fault(alloc, game, FieldCode::Twice, flight))
         }
         Added::NoMemory => Err(DumpFault::of_code(alloc, DumpCode::NoMemory)),
     }
@@ -196,7 +197,11 @@ fn with_flights(alloc: Global, game: Game, all: &[Flight]) -> Result<Game, DumpF
     let Ok(recipes) = launch_recipes(alloc, &game, all) else {
         return Err(DumpFault::of_code(alloc, DumpCode::NoMemory));
     };
-    with_names(alloc, game, all, names.as_slice(), recipes)
+    let mut game = game;
+    match put_launches(alloc, &mut game, all, names.as_slice(), recipes) {
+        Ok(()) => Ok(game),
+        Err(fault) => Err(fault),
+    }
 }
 
 // The game with its launches.
