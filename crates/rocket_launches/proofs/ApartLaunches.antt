@@ -113,8 +113,7 @@ module _ (g : Game) (machines : AreDifferent g.machine_names) (items : AreDiffer
   unfolding launch_name
   one_flight q p r s q_in p_in r_in s_in same =
       let parts = halves (name_at g.machine_names (silo_at q).machine.0) (name_at g.machine_names (silo_at p).machine.0) (name_at g.item_names (cargo_at r).0) (name_at g.item_names (cargo_at s).0)
-          (not_false _ (plain q no_silo q_in)) (not_false _ (plain p no_silo p_in)) (append_cancel_left (codes "launch:") _ _ same) in
-      (
+      (not_false _ (plain q no_silo q_in)) (not_false _ (plain p no_silo p_in)) (append_cancel_left (codes "launch:") _ _ same) in (
         one_number (λ (silo : Silo). silo.machine.0) (silos_in g) q p no_silo (rising (silo_of g) (λ (silo : Silo). silo.machine.0) (silo_number g) 0 g.machines) q_in p_in
             (one_named g.machine_names (silo_at q).machine.0 (silo_at p).machine.0 machines (silos_known q no_silo q_in) (silos_known p no_silo p_in) parts.before),
         one_number (λ (good : GoodId). good.0) (cargo_in g) r s (record { 0 = 0 }) (rising cargo_of (λ (good : GoodId). good.0) cargo_number 0 g.items) r_in s_in
@@ -142,7 +141,7 @@ module _ (g : Game) (machines : AreDifferent g.machine_names) (items : AreDiffer
       let first = name_place i (omega (arith, before, within)) in
       let second = name_place j within in
       let one = one_flight first.silo second.silo first.cargo second.cargo first.silo_in second.silo_in first.cargo_in second.cargo_in
-          (sym (name_there i first.silo first.cargo d first.is first.silo_in first.cargo_in) ∙ same ∙ name_there j second.silo second.cargo d second.is second.silo_in second.cargo_in) in
+      (sym (name_there i first.silo first.cargo d first.is first.silo_in first.cargo_in) ∙ same ∙ name_there j second.silo second.cargo d second.is second.silo_in second.cargo_in) in
       let equal : i ≡ j = first.is ∙ ap (λ q. q * length (cargo_in g) + first.cargo) one.0 ∙ ap (λ r. second.silo * length (cargo_in g) + r) one.1 ∙ sym second.is in
       omega (arith, before, equal)
 

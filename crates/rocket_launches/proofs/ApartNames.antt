@@ -50,8 +50,8 @@ free_names dumped earlier [] clear fresh apart = refl
 free_names dumped earlier (name ∷ names) clear fresh apart =
     ap (λ b. if b then Some (length earlier) else first_taken dumped (earlier ++ name ∷ []) names) (both_false _ _ (All-head (IsFree dumped) name names clear) (All-head (IsFree earlier) name names fresh))
     ∙ free_names dumped (earlier ++ name ∷ []) names (All-tail (IsFree dumped) name names clear)
-      (λ k d within. free_behind earlier (slice_index_or names k d) name (All-tail (IsFree earlier) name names fresh k d within) (apart 0 (suc k) d (omega arith) (omega (arith, within))))
-      (λ i j d before within. apart (suc i) (suc j) d (omega (arith, before)) (omega (arith, within)))
+    (λ k d within. free_behind earlier (slice_index_or names k d) name (All-tail (IsFree earlier) name names fresh k d within) (apart 0 (suc k) d (omega arith) (omega (arith, within))))
+    (λ i j d before within. apart (suc i) (suc j) d (omega (arith, before)) (omega (arith, within)))
 
 -- ---- no recipe begins as a launch
 any_less : {X : Type 0} (p q : X → Bool) (xs : List X) → ((x : X) → q x ≡ true → p x ≡ true) → list_any p xs ≡ false → list_any q xs ≡ false
@@ -88,7 +88,6 @@ or_parts true b h = absurd (cc)
 or_parts false b h = (refl, h)
 
 pub halves : (a b c d : List ℕ) → has_colon a ≡ false → has_colon b ≡ false → a ++ (58 ∷ c) ≡ b ++ (58 ∷ d) → Halves a b c d
-
 halves [] [] c d plain other same = record { before = refl; behind = tails 58 58 c d same }
 halves [] (y ∷ ys) c d plain other same = absurd (let h = heads 58 y c (ys ++ (58 ∷ d)) same in let p = (or_parts (y == 58) _ other).0 in let q : (y == 58) ≡ true = ap (λ n. n == 58) (sym h) in cc)
 halves (x ∷ xs) [] c d plain other same = absurd (let h = heads x 58 (xs ++ (58 ∷ c)) d same in let p = (or_parts (x == 58) _ plain).0 in let q : (x == 58) ≡ true = ap (λ n. n == 58) h in cc)

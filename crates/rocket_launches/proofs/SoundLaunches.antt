@@ -140,3 +140,7 @@ enough_room g sound all is none =
     let few = no_further (flights g) (node_limit - node_count (shape_of g)) none in
     let nodes = sound.nodes in
     subst (λ (xs : List Flight). node_count (shape_of g) + length xs ≤ node_limit) (sym is) (omega (arith, few, nodes))
+
+pub none_found : (found : Option Flight) → ((one : Flight) → found ≡ Some one → ⊥) → found ≡ None
+none_found None never = refl
+none_found (Some one) never = absurd (never one refl)

@@ -117,7 +117,7 @@ fn room(game: &Game) -> usize
 }
 
 // The flight of a place among those of silos with cargo.
-#[tactic(auto, using(crate::proofs::FlightPlaces::flight_there, crate::proofs::FlightPlaces::flight_past, crate::proofs::FlightPlaces::no_flights))]
+#[tactic(auto, using(crate::proofs::FlightPlaces::no_flights))]
 fn flight_at(silos: &[Silo], cargo: &[GoodId], place: usize) -> Option<Flight>
     ensures { result ≡ slice_get (flights_of silos.now cargo.now) place }
 {
@@ -184,24 +184,58 @@ fn refused(
     }
 }
 
-// The game with the launches of flights for which there are nodes.
-fn with_flights(alloc: Global, game: Game, all: &[Flight]) -> Result<Game, DumpFault>
-    requires sound { IsSound game }
-    requires flights { all.now ≡ flights game }
-    requires room { node_count (shape_of game) + length all.now ≤ node_limit }
-    ensures { GivesDump (with_launches game) result }
+// Puts the launches of flights, for which there are nodes, into a game.
+fn put_flights(alloc: Global, game: &mut Game, all: &[Flight]) -> Result<(), DumpFault>
+    requires sound { IsSound game.old }
+    requires flights { all.now ≡ flights game.old }
+    requires room { node_count (shape_of game.old) + length all.now ≤ node_limit }
+    ensures game { IfOk result (λ done. with_launches game.old ≡ Ok game.new) }
+    ensures fault { IfErr result (λ fault. fault.code ≢ DumpCode.NoMemory → with_launches game.old ≡ Err fault) }
 {
-    let Ok(names) = launch_names(alloc, &game, all) else {
+    let Ok(names) = launch_names(alloc, game, all) else {
         return Err(DumpFault::of_code(alloc, DumpCode::NoMemory));
     };
-    let Ok(recipes) = launch_recipes(alloc, &game, all) else {
+    let Ok(recipes) = launch_recipes(alloc, game, all) else {
         return Err(DumpFault::of_code(alloc, DumpCode::NoMemory));
     };
-    let mut game = game;
-    match put_launches(alloc, &mut game, all, names.as_slice(), recipes) {
-        Ok(()) => Ok(game),
-        Err(fault) => Err(fault),
+    put_launches(alloc, game, all, names.as_slice(), recipes)
+}
+
+// Puts the launches of silos with cargo into a game.
+fn put_all(
+    alloc: Global,
+    game: &mut Game,
+    silos: &[Silo],
+    cargo: &[GoodId],
+) -> Result<(), DumpFault>
+    requires sound { IsSound game.old }
+    requires silos { silos.now ≡ silos_in game.old }
+    requires cargo { cargo.now ≡ cargo_in game.old }
+    ensures game { IfOk result (λ done. with_launches game.old ≡ Ok game.new) }
+    ensures fault { IfErr result (λ fault. fault.code ≢ DumpCode.NoMemory → with_launches game.old ≡ Err fault) }
+{
+    if let Some(beyond) = flight_beyond(game, silos, cargo) {
+        return Err(refused(alloc, game, silos, cargo, &beyond));
     }
+    match flights(alloc, silos, cargo) {
+        Ok(all) => put_flights(alloc, game, all.as_slice()),
+        Err(NoMemory) => Err(DumpFault::of_code(alloc, DumpCode::NoMemory)),
+    }
+}
+
+// Puts its launches into a game.
+fn launch(alloc: Global, game: &mut Game) -> Result<(), DumpFault>
+    requires { IsSound game.old }
+    ensures game { IfOk result (λ done. with_launches game.old ≡ Ok game.new) }
+    ensures fault { IfErr result (λ fault. fault.code ≢ DumpCode.NoMemory → with_launches game.old ≡ Err fault) }
+{
+    let Ok(silos) = silos(alloc, game) else {
+        return Err(DumpFault::of_code(alloc, DumpCode::NoMemory));
+    };
+    let Ok(cargo) = cargo(alloc, game) else {
+        return Err(DumpFault::of_code(alloc, DumpCode::NoMemory));
+    };
+    put_all(alloc, game, silos.as_slice(), cargo.as_slice())
 }
 
 // The game with its launches.
@@ -209,19 +243,10 @@ fn launched(alloc: Global, game: Game) -> Result<Game, DumpFault>
     requires { IsSound game }
     ensures { GivesDump (with_launches game) result }
 {
-    let Ok(silos) = silos(alloc, &game) else {
-        return Err(DumpFault::of_code(alloc, DumpCode::NoMemory));
-    };
-    let Ok(cargo) = cargo(alloc, &game) else {
-        return Err(DumpFault::of_code(alloc, DumpCode::NoMemory));
-    };
-    let (silos, cargo) = (silos.as_slice(), cargo.as_slice());
-    if let Some(beyond) = flight_beyond(&game, silos, cargo) {
-        return Err(refused(alloc, &game, silos, cargo, &beyond));
-    }
-    match flights(alloc, silos, cargo) {
-        Ok(all) => with_flights(alloc, game, all.as_slice()),
-        Err(NoMemory) => Err(DumpFault::of_code(alloc, DumpCode::NoMemory)),
+    let mut game = game;
+    match launch(alloc, &mut game) {
+        Ok(()) => Ok(game),
+        Err(fault) => Err(fault),
     }
 }
 

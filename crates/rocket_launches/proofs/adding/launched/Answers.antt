@@ -1,0 +1,7 @@
+use Rattle.rocket_launches.proofs.adding.launched.Goals as goal
+
+pub returns-in-Ok : goal.returns-in-Ok
+returns-in-Ok c = c.in-Ok.ensures.game
+
+pub returns-in-Err : goal.returns-in-Err
+returns-in-Err c = c.in-Err.ensures.fault
