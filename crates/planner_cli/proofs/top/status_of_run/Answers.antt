@@ -7,7 +7,7 @@ use Rattle.planner_cli.proofs.top.status_of_run.Goals as goal
 pub returns-in-Err-Undefined-clause-leaves : goal.returns-in-Err-Undefined-clause-leaves
 returns-in-Err-Undefined-clause-leaves g c =
     leaves_told (g.S.Store.shelf c.args.store.now) (asked_of c.args.words.now) c.args.solved.now.items BadWords _ _ c.args.steps.now c.args.steps.now c.tell.result c.requires.none_yet
-    (c.in-Err-Undefined.ensures.asked c.in-Err-Undefined.field-0-is, omega arith) (omega arith) c.tell.ensures.tells
+    (asked_from c.args.words.now _ None (c.in-Ok.ensures) (c.in-Err-Undefined.ensures.asked c.in-Err-Undefined.field-0-is), omega arith) (omega arith) c.tell.ensures.tells
 
 pub returns-in-Err-NoMemory-clause-leaves : goal.returns-in-Err-NoMemory-clause-leaves
 returns-in-Err-NoMemory-clause-leaves g c =

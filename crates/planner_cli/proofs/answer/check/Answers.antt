@@ -1,0 +1,9 @@
+use Rattle.std.proofs.Common.{subst, sym}
+use Rattle.planning_state.specs.States.{first_state}
+use Rattle.planner_core.specs.Lines.{IsSessionOf}
+use Rattle.planner_cli.proofs.answer.check.Goals as goal
+
+pub check_lines-requires : goal.check_lines-requires
+check_lines-requires g c =
+    let game = c.requires.loaded.0 in
+    record { few = c.requires.few; session = (first_state game, subst (IsSessionOf (first_state game)) (sym c.requires.loaded.1) (c.state_is_of_the_active_edits.ensures.first game)) }

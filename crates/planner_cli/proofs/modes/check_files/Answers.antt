@@ -1,0 +1,27 @@
+use Rattle.std.proofs.Common.{[], refl}
+use Rattle.std.specs.Prelude.{Some}
+use Rattle.planner_cli.specs.Words.{Check, Files}
+use Rattle.planner_cli.proofs.EndingLemmas.{begins_early, begins_told, early_files, is_no_cut, leaves_told}
+use Rattle.planner_cli.proofs.modes.check_files.Goals as goal
+
+pub tell-requires : goal.tell-requires
+tell-requires g c = is_no_cut _ _ c.in-Err.early _ c.in-Err.ensures.ready
+
+pub returns-in-Err-clause-leaves : goal.returns-in-Err-clause-leaves
+returns-in-Err-clause-leaves g c =
+    leaves_told (g.S.Store.shelf c.args.store.now) (Some (Files (Check c.args.cert.now) (record { dump = c.args.dump.now; script = c.args.script.now }))) [] c.in-Err.early _ _ c.args.steps.now c.read_files.new.steps c.tell.result refl
+    (early_files (g.S.Store.shelf c.args.store.now) (Check c.args.cert.now) (record { dump = c.args.dump.now; script = c.args.script.now }) c.in-Err.early _ c.in-Err.ensures.ready) c.in-Err.ensures.later c.tell.ensures.tells
+
+pub returns-in-Err-clause-begins : goal.returns-in-Err-clause-begins
+returns-in-Err-clause-begins g c =
+    begins_told (g.S.Store.shelf c.args.store.now) (Some (Files (Check c.args.cert.now) (record { dump = c.args.dump.now; script = c.args.script.now }))) (g.S.Store.begun c.args.store.now) (g.S.Store.begun c.read_files.new.store) c.in-Err.early c.tell.result
+    c.tell.ensures.tells.text c.tell.ensures.tells.told
+    (begins_early (g.S.Store.shelf c.args.store.now) (Check c.args.cert.now) (record { dump = c.args.dump.now; script = c.args.script.now }) _ _ c.in-Err.early _ c.in-Err.ensures.ready c.in-Err.ensures.begins)
+
+pub returns-in-Ok-clause-leaves : goal.returns-in-Ok-clause-leaves
+returns-in-Ok-clause-leaves g c =
+    c.check_ready.ensures.leaves (record { dump = c.args.dump.now; script = c.args.script.now }) c.args.steps.now ? c.in-Ok.ensures.later
+
+pub returns-in-Ok-clause-begins : goal.returns-in-Ok-clause-begins
+returns-in-Ok-clause-begins g c =
+    c.check_ready.ensures.begins (record { dump = c.args.dump.now; script = c.args.script.now }) (g.S.Store.begun c.args.store.now) ?
