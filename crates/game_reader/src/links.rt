@@ -47,13 +47,21 @@ fn put<T: Drop>(alloc: Global, list: &mut Vec<T>, value: T) -> Result<(), DumpFa
     }
 }
 
+// The name at a place.
+fn name_at(names: &Names, place: usize) -> &str
+    requires { place < length names.now }
+    ensures { slice_get names.now place ≡ Some result.now }
+{
+    prove!(place < names.len() as usize);
+    names.name_of(place as u32)
+}
+
 // The name at the place behind those of a list.
 fn next_name<'n, T>(names: &'n Names, linked: &Vec<T>) -> &'n str
     requires { length linked.now.items < length names.now }
     ensures { slice_get names.now (length linked.now.items) ≡ Some result.now }
 {
-    prove!(linked.len() < names.len() as usize);
-    names.name_of(linked.len() as u32)
+    name_at(names, linked.len())
 }
 
 // An item of a name.

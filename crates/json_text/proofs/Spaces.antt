@@ -16,6 +16,12 @@ pub class-is_space : (b : ℕ) → class b ≡ Space → is_space b ≡ true
 unfolding class
 class-is_space b h = grind (arith, nat_tests)
 
+pub above_space : (b : ℕ) → 32 < b → class b ≡ Space → ⊥
+above_space b h e = small b h (class-is_space b e)
+  where
+    small : (b : ℕ) → 32 < b → is_space b ≡ true → ⊥
+    small b h e = grind (arith, nat_tests)
+
 pub space_append : (xs ys : List ℕ) → IsSpace xs → IsSpace ys → IsSpace (xs ++ ys)
 space_append [] ys h u = u
 space_append (b ∷ xs) ys h u = let parts = and_parts (is_space b) (list_all is_space xs) h in and_from (is_space b) (list_all is_space (xs ++ ys)) parts.0 (space_append xs ys parts.1 u)

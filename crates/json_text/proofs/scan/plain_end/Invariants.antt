@@ -4,6 +4,16 @@ use Rattle.std.specs.List.{list_all}
 use Rattle.json_text.specs.Lexing.{is_plain}
 use Rattle.json_text.proofs.scan.plain_end.Given as goal
 
+abbrev pub invariant-lanes : goal.invariant-lanes
+invariant-lanes l = record {
+  behind : l.at ≤ l.i;
+  within : l.i ≤ length l.bytes;
+  plain : list_all is_plain (slice_range l.bytes l.at l.i) ≡ true;
+}
+
+abbrev pub decreases-lanes : goal.decreases-lanes
+decreases-lanes l = length l.bytes - l.i
+
 abbrev pub invariant-loop-i : goal.invariant-loop-i
 invariant-loop-i l = record {
   behind : l.at ≤ l.i;
