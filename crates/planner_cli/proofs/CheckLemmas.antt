@@ -20,6 +20,10 @@ use Rattle.planner_cli.specs.Inputs.{IsBase}
 use Rattle.planner_cli.specs.Words.{FileNames, Files, Check, Run}
 use Rattle.planner_cli.proofs.EndingLemmas.{base_for, begins_told}
 
+-- the store tells what it told before
+pub kept : (R P : Shelf → Type 0) (before now : Shelf) → now ≡ before → R before → (R now → P now) → P before
+kept R P before now same r f = subst P same (f (subst R (sym same) r))
+
 -- the run ends early
 pub cert_early : (shelf : Shelf) (cert : List ℕ) (names : FileNames) (first : Planned) (bytes : List ℕ) (work : ℕ) (early : Status) → IsReady shelf (Some (Files Run names)) first bytes work → length (lines_of bytes) ≤ 100_000
     → EndsReadingCert shelf cert early → EndsEarly shelf (Some (Files (Check cert) names)) early work
