@@ -47,7 +47,8 @@ fn nothing_is_said_where_lines_were_answered(rt: HostRuntime) -> Result<(), Fail
 
 #[test]
 fn bad_words_are_told_the_usage(rt: HostRuntime) -> Result<(), Fail> {
-    let usage = "factoplan: usage: factoplan run DUMP SCRIPT, prove DUMP SCRIPT, check DUMP SCRIPT --cert FILE, or sample NUMBER SIZE\n";
+    let usage =
+        "factoplan: usage: factoplan run DUMP SCRIPT, prove DUMP SCRIPT, check DUMP SCRIPT --cert FILE, or sample NUMBER SIZE\n";
     assert!(rt; says(rt.alloc(), &Status::BadWords, usage));
     Ok(())
 }

@@ -87,11 +87,7 @@ fn append(alloc: Global, plain: &mut Vec<Text>, words: &[Text]) -> Result<(), No
 }
 
 // Takes the option out of the words, and puts the others behind those that are there.
-fn take_cert(
-    alloc: Global,
-    plain: &mut Vec<Text>,
-    words: &[Text],
-) -> Result<Option<Text>, NoMemory>
+fn take_cert(alloc: Global, plain: &mut Vec<Text>, words: &[Text]) -> Result<Option<Text>, NoMemory>
     ensures { IfOk result (λ cert. (plain.new.items ≡ plain.old.items ++ (taken words.now).words) × (cert ≡ (taken words.now).cert)) }
 {
     let mut rest = words;
