@@ -29,11 +29,12 @@ use Rattle.data_edit.specs.declared.books.Book.{Book}
 use Rattle.data_edit.specs.declared.edits.Edit.{Edit}
 use Rattle.depend_rows.specs.Alike.{AlikeBut, is_of_product, is_of_unlock, passes}
 use Rattle.depend_rows.specs.Indexed.{IsIndex}
-use Rattle.depend_rows.specs.Doing.{burning_fluids, is_machine, placers}
+use Rattle.depend_rows.specs.Machines.{burning_fluids, is_machine, placers}
 use Rattle.depend_rows.specs.Kinds.{crafts_all_of, crafts_alone, has_category, is_drill_of, is_fuel_of, is_lab, is_recipe, takes}
+use Rattle.depend_rows.specs.Coolest.{AreSorted}
 use Rattle.depend_rows.specs.Lists.{has_node, is_among, list_at, AreLists, AreMarks, HoldThose, Rise, Widen}
 use Rattle.depend_rows.specs.Words.{AreWords}
-use Rattle.depend_rows.specs.Making.{first_machine, first_recipe, first_source, first_tech, good_count, leavers, putters, puts_out, variants}
+use Rattle.depend_rows.specs.Goods.{first_machine, first_recipe, first_source, first_tech, good_count, leavers, putters, puts_out, variants}
 use Rattle.depend_rows.specs.Members.{those}
 use Rattle.depend_rows.specs.declared.index.Index.{Index}
 use Rattle.depend_rows.proofs.AmongLemmas.{at_those, below_those}
@@ -243,6 +244,8 @@ module _ (old new : Game) (kept : KeepsGame old new) where
   index_after index recipe_makers unlockers is makers_hold unlockers_hold = record {
     leavers = lists_same (leavers old) (leavers new) (good_count old) (good_count new) index.leavers.items leavers_same goods_same is.leavers;
     variants = lists_same (variants old) (variants new) (good_count old) (good_count new) index.variants.items variants_same goods_same is.variants;
+    coolest_variants = subst (λ n. AreSorted new.fluids (3 + n) index.variants.items index.coolest_variants.items) (sym item_count)
+        (subst (λ (fluids : List Fluid). AreSorted fluids (3 + length old.items) index.variants.items index.coolest_variants.items) (sym kept.fluids) is.coolest_variants);
     recipe_makers = subst (λ n. HoldThose false (λ (recipe : Recipe) good. gives recipe.products good) (first_recipe new) new.recipes n recipe_makers.items) (sym goods_same)
         (subst (λ n. HoldThose false (λ (recipe : Recipe) good. gives recipe.products good) n new.recipes (good_count old) recipe_makers.items) (sym first_recipe_same) makers_hold);
     source_makers = lists_same (λ good. those (λ source. gives source.products good) (first_source old) old.sources) (λ good. those (λ source. gives source.products good) (first_source new) new.sources) (good_count old) (good_count new)
@@ -251,18 +254,14 @@ module _ (old new : Game) (kept : KeepsGame old new) where
     unlockers = subst (λ n. HoldThose false (λ (tech : Tech) number. list_any (λ r. r.0 == number) tech.unlocks) (first_tech new) new.techs n unlockers.items) (sym recipe_count)
         (subst (λ n. HoldThose false (λ (tech : Tech) number. list_any (λ r. r.0 == number) tech.unlocks) n new.techs (length old.recipes) unlockers.items) (sym first_tech_same) unlockers_hold);
     placers = lists_same (placers old) (placers new) (length old.machines) (length new.machines) index.placers.items placers_same machine_count is.placers;
-    crafters = lists_same (λ category. those (λ machine. crafts_all_of machine.kind category) (first_machine old) old.machines) (λ category. those (λ machine. crafts_all_of machine.kind category) (first_machine new) new.machines)
-        (length index.crafters.items) (length index.crafters.items) index.crafters.items (λ category. machines_same (λ machine. crafts_all_of machine.kind category)) refl is.crafters;
+    crafters = λ category. is.crafters category ∙ sym (machines_same (λ machine. crafts_all_of machine.kind category));
     fixed = lists_same (λ number. those (λ machine. crafts_alone old.recipes machine.kind number) (first_machine old) old.machines) (λ number. those (λ machine. crafts_alone new.recipes machine.kind number) (first_machine new) new.machines)
         (length old.recipes) (length new.recipes) index.fixed.items
         (λ number. those_same (λ (machine : Machine). crafts_alone new.recipes machine.kind number) (λ (machine : Machine). crafts_alone old.recipes machine.kind number) (λ machine. same_alone old.recipes new.recipes kept.recipes number machine.kind) new.machines (first_machine new)
         ∙ machines_same (λ machine. crafts_alone old.recipes machine.kind number)) recipe_count is.fixed;
-    drills = lists_same (λ category. those (λ machine. is_drill_of false machine.kind category) (first_machine old) old.machines) (λ category. those (λ machine. is_drill_of false machine.kind category) (first_machine new) new.machines)
-        (length index.drills.items) (length index.drills.items) index.drills.items (λ category. machines_same (λ machine. is_drill_of false machine.kind category)) refl is.drills;
-    boxed_drills = lists_same (λ category. those (λ machine. is_drill_of true machine.kind category) (first_machine old) old.machines) (λ category. those (λ machine. is_drill_of true machine.kind category) (first_machine new) new.machines)
-        (length index.boxed_drills.items) (length index.boxed_drills.items) index.boxed_drills.items (λ category. machines_same (λ machine. is_drill_of true machine.kind category)) refl is.boxed_drills;
-    fuels = lists_same (λ category. those (λ item. is_fuel_of item.fuel category) 3 old.items) (λ category. those (λ item. is_fuel_of item.fuel category) 3 new.items) (length index.fuels.items) (length index.fuels.items) index.fuels.items
-        (λ category. those_moved (λ (item : Item). is_fuel_of item.fuel category) 3 3 old.items new.items refl kept.items) refl is.fuels;
+    drills = λ category. is.drills category ∙ sym (machines_same (λ machine. is_drill_of false machine.kind category));
+    boxed_drills = λ category. is.boxed_drills category ∙ sym (machines_same (λ machine. is_drill_of true machine.kind category));
+    fuels = λ category. is.fuels category ∙ sym (those_moved (λ (item : Item). is_fuel_of item.fuel category) 3 3 old.items new.items refl kept.items);
     burning = is.burning ∙ sym burning_same;
     labs = is.labs ∙ sym (machines_same (λ machine. is_lab machine.kind));
     takers = lists_same (λ good. those (λ machine. takes machine.kind good) (first_machine old) old.machines) (λ good. those (λ machine. takes machine.kind good) (first_machine new) new.machines) (length old.items) (length new.items)

@@ -7,7 +7,7 @@ use Rattle.game_types.specs.Temperatures.{is_base, is_good}
 use Rattle.game_types.specs.declared.games.Game.{Game}
 use Rattle.depend_rows.specs.Members.{node, those}
 use Rattle.depend_rows.specs.Lists.{AreLists, list_at}
-use Rattle.depend_rows.specs.Making.{good_count, variants}
+use Rattle.depend_rows.specs.Goods.{good_count, variants}
 use Rattle.depend_rows.specs.Indexed.{IsIndex}
 use Rattle.depend_rows.specs.declared.index.Index.{Index}
 

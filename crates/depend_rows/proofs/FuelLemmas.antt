@@ -1,16 +1,15 @@
 -- The fuels of several categories.
 use Rattle.std.proofs.Common.{◌≡◌, ◌∙◌, ◌<◌, ◌≤◌, ◌+◌, ◌++◌, ℕ, Bool, true, false, List, [], ◌∷◌, Vec, length, map, drop, get_or, refl, ap, sym, arith, append_assoc, append-nil}
-use Rattle.std.specs.Prelude.{◌==◌, ◌||◌, ◌&&◌, All, Option, Some, None}
+use Rattle.std.specs.Prelude.{◌==◌, ◌||◌, ◌&&◌, Option, Some, None}
 use Rattle.std.specs.Global.{Global}
 use Rattle.std.specs.List.{list_any}
-use Rattle.std.proofs.lemmas.List.Elements.{All-head, All-tail}
 use Rattle.plan_base.specs.declared.ids.NodeId.{NodeId}
 use Rattle.game_types.specs.Making.{holds, is_positive}
 use Rattle.game_types.specs.declared.goods.Fuel.{Fuel}
 use Rattle.game_types.specs.declared.goods.Item.{Item}
 use Rattle.depend_rows.specs.Members.{those}
 use Rattle.depend_rows.specs.Kinds.{is_fuel_in, is_fuel_of}
-use Rattle.depend_rows.specs.Lists.{is_among, list_at, numbers_at, AreLists, HoldInOrder}
+use Rattle.depend_rows.specs.Lists.{is_among, list_at, numbers_at, AreAllLists, HoldInOrder}
 use Rattle.depend_rows.proofs.CraftLemmas.{none_of}
 use Rattle.depend_rows.proofs.KeyLemmas.{is_among-append}
 use Rattle.depend_rows.proofs.OrderLemmas.{among_either, in_order_those, numbers_of, those_same}
@@ -51,15 +50,14 @@ any_category (Some fuel) (c ∷ categories) =
     ∙ ap (λ b. (b && is_positive fuel.value) || (holds categories fuel.category && is_positive fuel.value)) (turned c fuel.category)
     ∙ ap (λ b. is_fuel_of (Some fuel) c || b) (any_category (Some fuel) categories)
 
-among_lists : (lists : List (Vec NodeId Global)) (items : List Item) (count k : ℕ) → AreLists (λ category. those (λ item. is_fuel_of item.fuel category) 3 items) count lists
-    → (categories : List ℕ) → All (λ c. c < count) categories
+among_lists : (lists : List (Vec NodeId Global)) (items : List Item) (k : ℕ) → AreAllLists (λ category. those (λ item. is_fuel_of item.fuel category) 3 items) lists → (categories : List ℕ)
     → is_among (numbers_at lists categories) k ≡ is_among (numbers_of (those (λ item. list_any (λ c. is_fuel_of item.fuel c) categories) 3 items)) k
 unfolding numbers_at
-among_lists lists items count k are [] below = ap (λ l. is_among (numbers_of l) k) (sym (none_of items 3))
-among_lists lists items count k are (c ∷ categories) below =
+among_lists lists items k are [] = ap (λ l. is_among (numbers_of l) k) (sym (none_of items 3))
+among_lists lists items k are (c ∷ categories) =
     is_among-append (numbers_of (list_at lists c)) (numbers_at lists categories) k
-    ∙ ap (λ l. is_among (numbers_of l) k || is_among (numbers_at lists categories) k) (are.each c (All-head (λ c. c < count) c categories below))
-    ∙ ap (λ b. is_among (numbers_of (those (λ (item : Item). is_fuel_of item.fuel c) 3 items)) k || b) (among_lists lists items count k are categories (All-tail (λ c. c < count) c categories below))
+    ∙ ap (λ l. is_among (numbers_of l) k || is_among (numbers_at lists categories) k) (are c)
+    ∙ ap (λ b. is_among (numbers_of (those (λ (item : Item). is_fuel_of item.fuel c) 3 items)) k || b) (among_lists lists items k are categories)
     ∙ sym (among_either (λ (item : Item). is_fuel_of item.fuel c) (λ (item : Item). list_any (λ c. is_fuel_of item.fuel c) categories) k items 3)
 
 same_fuel : (categories different : List ℕ) → ((k : ℕ) → is_among different k ≡ is_among categories k) → (fuel : Option Fuel) → is_fuel_in categories fuel ≡ is_fuel_in different fuel
@@ -67,11 +65,11 @@ same_fuel categories different same None = refl
 same_fuel categories different same (Some fuel) = ap (λ b. b && is_positive fuel.value) (sym (same fuel.category))
 
 -- the fuels of different categories are those of the categories
-pub fuels_union : (lists : List (Vec NodeId Global)) (items : List Item) (count : ℕ) (categories different : List ℕ) (nodes : List NodeId)
-    → AreLists (λ category. those (λ item. is_fuel_of item.fuel category) 3 items) count lists → ((k : ℕ) → is_among different k ≡ is_among categories k) → All (λ c. c < count) different
+pub fuels_union : (lists : List (Vec NodeId Global)) (items : List Item) (categories different : List ℕ) (nodes : List NodeId)
+    → AreAllLists (λ category. those (λ item. is_fuel_of item.fuel category) 3 items) lists → ((k : ℕ) → is_among different k ≡ is_among categories k)
     → HoldInOrder (numbers_at lists different) nodes → nodes ≡ those (λ item. is_fuel_in categories item.fuel) 3 items
-fuels_union lists items count categories different nodes are same below held =
+fuels_union lists items categories different nodes are same held =
     in_order_those (λ (item : Item). is_fuel_in categories item.fuel) 3 items (numbers_at lists different) nodes held (λ k.
-    among_lists lists items count k are different below
+    among_lists lists items k are different
     ∙ ap (λ l. is_among (numbers_of l) k) (sym (those_same (λ (item : Item). is_fuel_in categories item.fuel) (λ (item : Item). list_any (λ c. is_fuel_of item.fuel c) different)
     (λ item. same_fuel categories different same item.fuel ∙ any_category item.fuel different) items 3)))

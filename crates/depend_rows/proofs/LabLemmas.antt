@@ -12,7 +12,7 @@ use Rattle.game_types.specs.declared.machinery.Machine.{Machine}
 use Rattle.game_types.specs.declared.machinery.MachineKind.{MachineKind}
 use Rattle.game_types.specs.declared.machinery.MachineKind.TheVariants.{Crafter, Drill, Pump, Boiler, Generator, BurnerGenerator, Solar, Reactor, Lab, Beacon}
 use Rattle.depend_rows.specs.Members.{node, those}
-use Rattle.depend_rows.specs.Doing.{names_good, researches}
+use Rattle.depend_rows.specs.Machines.{names_good, researches}
 use Rattle.depend_rows.specs.Kinds.{takes}
 use Rattle.depend_rows.specs.Lists.{has_node, is_in_all, list_at, AreCommon, AreLists, Rise}
 use Rattle.depend_rows.proofs.NumbersLemmas.{Rising, rising_above}

@@ -21,3 +21,4 @@ pub mod NoteLemmas
 pub mod AlikeLemmas
 pub mod AlikeLaw
 pub mod WordLemmas
+pub mod CoolestLemmas

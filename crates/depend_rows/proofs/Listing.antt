@@ -1,12 +1,14 @@
 -- Lists by number, extended node by node.
 use Rattle.std.proofs.Common.{◌≡◌, ◌≢◌, ◌∙◌, ◌<◌, ◌≤◌, ◌+◌, ◌++◌, ℕ, zero, suc, Bool, true, false, List, [], ◌∷◌, Vec, length, drop, set, get_or, refl, ap, sym, subst, arith, append_assoc, append-nil, get_or-set_same, get_or-set_other}
-use Rattle.std.specs.Prelude.{◌==◌, ◌||◌, if◌then◌else◌}
+use Rattle.std.specs.Prelude.{◌==◌, ◌||◌, if◌then◌else◌, nat_lt}
+use Rattle.std.specs.List.{list_any}
 use Rattle.std.specs.List.Sorted.{IsStrictlyIncreasing}
+use Rattle.std.proofs.lemmas.Bool.Decides.{nat_tests}
 use Rattle.std.proofs.lemmas.List.{map-set}
 use Rattle.std.specs.Global.{Global}
 use Rattle.plan_base.specs.declared.ids.NodeId.{NodeId}
 use Rattle.depend_rows.specs.Members.{node, those}
-use Rattle.depend_rows.specs.Lists.{contents, is_among, list_at, AreLists, Extends}
+use Rattle.depend_rows.specs.Lists.{contents, is_among, list_at, AreAllLists, AreLists, Extends}
 use Rattle.depend_rows.proofs.NumbersLemmas.{once}
 use Rattle.depend_rows.proofs.Walks.{next, drop_all, chosen}
 
@@ -129,3 +131,45 @@ extended_twice first second old between new once_ then_ = record {
   as_long = then_.as_long ∙ once_.as_long;
   each = λ k within. then_.each k (omega (arith, within, once_.as_long)) ∙ ap (λ l. l ++ second k) (once_.each k within) ∙ append_assoc (list_at old k) (first k) (second k);
 }
+
+-- ---- the lists of all numbers
+-- no thing so far is about a number from an end on
+pub record NoneSoFar {A : Type 0} (about : A → ℕ → Bool) (things : List A) (i end : ℕ) : Type 0 where
+  pub none : (k : ℕ) → end ≤ k → list_any (λ thing. about thing k) (drop i things) ≡ false → list_any (λ thing. about thing k) things ≡ false
+
+pub none_first : {A : Type 0} (about : A → ℕ → Bool) (things : List A) (end : ℕ) → NoneSoFar about things 0 end
+none_first about things end = record { none = λ k _ is. is }
+
+pub none_more : {A : Type 0} (about : A → ℕ → Bool) (things : List A) (i end new : ℕ) (x : A) → i < length things → x ≡ get_or things i x → end ≤ new → ((k : ℕ) → new ≤ k → about x k ≡ false)
+    → NoneSoFar about things i end → NoneSoFar about things (i + 1) new
+none_more about things i end new x within is more fails before = record {
+  none = λ k past rest.
+      before.none k (omega (arith, more, past))
+      (ap (list_any (λ thing. about thing k)) (next things i x within is) ∙ ap (λ b. b || list_any (λ thing. about thing k) (drop (i + 1) things)) (fails k past) ∙ rest);
+}
+
+pub none_last : {A : Type 0} (about : A → ℕ → Bool) (things : List A) (i end : ℕ) → length things ≤ i → NoneSoFar about things i end → (k : ℕ) → end ≤ k → list_any (λ thing. about thing k) things ≡ false
+none_last about things i end all before k past = before.none k past (ap (list_any (λ thing. about thing k)) (drop_all things i all))
+
+none_at : (lists : List (Vec NodeId Global)) (k : ℕ) → length lists ≤ k → list_at lists k ≡ []
+none_at [] k past = refl
+none_at (list ∷ lists) zero past = absurd (omega (arith, past))
+none_at (list ∷ lists) (suc k) past = none_at lists k (omega (arith, past))
+
+none_of_those : {A : Type 0} (test : A → Bool) (xs : List A) (first : ℕ) → list_any test xs ≡ false → those test first xs ≡ []
+none_of_those test [] first none = refl
+none_of_those test (x ∷ xs) first none = by_test (test x) none (none_of_those test xs (first + 1))
+  where
+    by_test : (b : Bool) → (b || list_any test xs) ≡ false → (list_any test xs ≡ false → those test (first + 1) xs ≡ []) → (if b then node first ∷ those test (first + 1) xs else those test (first + 1) xs) ≡ []
+    by_test true none rest = absurd cc
+    by_test false none rest = rest none
+
+pub all_lists : {A : Type 0} (about : A → ℕ → Bool) (first : ℕ) (things : List A) (end : ℕ) (lists : List (Vec NodeId Global)) → AreLists (λ k. those (λ thing. about thing k) first things) end lists
+    → ((k : ℕ) → end ≤ k → list_any (λ thing. about thing k) things ≡ false) → AreAllLists (λ k. those (λ thing. about thing k) first things) lists
+all_lists about first things end lists are none k = by_place (nat_lt k end) refl
+  where
+    by_place : (b : Bool) → nat_lt k end ≡ b → list_at lists k ≡ those (λ thing. about thing k) first things
+    by_place true at = let below : k < end = grind (arith, nat_tests, at) in are.each k below
+    by_place false at =
+        let past : end ≤ k = grind (arith, nat_tests, at) in
+        none_at lists k (omega (arith, past, are.as_long)) ∙ sym (none_of_those (λ thing. about thing k) things first (none k past))

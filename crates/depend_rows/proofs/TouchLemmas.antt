@@ -38,8 +38,8 @@ use Rattle.data_edit.proofs.EffectLaw.{effect_law}
 use Rattle.data_edit.proofs.Places.{with_at-past}
 use Rattle.depend_rows.proofs.OrderLemmas.{those_same}
 use Rattle.depend_rows.specs.Members.{node, those}
-use Rattle.depend_rows.specs.Making.{first_recipe, first_source, first_machine, first_tech, bounded_groups, crafters_by, fits, givers, good_row, ingredients, leavers, makers, putters, variants, crafters, unlockers, recipe_row, miners, source_row}
-use Rattle.depend_rows.specs.Doing.{placers, fuels_taken, burning_fluids, fluid_or_burning, energy_groups, input_groups, machine_row, labs, prerequisites, science_packs, tech_row, electricity_row, heat_row}
+use Rattle.depend_rows.specs.Goods.{first_recipe, first_source, first_machine, first_tech, bounded_groups, crafters_by, fits, givers, good_row, ingredients, leavers, makers, putters, variants, crafters, unlockers, recipe_row, miners, source_row}
+use Rattle.depend_rows.specs.Machines.{placers, fuels_taken, burning_fluids, fluid_or_burning, energy_groups, input_groups, machine_row, labs, prerequisites, science_packs, tech_row, electricity_row, heat_row}
 use Rattle.depend_rows.specs.Rows.{row_of, special_row, tech_at, no_tech}
 use Rattle.depend_rows.specs.Touched.{good_node_in, recipe_node, touched_by, StaysAs, TouchesAll}
 

@@ -1,7 +1,7 @@
 -- What machines and fuels are about, taken apart: by category, and by recipe.
 use Rattle.std.specs.Prelude.{ℕ, ◌==◌, ◌&&◌, ◌||◌, Bool, false, true, not, List, Option, Some, None, is_none, slice_get}
 use Rattle.plan_base.specs.declared.ids.RecipeId.{RecipeId}
-use Rattle.depend_rows.specs.Doing.{names_good}
+use Rattle.depend_rows.specs.Machines.{names_good}
 use Rattle.game_types.specs.Making.{holds, is_positive}
 use Rattle.game_types.specs.declared.goods.Fuel.{Fuel}
 use Rattle.game_types.specs.declared.machinery.MachineKind.{MachineKind}

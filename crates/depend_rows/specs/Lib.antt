@@ -1,8 +1,9 @@
 pub mod Members
-pub mod Making
-pub mod Doing
+pub mod Goods
+pub mod Machines
 pub mod Lists
 pub mod Words
+pub mod Coolest
 pub mod Kinds
 pub mod Indexed
 pub mod Alike

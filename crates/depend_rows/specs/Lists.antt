@@ -28,6 +28,10 @@ pub record AreLists (of : ℕ → List NodeId) (count : ℕ) (lists : List (Vec 
   pub as_long : length lists ≡ count
   pub each : (k : ℕ) → k < count → list_at lists k ≡ of k
 
+-- each list is this one; there is none where there is no list
+abbrev pub AreAllLists : (ℕ → List NodeId) → List (Vec NodeId Global) → Type 0
+AreAllLists of lists = (k : ℕ) → list_at lists k ≡ of k
+
 -- the nodes have these numbers, in order and each once
 pub record HoldInOrder (numbers : List ℕ) (nodes : List NodeId) : Type 0 where
   pub rise : IsStrictlyIncreasing (map (λ n. n.0) nodes)

@@ -1,6 +1,7 @@
 -- Lists of nodes, in node order, and the groups that they are the members of.
 use Rattle.std.specs.Prelude.{ℕ, ◌+◌, ◌==◌, Bool, true, false, List, [], ◌∷◌, Option, Some, None, map, filter, if◌then◌else◌}
 use Rattle.std.specs.List.{list_any, range_with_len}
+use Rattle.plan_base.specs.Shape.{character_node}
 use Rattle.plan_base.specs.declared.ids.NodeId.{NodeId}
 use Rattle.plan_base.specs.declared.ids.GoodId.{GoodId}
 use Rattle.graph_store.specs.declared.Group.{Group}
@@ -20,7 +21,7 @@ named first count numbers = map (λ k. node (first + k)) (filter (λ k. list_any
 
 -- the character, where it does something itself
 abbrev pub character_where : Bool → List NodeId
-character_where does = if does then node 0 ∷ [] else []
+character_where does = if does then character_node ∷ [] else []
 
 -- the node of a good
 abbrev pub good_node : GoodId → NodeId

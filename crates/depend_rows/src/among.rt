@@ -5,7 +5,7 @@ ghost use Rattle.game_types.specs.Making.{expected_amount, gives, is_positive};
 ghost use Rattle.game_types.specs.Sound.{IsSound};
 ghost use Rattle.depend_rows.specs.Indexed.{IsIndex};
 ghost use Rattle.depend_rows.specs.Lists.{Rise, has_node, list_at};
-ghost use Rattle.depend_rows.specs.Making.{first_recipe, good_count, unlockers};
+ghost use Rattle.depend_rows.specs.Goods.{first_recipe, good_count, unlockers};
 ghost use Rattle.depend_rows.specs.Members.{those};
 
 use crate::goods::is_expected;
@@ -146,7 +146,7 @@ impl Test<Tech> for Unlock {
 }
 
 /// The technologies that unlock a recipe.
-#[tactic(auto, unfolding(crate::specs::Making::unlockers))]
+#[tactic(auto, unfolding(crate::specs::Goods::unlockers))]
 pub fn techs_unlocking(
     alloc: Global,
     game: &Game,

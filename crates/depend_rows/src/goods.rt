@@ -5,11 +5,11 @@ ghost use Rattle.game_types.specs.Sound.{IsSound};
 ghost use Rattle.depend_rows.specs.Indexed.{IsIndex};
 ghost use Rattle.game_types.specs.Temperatures.{is_base};
 ghost use Rattle.depend_rows.specs.Lists.{list_at};
-ghost use Rattle.depend_rows.specs.Making.{givers, good_count, good_row, leavers, makers, putters, variants};
+ghost use Rattle.depend_rows.specs.Goods.{givers, good_count, good_row, leavers, makers, putters, variants};
 
 use crate::among::recipes_giving;
 use crate::index::Index;
-use crate::lists::list_at;
+use crate::lists::{list_at, list_of};
 use crate::members::{any_of, row_with};
 use game_types::{Game, Product, is_positive};
 use graph_store::Row;
@@ -33,11 +33,9 @@ pub fn is_expected(product: &Product) -> bool
 
 // Whether the list of a number has any nodes.
 fn has_nodes(lists: &[Vec<NodeId>], number: u32) -> bool
-    requires { number < length lists.now }
     ensures { result ≡ nat_lt 0 (length (list_at lists.now number)) }
 {
-    let list = &lists[number as usize];
-    list.len() > 0
+    list_of(lists, number).len() > 0
 }
 
 /// Whether a good is a base.
@@ -53,16 +51,14 @@ pub fn is_base(game: &Game, index: &Index, good: u32) -> bool
 
 // Appends the list of a number.
 fn push_list_at(nodes: &mut Vec<NodeId>, lists: &[Vec<NodeId>], number: u32) -> Result<(), NoMemory>
-    requires { number < length lists.now }
     ensures { IfOk result (λ done. nodes.new.items ≡ nodes.old.items ++ list_at lists.now number) }
 {
-    let list = &lists[number as usize];
-    nodes.extend_from_slice(list.as_slice())?;
+    nodes.extend_from_slice(list_of(lists, number))?;
     Ok(())
 }
 
 // Appends the recipes and the sources that give a good.
-#[tactic(auto, unfolding(crate::specs::Making::makers))]
+#[tactic(auto, unfolding(crate::specs::Goods::makers))]
 fn push_makers(
     alloc: Global,
     nodes: &mut Vec<NodeId>,
@@ -116,7 +112,7 @@ fn plain_givers(
 }
 
 // What gives a good.
-#[tactic(auto, unfolding(crate::specs::Making::givers))]
+#[tactic(auto, unfolding(crate::specs::Goods::givers))]
 fn givers(alloc: Global, game: &Game, index: &Index, good: u32) -> Result<Vec<NodeId>, NoMemory>
     requires sound { IsSound game.now }
     requires index { IsIndex game.now index.now }
@@ -131,7 +127,7 @@ fn givers(alloc: Global, game: &Game, index: &Index, good: u32) -> Result<Vec<No
 }
 
 /// The row of a good.
-#[tactic(auto, unfolding(crate::specs::Making::good_row))]
+#[tactic(auto, unfolding(crate::specs::Goods::good_row))]
 pub fn good_row(alloc: Global, game: &Game, index: &Index, good: u32) -> Result<Row, NoMemory>
     requires sound { IsSound game.now }
     requires index { IsIndex game.now index.now }

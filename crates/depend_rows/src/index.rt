@@ -1,25 +1,27 @@
 //! The nodes that rows are put together from, made once in time in proportion to the game.
-ghost use Rattle.std.specs.Prelude.{◌≡◌, ℕ, ◌==◌, ◌&&◌, IfOk, length, slice_get, true};
+ghost use Rattle.std.specs.Prelude.{◌≡◌, ℕ, ◌+◌, ◌==◌, ◌&&◌, IfOk, length, slice_get, true};
 ghost use Rattle.std.specs.List.{list_any};
 ghost use Rattle.std.specs.Option.{option_copied, option_to_list};
 ghost use Rattle.game_types.specs.Making.{gives};
 ghost use Rattle.game_types.specs.Sound.{IsSound};
 ghost use Rattle.game_types.specs.Temperatures.{is_good};
 ghost use Rattle.depend_rows.specs.Members.{those};
-ghost use Rattle.depend_rows.specs.Making.{first_machine, first_recipe, first_source, first_tech, good_count, leavers, putters, puts_out, variants};
-ghost use Rattle.depend_rows.specs.Doing.{burning_fluids, is_machine, names_good, placers};
+ghost use Rattle.depend_rows.specs.Goods.{first_machine, first_recipe, first_source, first_tech, good_count, leavers, putters, puts_out, variants};
+ghost use Rattle.depend_rows.specs.Machines.{burning_fluids, is_machine, names_good, placers};
 ghost use Rattle.depend_rows.specs.Kinds.{crafts_all_of, crafts_alone, has_category, is_drill_of, is_fuel_of, takes};
-ghost use Rattle.depend_rows.specs.Lists.{AreLists, HoldThose, is_among};
+ghost use Rattle.depend_rows.specs.Lists.{AreAllLists, AreLists, HoldThose, is_among};
 ghost use Rattle.depend_rows.specs.Words.{AreWords};
+ghost use Rattle.depend_rows.specs.Coolest.{AreSorted};
 
 use crate::goods::is_expected;
-use crate::lists::{Keys, lists_of};
+use crate::lists::{Keys, all_lists_of, lists_of};
 use crate::machines::burning_fluids;
 use crate::marks::marks_of;
 use crate::places::{
     first_fluid, first_machine, first_recipe, first_source, first_tech, good_count,
 };
 use crate::techs::all_labs;
+use crate::temperatures::sorted_lists;
 use crate::words::words_of_all;
 use game_types::{
     Fluid, Fuel, Game, Item, Machine, MachineKind, Product, Recipe, Source, Tech, holds,
@@ -35,6 +37,8 @@ pub struct Index {
     pub leavers: Vec<Vec<NodeId>>,
     /// For each good, its variants.
     pub variants: Vec<Vec<NodeId>>,
+    /// For each good, its variants, the coolest first.
+    pub coolest_variants: Vec<Vec<NodeId>>,
     /// For each good, the recipes that give it, and perhaps others.
     pub recipe_makers: Vec<Vec<NodeId>>,
     /// For each good, the sources that give it.
@@ -382,36 +386,48 @@ impl Keys<Machine> for Taken {
 
 // ---- the lists
 
-#[tactic(auto, unfolding(crate::specs::Making::leavers))]
+#[tactic(auto, unfolding(crate::specs::Goods::leavers))]
 fn leavers(alloc: Global, game: &Game) -> Result<Vec<Vec<NodeId>>, NoMemory>
     requires { IsSound game.now }
     ensures { IfOk result (λ lists. AreLists (leavers game.now) (good_count game.now) lists.items) }
 {
-    lists_of(alloc, good_count(game), 3, game.items.as_slice(), &Given)
+    let count = good_count(game) as usize;
+    lists_of(alloc, count, 3, game.items.as_slice(), &Given)
 }
 
-#[tactic(auto, unfolding(crate::specs::Making::variants))]
+#[tactic(auto, unfolding(crate::specs::Goods::variants))]
 fn variants(alloc: Global, game: &Game) -> Result<Vec<Vec<NodeId>>, NoMemory>
     requires { IsSound game.now }
     ensures { IfOk result (λ lists. AreLists (variants game.now) (good_count game.now) lists.items) }
 {
     lists_of(
         alloc,
-        good_count(game),
+        good_count(game) as usize,
         first_fluid(game),
         game.fluids.as_slice(),
         &Given,
     )
 }
 
-#[tactic(auto, unfolding(crate::specs::Making::putters))]
+fn coolest_variants(
+    alloc: Global,
+    game: &Game,
+    variants: &[Vec<NodeId>],
+) -> Result<Vec<Vec<NodeId>>, NoMemory>
+    requires { IsSound game.now }
+    ensures { IfOk result (λ lists. AreSorted game.now.fluids (3 + length game.now.items) variants.now lists.items) }
+{
+    sorted_lists(alloc, game.fluids.as_slice(), first_fluid(game), variants)
+}
+
+#[tactic(auto, unfolding(crate::specs::Goods::putters))]
 fn putters(alloc: Global, game: &Game) -> Result<Vec<Vec<NodeId>>, NoMemory>
     requires { IsSound game.now }
     ensures { IfOk result (λ lists. AreLists (putters game.now) (good_count game.now) lists.items) }
 {
     lists_of(
         alloc,
-        good_count(game),
+        good_count(game) as usize,
         first_machine(game),
         game.machines.as_slice(),
         &Given,
@@ -424,7 +440,7 @@ fn recipes_by_good(alloc: Global, game: &Game) -> Result<Vec<Vec<NodeId>>, NoMem
 {
     lists_of(
         alloc,
-        good_count(game),
+        good_count(game) as usize,
         first_recipe(game),
         game.recipes.as_slice(),
         &Given,
@@ -445,7 +461,7 @@ fn source_makers(alloc: Global, game: &Game) -> Result<Vec<Vec<NodeId>>, NoMemor
 {
     lists_of(
         alloc,
-        good_count(game),
+        good_count(game) as usize,
         first_source(game),
         game.sources.as_slice(),
         &Given,
@@ -456,7 +472,7 @@ fn techs_by_recipe(alloc: Global, game: &Game) -> Result<Vec<Vec<NodeId>>, NoMem
     requires { IsSound game.now }
     ensures { IfOk result (λ lists. AreLists (λ number. those (λ tech. list_any (λ r. r.0 == number) tech.unlocks) (first_tech game.now) game.now.techs) (length game.now.recipes) lists.items) }
 {
-    let count = game.shape().recipes;
+    let count = game.recipes.len();
     lists_of(
         alloc,
         count,
@@ -474,23 +490,21 @@ fn unlockers(alloc: Global, game: &Game) -> Result<Vec<Vec<NodeId>>, NoMemory>
     Ok(lists)
 }
 
-#[tactic(auto, unfolding(crate::specs::Doing::placers))]
+#[tactic(auto, unfolding(crate::specs::Machines::placers))]
 fn placers(alloc: Global, game: &Game) -> Result<Vec<Vec<NodeId>>, NoMemory>
     requires { IsSound game.now }
     ensures { IfOk result (λ lists. AreLists (placers game.now) (length game.now.machines) lists.items) }
 {
-    let count = game.shape().machines;
+    let count = game.machines.len();
     lists_of(alloc, count, 3, game.items.as_slice(), &Placed)
 }
 
 fn crafters(alloc: Global, game: &Game) -> Result<Vec<Vec<NodeId>>, NoMemory>
     requires { IsSound game.now }
-    ensures { IfOk result (λ lists. AreLists (λ category. those (λ machine. crafts_all_of machine.kind category) (first_machine game.now) game.now.machines) (length lists.items) lists.items) }
+    ensures { IfOk result (λ lists. AreAllLists (λ category. those (λ machine. crafts_all_of machine.kind category) (first_machine game.now) game.now.machines) lists.items) }
 {
-    let count = game.categories.len();
-    lists_of(
+    all_lists_of(
         alloc,
-        count,
         first_machine(game),
         game.machines.as_slice(),
         &CraftedByCategory,
@@ -501,7 +515,7 @@ fn fixed(alloc: Global, game: &Game) -> Result<Vec<Vec<NodeId>>, NoMemory>
     requires { IsSound game.now }
     ensures { IfOk result (λ lists. AreLists (λ number. those (λ machine. crafts_alone game.now.recipes machine.kind number) (first_machine game.now) game.now.machines) (length game.now.recipes) lists.items) }
 {
-    let count = game.shape().recipes;
+    let count = game.recipes.len();
     let keys = CraftedAlone {
         recipes: game.recipes.as_slice(),
     };
@@ -516,12 +530,10 @@ fn fixed(alloc: Global, game: &Game) -> Result<Vec<Vec<NodeId>>, NoMemory>
 
 fn drills(alloc: Global, game: &Game, boxed: bool) -> Result<Vec<Vec<NodeId>>, NoMemory>
     requires { IsSound game.now }
-    ensures { IfOk result (λ lists. AreLists (λ category. those (λ machine. is_drill_of boxed machine.kind category) (first_machine game.now) game.now.machines) (length lists.items) lists.items) }
+    ensures { IfOk result (λ lists. AreAllLists (λ category. those (λ machine. is_drill_of boxed machine.kind category) (first_machine game.now) game.now.machines) lists.items) }
 {
-    let count = game.categories.len();
-    lists_of(
+    all_lists_of(
         alloc,
-        count,
         first_machine(game),
         game.machines.as_slice(),
         &Drilled { boxed },
@@ -530,17 +542,16 @@ fn drills(alloc: Global, game: &Game, boxed: bool) -> Result<Vec<Vec<NodeId>>, N
 
 fn fuels(alloc: Global, game: &Game) -> Result<Vec<Vec<NodeId>>, NoMemory>
     requires { IsSound game.now }
-    ensures { IfOk result (λ lists. AreLists (λ category. those (λ item. is_fuel_of item.fuel category) 3 game.now.items) (length lists.items) lists.items) }
+    ensures { IfOk result (λ lists. AreAllLists (λ category. those (λ item. is_fuel_of item.fuel category) 3 game.now.items) lists.items) }
 {
-    let count = game.categories.len();
-    lists_of(alloc, count, 3, game.items.as_slice(), &Burnt)
+    all_lists_of(alloc, 3, game.items.as_slice(), &Burnt)
 }
 
 fn takers(alloc: Global, game: &Game) -> Result<Vec<Vec<NodeId>>, NoMemory>
     requires { IsSound game.now }
     ensures { IfOk result (λ lists. AreLists (λ good. those (λ machine. takes machine.kind good) (first_machine game.now) game.now.machines) (length game.now.items) lists.items) }
 {
-    let count = game.shape().items;
+    let count = game.items.len();
     lists_of(
         alloc,
         count,
@@ -577,6 +588,7 @@ impl Index {
     {
         let leavers = leavers(alloc, game)?;
         let variants = variants(alloc, game)?;
+        let coolest_variants = coolest_variants(alloc, game, variants.as_slice())?;
         let recipe_makers = recipe_makers(alloc, game)?;
         let source_makers = source_makers(alloc, game)?;
         let putters = putters(alloc, game)?;
@@ -597,6 +609,7 @@ impl Index {
         Ok(Index {
             leavers,
             variants,
+            coolest_variants,
             recipe_makers,
             source_makers,
             putters,

@@ -14,6 +14,7 @@ mod places;
 mod recipes;
 mod rows;
 mod techs;
+mod temperatures;
 mod touching;
 mod unions;
 mod words;

@@ -1,8 +1,9 @@
 //! Lists of nodes by number, made in one pass over the things that are about the numbers.
-ghost use Rattle.std.specs.Prelude.{◌≡◌, ℕ, ◌+◌, ◌++◌, ◌^◌, ◌<◌, ◌==◌, ◌∷◌, [], Bool, IfOk, OnOk, if◌then◌else◌, length, replicate, slice_index_or, slice_set};
+ghost use Rattle.std.specs.Prelude.{◌≡◌, ℕ, ◌+◌, ◌++◌, ◌^◌, ◌<◌, ◌≤◌, false, ◌==◌, ◌∷◌, [], Bool, IfOk, OnOk, if◌then◌else◌, length, replicate, slice_index_or, slice_set};
+ghost use Rattle.std.specs.List.{list_any};
 ghost use Rattle.std.specs.List.Sorted.{IsStrictlyIncreasing};
 ghost use Rattle.depend_rows.specs.Members.{those};
-ghost use Rattle.depend_rows.specs.Lists.{contents, is_among, list_at, AreLists, Extends};
+ghost use Rattle.depend_rows.specs.Lists.{contents, is_among, list_at, AreAllLists, AreLists, Extends};
 
 use plan_base::{NoMemory, NodeId};
 use std::alloc::Global;
@@ -71,7 +72,7 @@ pub fn extend_lists<T, K: Keys<T>>(
 }
 
 /// So many empty lists.
-pub fn empty_lists(alloc: Global, count: u32) -> Result<Vec<Vec<NodeId>>, NoMemory>
+pub fn empty_lists(alloc: Global, count: usize) -> Result<Vec<Vec<NodeId>>, NoMemory>
     ensures { IfOk result (λ lists. AreLists (λ _. []) count lists.items) }
 {
     let mut lists = Vec::new(alloc);
@@ -85,7 +86,7 @@ pub fn empty_lists(alloc: Global, count: u32) -> Result<Vec<Vec<NodeId>>, NoMemo
 /// The lists of so many numbers, with the nodes of the things that are about them.
 pub fn lists_of<T, K: Keys<T>>(
     alloc: Global,
-    count: u32,
+    count: usize,
     first: u32,
     things: &[T],
     keys: &K,
@@ -98,11 +99,64 @@ pub fn lists_of<T, K: Keys<T>>(
     Ok(lists)
 }
 
+fn greater(end: usize, other: usize) -> usize
+    ensures end { end ≤ result }
+    ensures other { other ≤ result }
+{
+    if end < other { other } else { end }
+}
+
+// What all of these numbers are below.
+fn end_of(numbers: &[u32]) -> usize
+    ensures { (k : ℕ) → result ≤ k → is_among numbers.now k ≡ false }
+{
+    let mut end = 0;
+    for number in numbers {
+        end = greater(end, *number as usize + 1);
+    }
+    end
+}
+
+// What all numbers that things are about are below.
+fn end_of_keys<T, K: Keys<T>>(alloc: Global, things: &[T], keys: &K) -> Result<usize, NoMemory>
+    ensures { IfOk result (λ end. (k : ℕ) → end ≤ k → list_any (λ thing. K.about keys.now thing k) things.now ≡ false) }
+{
+    let mut end = 0;
+    for thing in things {
+        let numbers = keys.keys(alloc, thing)?;
+        end = greater(end, end_of(numbers.as_slice()));
+    }
+    Ok(end)
+}
+
+/// The lists of all numbers that things are about, with their nodes.
+pub fn all_lists_of<T, K: Keys<T>>(
+    alloc: Global,
+    first: u32,
+    things: &[T],
+    keys: &K,
+) -> Result<Vec<Vec<NodeId>>, NoMemory>
+    requires { first + length things.now < 2 ^ 32 }
+    ensures { IfOk result (λ lists. AreAllLists (λ k. those (λ thing. K.about keys.now thing k) first things.now) lists.items) }
+{
+    let end = end_of_keys(alloc, things, keys)?;
+    let lists = lists_of(alloc, end, first, things, keys)?;
+    Ok(lists)
+}
+
+/// The list of a number, which is empty where there is none.
+pub fn list_of(lists: &[Vec<NodeId>], number: u32) -> &[NodeId]
+    ensures { result.now ≡ list_at lists.now number }
+{
+    match lists.get(number as usize) {
+        Some(list) => list.as_slice(),
+        None => &[],
+    }
+}
+
 /// A copy of the list of a number.
 pub fn list_at(alloc: Global, lists: &[Vec<NodeId>], number: u32) -> Result<Vec<NodeId>, NoMemory>
-    requires { number < length lists.now }
     ensures { IfOk result (λ nodes. nodes.items ≡ list_at lists.now number) }
 {
-    let list = &lists[number as usize];
-    Ok(Vec::from_slice(alloc, list.as_slice())?)
+    Ok(Vec::from_slice(alloc, list_of(lists, number))?)
 }

@@ -1,5 +1,5 @@
 //! What machines need, and what gives electricity and heat.
-ghost use Rattle.std.specs.Prelude.{◌&&◌, is_none, ◌≡◌, ◌↔◌, ◌<◌, ◌++◌, ◌∷◌, [], All, IfOk, IfSome, IsTrue, OnOk, length};
+ghost use Rattle.std.specs.Prelude.{◌&&◌, is_none, ◌≡◌, ◌<◌, ◌++◌, ◌∷◌, [], IfOk, IfSome, OnOk, length};
 ghost use Rattle.fractions.specs.Fraction.{Fraction};
 ghost use Rattle.game_types.specs.declared.machinery.Energy.TheVariants.{Burner};
 ghost use Rattle.game_types.specs.Making.{is_positive};
@@ -8,48 +8,24 @@ ghost use Rattle.depend_rows.specs.Members.{any_of, row_with, those};
 ghost use Rattle.depend_rows.specs.Indexed.{IsIndex};
 ghost use Rattle.depend_rows.specs.Kinds.{is_fuel_in};
 ghost use Rattle.depend_rows.specs.Lists.{numbers_at, HoldInOrder};
-ghost use Rattle.depend_rows.specs.Doing.{burning_fluids, electricity_row, energy_groups, fluid_or_burning, fuels_taken, heat_row, input_groups, machine_row, makes_electricity, makes_heat};
+ghost use Rattle.depend_rows.specs.Machines.{burning_fluids, electricity_row, energy_groups, fluid_or_burning, fuels_taken, heat_row, input_groups, machine_row, makes_electricity, makes_heat};
 
 use crate::index::Index;
 use crate::lists::{distinct, list_at};
 use crate::members::{Test, all_of_good, all_of_node, any_of, row_with, those};
 use crate::places::{first_fluid, first_machine};
 use crate::unions::{in_order, push_list};
-use game_types::{Energy, Fluid, Fuel, Game, Item, Machine, MachineKind, holds, is_positive};
+use game_types::{Energy, Fluid, Game, Machine, MachineKind, is_positive};
 use graph_store::{Group, Row};
 use plan_base::{GoodId, NoMemory, NodeId};
 use std::alloc::Global;
 
-fn is_fuel_in(categories: &[u32], fuel: Option<Fuel>) -> bool
-    ensures { result ≡ is_fuel_in categories.now fuel }
-{
-    match fuel {
-        Some(fuel) => holds(categories, fuel.category) && is_positive(&fuel.value),
-        None => false,
-    }
-}
-
-// The fuels of some categories.
-#[derive(Drop)]
-struct FuelsIn<'a> {
-    categories: &'a [u32],
-}
-
-impl Test<Item> for FuelsIn<'_> {
-    ghost passes = { λ t item. is_fuel_in t.categories.now item.fuel };
-
-    fn passes(&self, item: &Item) -> bool {
-        is_fuel_in(self.categories, item.fuel)
-    }
-}
-
-// The fuels of categories that have lists.
+// The fuels of these categories, from the lists of all.
 fn fuels_listed(
     alloc: Global,
     fuels: &[Vec<NodeId>],
     categories: &[u32],
 ) -> Result<Vec<NodeId>, NoMemory>
-    requires { All (λ c. c < length fuels.now) categories.now }
     ensures { IfOk result (λ nodes. HoldInOrder (numbers_at fuels.now categories.now) nodes.items) }
 {
     let mut numbers = Vec::new(alloc);
@@ -58,14 +34,6 @@ fn fuels_listed(
     }
     let nodes = in_order(alloc, numbers)?;
     Ok(nodes)
-}
-
-fn are_below(categories: &[u32], count: usize) -> bool
-    ensures { IsTrue result ↔ All (λ c. c < count) categories.now }
-{
-    categories
-        .iter()
-        .all(|category| (*category as usize) < count)
 }
 
 // The fuels that a burner of some categories takes.
@@ -79,15 +47,12 @@ fn fuels_taken(
     requires index { IsIndex game.now index.now }
     ensures { IfOk result (λ nodes. nodes.items ≡ those (λ item. is_fuel_in categories.now item.fuel) 3 game.now.items) }
 {
+    let _game = game;
     let different = distinct(Vec::from_slice(alloc, categories)?);
     let all = different.as_slice();
     let fuels = index.fuels.as_slice();
-    if are_below(all, fuels.len()) {
-        let nodes = fuels_listed(alloc, fuels, all)?;
-        Ok(nodes)
-    } else {
-        those(alloc, 3, game.items.as_slice(), &FuelsIn { categories })
-    }
+    let nodes = fuels_listed(alloc, fuels, all)?;
+    Ok(nodes)
 }
 
 // Whether a fluid burns, and is no variant.
@@ -103,7 +68,7 @@ impl Test<Fluid> for Burning {
 }
 
 /// The fluids that burn.
-#[tactic(auto, unfolding(crate::specs::Doing::burning_fluids))]
+#[tactic(auto, unfolding(crate::specs::Machines::burning_fluids))]
 pub fn burning_fluids(alloc: Global, game: &Game) -> Result<Vec<NodeId>, NoMemory>
     requires { IsSound game.now }
     ensures { IfOk result (λ nodes. nodes.items ≡ burning_fluids game.now) }
@@ -112,7 +77,7 @@ pub fn burning_fluids(alloc: Global, game: &Game) -> Result<Vec<NodeId>, NoMemor
 }
 
 // All of one fluid, or any that burns.
-#[tactic(auto, unfolding(crate::specs::Doing::fluid_or_burning))]
+#[tactic(auto, unfolding(crate::specs::Machines::fluid_or_burning))]
 fn fluid_or_burning(
     alloc: Global,
     game: &Game,
@@ -135,7 +100,7 @@ fn fluid_or_burning(
 }
 
 // The group of a burner.
-#[tactic(auto, unfolding(crate::specs::Doing::fuels_taken))]
+#[tactic(auto, unfolding(crate::specs::Machines::fuels_taken))]
 fn burner_group(
     alloc: Global,
     game: &Game,
@@ -151,7 +116,7 @@ fn burner_group(
 }
 
 // What a machine takes its energy from.
-#[tactic(auto, unfolding(crate::specs::Doing::energy_groups))]
+#[tactic(auto, unfolding(crate::specs::Machines::energy_groups))]
 fn push_energy(
     alloc: Global,
     game: &Game,
@@ -165,11 +130,11 @@ fn push_energy(
     ensures { OnOk result (groups.new.items ≡ groups.old.items ++ energy_groups game.now energy.now) }
 {
     match energy {
-        Energy::Electric => groups.push(all_of_node(alloc, NodeId(1))?)?,
+        Energy::Electric => groups.push(all_of_node(alloc, NodeId::electricity())?)?,
         Energy::Burner { categories, .. } => {
             groups.push(burner_group(alloc, game, index, categories.as_slice())?)?
         }
-        Energy::Heat => groups.push(all_of_node(alloc, NodeId(2))?)?,
+        Energy::Heat => groups.push(all_of_node(alloc, NodeId::heat())?)?,
         Energy::Fluid { filter, .. } => {
             groups.push(fluid_or_burning(alloc, game, index, *filter)?)?
         }
@@ -179,7 +144,7 @@ fn push_energy(
 }
 
 // What a boiler heats, and what a generator runs on.
-#[tactic(auto, unfolding(crate::specs::Doing::input_groups))]
+#[tactic(auto, unfolding(crate::specs::Machines::input_groups))]
 fn push_input(
     alloc: Global,
     game: &Game,
@@ -207,7 +172,7 @@ fn push_input(
 }
 
 /// The row of a machine.
-#[tactic(auto, unfolding(crate::specs::Doing::machine_row))]
+#[tactic(auto, unfolding(crate::specs::Machines::machine_row))]
 pub fn machine_row(
     alloc: Global,
     game: &Game,
@@ -283,7 +248,7 @@ fn any_row(alloc: Global, members: Vec<NodeId>) -> Result<Row, NoMemory>
 }
 
 /// The row of electricity.
-#[tactic(auto, unfolding(crate::specs::Doing::electricity_row))]
+#[tactic(auto, unfolding(crate::specs::Machines::electricity_row))]
 pub fn electricity_row(alloc: Global, game: &Game) -> Result<Row, NoMemory>
     requires { IsSound game.now }
     ensures { IfOk result (λ row. row ≡ electricity_row game.now) }
@@ -298,7 +263,7 @@ pub fn electricity_row(alloc: Global, game: &Game) -> Result<Row, NoMemory>
 }
 
 /// The row of heat.
-#[tactic(auto, unfolding(crate::specs::Doing::heat_row))]
+#[tactic(auto, unfolding(crate::specs::Machines::heat_row))]
 pub fn heat_row(alloc: Global, game: &Game) -> Result<Row, NoMemory>
     requires { IsSound game.now }
     ensures { IfOk result (λ row. row ≡ heat_row game.now) }

@@ -96,7 +96,7 @@ pub fn with_character(
         return Ok(machines);
     }
     let mut nodes = Vec::new(alloc);
-    nodes.push(NodeId(0))?;
+    nodes.push(NodeId::character())?;
     nodes.extend_from_slice(machines.as_slice())?;
     Ok(nodes)
 }

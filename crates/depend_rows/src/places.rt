@@ -1,7 +1,7 @@
 //! Where the nodes of each kind begin.
 ghost use Rattle.std.specs.Prelude.{◌≡◌, ◌+◌, ◌≤◌, length};
 ghost use Rattle.game_types.specs.Sound.{IsSound};
-ghost use Rattle.depend_rows.specs.Making.{first_machine, first_recipe, first_source, first_tech, good_count};
+ghost use Rattle.depend_rows.specs.Goods.{first_machine, first_recipe, first_source, first_tech, good_count};
 
 use game_types::Game;
 

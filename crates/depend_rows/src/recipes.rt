@@ -1,26 +1,25 @@
 //! What recipes and sources need.
-ghost use Rattle.std.specs.Prelude.{◌≡◌, ◌<◌, ◌++◌, ◌∷◌, [], All, IfOk, None, Some, length, map, nat_lt, slice_get};
+ghost use Rattle.std.specs.Prelude.{◌≡◌, ◌+◌, ◌<◌, ◌++◌, ◌∷◌, [], All, IfOk, None, Some, length, map, nat_lt, slice_get};
 ghost use Rattle.std.specs.List.{cons_option, filter_map, list_all};
-ghost use Rattle.game_types.specs.Temperatures.{fits_alone, fluid_at, is_fit_variant, is_good};
-ghost use Rattle.game_types.specs.Making.{character_crafts, character_mines, is_fixed_to_another, kind_crafts, kind_mines};
+ghost use Rattle.game_types.specs.Temperatures.{fits_alone, fluid_at, is_fit_variant};
+ghost use Rattle.game_types.specs.Making.{character_crafts, character_mines, kind_crafts, kind_mines};
 ghost use Rattle.game_types.specs.Sound.{IsGood, IsSound, IsSoundRecipe, IsSoundSource};
 ghost use Rattle.depend_rows.specs.Indexed.{IsIndex};
-ghost use Rattle.depend_rows.specs.Lists.{list_at, AreLists, AreMarks, HoldInOrder};
+ghost use Rattle.depend_rows.specs.Lists.{list_at, AreAllLists, AreMarks, HoldInOrder};
 ghost use Rattle.depend_rows.specs.Kinds.{is_drill_of};
 ghost use Rattle.depend_rows.specs.Members.{named, those};
-ghost use Rattle.depend_rows.specs.Making.{bounded_group, bounded_groups, crafters, crafters_by, first_machine, fits, free_good, good_count, ingredients, is_free, miners, recipe_row, source_row};
+ghost use Rattle.depend_rows.specs.Goods.{bounded_group, bounded_groups, crafters, crafters_by, first_machine, fits, free_good, good_count, ingredients, is_free, miners, recipe_row, source_row};
 
 use crate::among::techs_unlocking;
 use crate::goods::is_base;
 use crate::index::Index;
-use crate::lists::list_at;
+use crate::lists::{list_at, list_of};
 use crate::marks::is_marked;
-use crate::members::{Test, all_of, all_of_good, any_of, named, row_with, those, with_character};
+use crate::members::{all_of, all_of_good, any_of, named, row_with, with_character};
 use crate::places::{first_fluid, first_machine, good_count};
+use crate::temperatures::numbers_within;
 use crate::unions::{in_order, push_list};
-use game_types::{
-    Character, Fluid, Game, Machine, MachineKind, Part, Product, Recipe, Source, holds, is_within,
-};
+use game_types::{Character, Game, Part, Product, Recipe, Source, is_within};
 use graph_store::{Group, Row};
 use plan_base::{EntityId, GoodId, NoMemory, NodeId, RecipeId};
 use std::alloc::Global;
@@ -66,7 +65,7 @@ fn goods_of_parts(alloc: Global, parts: &[Part]) -> Result<Vec<u32>, NoMemory>
     Ok(goods)
 }
 
-#[tactic(auto, unfolding(crate::specs::Making::ingredients))]
+#[tactic(auto, unfolding(crate::specs::Goods::ingredients))]
 fn ingredients(alloc: Global, game: &Game, recipe: &Recipe) -> Result<Vec<NodeId>, NoMemory>
     requires sound { IsSound game.now }
     requires recipe { IsSoundRecipe game.now recipe.now }
@@ -76,28 +75,25 @@ fn ingredients(alloc: Global, game: &Game, recipe: &Recipe) -> Result<Vec<NodeId
     named(alloc, 3, good_count(game), goods)
 }
 
-// The variants of a base within bounds.
-#[derive(Drop)]
-struct FitVariants<'a> {
-    part: &'a Part,
-}
-
-impl Test<Fluid> for FitVariants<'_> {
-    ghost passes = { λ t fluid. is_fit_variant t.part.now.good.0 t.part.now.low t.part.now.high fluid };
-
-    fn passes(&self, fluid: &Fluid) -> bool {
-        is_variant_of(fluid.of, self.part.good)
-            && is_within(&self.part.low, &self.part.high, &fluid.at)
-    }
-}
-
-fn is_variant_of(of: Option<GoodId>, base: GoodId) -> bool
-    ensures { result ≡ is_good of base.0 }
+// The variants of a base within the bounds of an ingredient.
+fn fit_variants(
+    alloc: Global,
+    game: &Game,
+    index: &Index,
+    part: &Part,
+) -> Result<Vec<NodeId>, NoMemory>
+    requires sound { IsSound game.now }
+    requires index { IsIndex game.now index.now }
+    requires part { part.now.good.0 < good_count game.now }
+    ensures { IfOk result (λ nodes. nodes.items ≡ those (is_fit_variant part.now.good.0 part.now.low part.now.high) (3 + length game.now.items) game.now.fluids) }
 {
-    match of {
-        Some(of) => of.0 == base.0,
-        None => false,
-    }
+    let first = first_fluid(game);
+    let fluids = game.fluids.as_slice();
+    let lists = index.coolest_variants.as_slice();
+    let variants = list_of(lists, part.good.0);
+    let fits = numbers_within(alloc, fluids, first, &part.low, &part.high, variants)?;
+    let nodes = in_order(alloc, fits)?;
+    Ok(nodes)
 }
 
 // Whether a good that is no base fits its own ingredient.
@@ -122,7 +118,7 @@ fn good_itself(alloc: Global, game: &Game, good: GoodId) -> Result<Vec<NodeId>, 
 }
 
 // The goods that fit an ingredient.
-#[tactic(auto, unfolding(crate::specs::Making::fits))]
+#[tactic(auto, unfolding(crate::specs::Goods::fits))]
 fn fits(alloc: Global, game: &Game, index: &Index, part: &Part) -> Result<Vec<NodeId>, NoMemory>
     requires sound { IsSound game.now }
     requires index { IsIndex game.now index.now }
@@ -130,8 +126,7 @@ fn fits(alloc: Global, game: &Game, index: &Index, part: &Part) -> Result<Vec<No
     ensures { IfOk result (λ nodes. nodes.items ≡ fits game.now part.now) }
 {
     if is_base(game, index, part.good.0) {
-        let test = FitVariants { part };
-        those(alloc, first_fluid(game), game.fluids.as_slice(), &test)
+        fit_variants(alloc, game, index, part)
     } else if fits_alone(game, part) {
         good_itself(alloc, game, part.good)
     } else {
@@ -202,54 +197,13 @@ fn character_crafts(character: &Character, marks: &[bool], items: usize, recipe:
         && gives_items(recipe.products.as_slice(), items)
 }
 
-fn is_fixed_to_another(fixed: Option<RecipeId>, number: u32) -> bool
-    ensures { result ≡ is_fixed_to_another fixed number }
-{
-    match fixed {
-        Some(fixed) => fixed.0 != number,
-        None => false,
-    }
-}
-
-fn kind_crafts(kind: &MachineKind, number: u32, recipe: &Recipe) -> bool
-    ensures { result ≡ kind_crafts kind.now number recipe.now }
-{
-    match kind {
-        MachineKind::Crafter {
-            categories,
-            fixed,
-            ..
-        } => {
-            holds(categories.as_slice(), recipe.category) && !is_fixed_to_another(*fixed, number)
-        }
-        _ => false,
-    }
-}
-
-// The machines that craft a recipe.
-#[derive(Drop)]
-struct CraftersOf<'a> {
-    number: u32,
-    recipe: &'a Recipe,
-}
-
-impl Test<Machine> for CraftersOf<'_> {
-    ghost passes = { λ t machine. kind_crafts machine.kind t.number t.recipe.now };
-
-    fn passes(&self, machine: &Machine) -> bool {
-        kind_crafts(&machine.kind, self.number, self.recipe)
-    }
-}
-
-// The machines that craft a recipe whose category has lists.
+// The machines that craft all recipes of its category, and those that craft a recipe alone.
 fn crafters_listed(
     alloc: Global,
     index: &Index,
     number: u32,
     recipe: &Recipe,
 ) -> Result<Vec<NodeId>, NoMemory>
-    requires category { recipe.now.category < length index.now.crafters.items }
-    requires number { number < length index.now.fixed.items }
     ensures { IfOk result (λ nodes. HoldInOrder (map (λ n. n.0) (list_at index.now.crafters.items recipe.now.category) ++ map (λ n. n.0) (list_at index.now.fixed.items number)) nodes.items) }
 {
     let mut numbers = Vec::new(alloc);
@@ -272,13 +226,9 @@ fn machines_crafting(
     requires number { number < length game.now.recipes }
     ensures { IfOk result (λ nodes. nodes.items ≡ those (λ machine. kind_crafts machine.kind number recipe.now) (first_machine game.now) game.now.machines) }
 {
-    if (recipe.category as usize) < index.crafters.len() {
-        let nodes = crafters_listed(alloc, index, number, recipe)?;
-        Ok(nodes)
-    } else {
-        let test = CraftersOf { number, recipe };
-        those(alloc, first_machine(game), game.machines.as_slice(), &test)
-    }
+    let _game = game;
+    let nodes = crafters_listed(alloc, index, number, recipe)?;
+    Ok(nodes)
 }
 
 // The silo of a launch.
@@ -313,7 +263,7 @@ fn ordinary_crafters(
 }
 
 // What crafts a recipe.
-#[tactic(auto, unfolding(crate::specs::Making::crafters))]
+#[tactic(auto, unfolding(crate::specs::Goods::crafters))]
 fn crafters(
     alloc: Global,
     game: &Game,
@@ -335,7 +285,7 @@ fn crafters(
 }
 
 /// The row of a recipe.
-#[tactic(auto, unfolding(crate::specs::Making::recipe_row, crate::specs::Making::bounded_groups))]
+#[tactic(auto, unfolding(crate::specs::Goods::recipe_row, crate::specs::Goods::bounded_groups))]
 pub fn recipe_row(
     alloc: Global,
     game: &Game,
@@ -379,41 +329,10 @@ fn character_mines(character: &Character, marks: &[bool], source: &Source) -> bo
             && source.fluid.is_none())
 }
 
-fn kind_mines(kind: &MachineKind, source: &Source) -> bool
-    ensures { result ≡ kind_mines kind.now source.now }
-{
-    match kind {
-        MachineKind::Drill {
-            categories,
-            fluid_box,
-            ..
-        } => {
-            source.drilled
-                && holds(categories.as_slice(), source.category)
-                && (source.fluid.is_none() || *fluid_box)
-        }
-        _ => false,
-    }
-}
-
-// The drills that mine a source.
-#[derive(Drop)]
-struct DrillsOf<'a> {
-    source: &'a Source,
-}
-
-impl Test<Machine> for DrillsOf<'_> {
-    ghost passes = { λ t machine. kind_mines machine.kind t.source.now };
-
-    fn passes(&self, machine: &Machine) -> bool {
-        kind_mines(&machine.kind, self.source)
-    }
-}
-
 // The lists of drills: of all, or of those that take a fluid.
 fn drills_of<'a>(game: &Game, index: &'a Index, boxed: bool) -> &'a [Vec<NodeId>]
     requires { IsIndex game.now index.now }
-    ensures { AreLists (λ category. those (λ machine. is_drill_of boxed machine.kind category) (first_machine game.now) game.now.machines) (length result.now) result.now }
+    ensures { AreAllLists (λ category. those (λ machine. is_drill_of boxed machine.kind category) (first_machine game.now) game.now.machines) result.now }
 {
     let _game = game;
     if boxed {
@@ -438,17 +357,14 @@ fn drills_mining(
     let drills = drills_of(game, index, boxed);
     if !source.drilled {
         Ok(Vec::new(alloc))
-    } else if (source.category as usize) < drills.len() {
+    } else {
         let nodes = list_at(alloc, drills, source.category)?;
         Ok(nodes)
-    } else {
-        let test = DrillsOf { source };
-        those(alloc, first_machine(game), game.machines.as_slice(), &test)
     }
 }
 
 // The character and the drills that mine a source.
-#[tactic(auto, unfolding(crate::specs::Making::miners))]
+#[tactic(auto, unfolding(crate::specs::Goods::miners))]
 fn miners(
     alloc: Global,
     game: &Game,
@@ -465,7 +381,7 @@ fn miners(
 }
 
 /// The row of a source.
-#[tactic(auto, unfolding(crate::specs::Making::source_row))]
+#[tactic(auto, unfolding(crate::specs::Goods::source_row))]
 pub fn source_row(
     alloc: Global,
     game: &Game,

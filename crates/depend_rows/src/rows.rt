@@ -115,20 +115,59 @@ fn row_at(alloc: Global, game: &Game, index: &Index, node: u32) -> Result<Row, N
     }
 }
 
-// Adds the members of a row to a count, unless that passes the limit.
-fn add_members(count: usize, row: &Row) -> Option<usize>
-    requires { count ≤ MEMBER_LIMIT }
-    ensures { MatchOption result (MEMBER_LIMIT < count + row_members row.now) (λ sum. (sum ≡ count + row_members row.now) × (sum ≤ MEMBER_LIMIT)) }
+// Adds the members of a row to a count, unless that passes a limit.
+fn add_members(count: usize, row: &Row, limit: usize) -> Option<usize>
+    requires { count ≤ limit }
+    ensures { MatchOption result (limit < count + row_members row.now) (λ sum. (sum ≡ count + row_members row.now) × (sum ≤ limit)) }
 {
     let groups = row.groups.as_slice();
     let mut sum = count;
     for group in groups {
-        if group.members.len() > MEMBER_LIMIT - sum {
+        if group.members.len() > limit - sum {
             return None;
         }
         sum += group.members.len();
     }
     Some(sum)
+}
+
+// The row of every node, in order, and the index that they were put together from, unless they have more members than a limit in all.
+// No more memory is taken than for so many members and one row.
+fn rows_up_to<L>(
+    alloc: Global,
+    book: &Book,
+    limit: usize,
+    steps: &mut Steps<L>,
+) -> Result<(Vec<Row>, Index), RowsFault>
+    requires { IsSoundBook book.now }
+    ensures rows { MatchResult result
+        (λ made. (made.0.items ≡ rows_of book.now.game) × (member_count (rows_of book.now.game) ≤ limit))
+        (λ fault. fault ≡ RowsFault.TooMany → limit < member_count (rows_of book.now.game)) }
+    ensures index { IfOk result (λ made. IsIndex book.now.game made.1) }
+    ensures graph { IfOk result (λ made. (length made.0.items ≡ node_count (shape_of book.now.game)) × AreMembersBelow (length made.0.items) made.0.items) }
+    ensures steps { IfOk result (λ _. steps.new ≡ min (steps.old + node_count (shape_of book.now.game)) (2 ^ 64 - 1)) }
+    ensures later { steps.old ≤ steps.new }
+{
+    let nodes = book.game.shape().len();
+    let Ok(index) = Index::make(alloc, &book.game) else {
+        return Err(RowsFault::NoMemory);
+    };
+    let mut rows = Vec::new(alloc);
+    let mut members = 0;
+    for node in 0..nodes {
+        let Ok(row) = row_at(alloc, &book.game, &index, node) else {
+            return Err(RowsFault::NoMemory);
+        };
+        steps.tick();
+        match add_members(members, &row, limit) {
+            Some(sum) => members = sum,
+            None => return Err(RowsFault::TooMany),
+        }
+        let Ok(()) = rows.push(row) else {
+            return Err(RowsFault::NoMemory);
+        };
+    }
+    Ok((rows, index))
 }
 
 /// The row of every node, in order. Each row is one step.
@@ -143,14 +182,10 @@ pub fn rows_all<L>(alloc: Global, book: &Book, steps: &mut Steps<L>) -> Result<V
     ensures steps { IfOk result (λ _. steps.new ≡ min (steps.old + node_count (shape_of book.now.game)) (2 ^ 64 - 1)) }
     ensures later { steps.old ≤ steps.new }
 {
-    let count = book.game.shape().len();
-    let index = Index::make(alloc, &book.game)?;
-    let mut rows = Vec::new(alloc);
-    for node in 0..count {
-        rows.push(row_at(alloc, &book.game, &index, node)?)?;
-        steps.tick();
+    match rows_up_to(alloc, book, usize::MAX, steps) {
+        Ok((rows, _)) => Ok(rows),
+        Err(_) => Err(NoMemory),
     }
-    Ok(rows)
 }
 
 /// The same, where the rows have few enough members, and the index that they were put together from. No more memory is taken than for `MEMBER_LIMIT` members and one row.
@@ -172,26 +207,7 @@ pub fn rows_within<L>(
     ensures steps { IfOk result (λ _. steps.new ≡ min (steps.old + node_count (shape_of book.now.game)) (2 ^ 64 - 1)) }
     ensures later { steps.old ≤ steps.new }
 {
-    let nodes = book.game.shape().len();
-    let Ok(index) = Index::make(alloc, &book.game) else {
-        return Err(RowsFault::NoMemory);
-    };
-    let mut rows = Vec::new(alloc);
-    let mut members = 0;
-    for node in 0..nodes {
-        let Ok(row) = row_at(alloc, &book.game, &index, node) else {
-            return Err(RowsFault::NoMemory);
-        };
-        steps.tick();
-        match add_members(members, &row) {
-            Some(sum) => members = sum,
-            None => return Err(RowsFault::TooMany),
-        }
-        let Ok(()) = rows.push(row) else {
-            return Err(RowsFault::NoMemory);
-        };
-    }
-    Ok((rows, index))
+    rows_up_to(alloc, book, MEMBER_LIMIT, steps)
 }
 
 /// The row of a node, by the index of its game. It is one step.

@@ -3,9 +3,9 @@ ghost use Rattle.std.specs.Prelude.{◌≡◌, IfOk, map};
 ghost use Rattle.game_types.specs.Sound.{IsSound, IsSoundTech};
 ghost use Rattle.depend_rows.specs.Indexed.{IsIndex};
 ghost use Rattle.depend_rows.specs.Kinds.{is_lab};
-ghost use Rattle.depend_rows.specs.Making.{first_machine};
+ghost use Rattle.depend_rows.specs.Goods.{first_machine};
 ghost use Rattle.depend_rows.specs.Members.{those};
-ghost use Rattle.depend_rows.specs.Doing.{labs, prerequisites, science_packs, tech_row};
+ghost use Rattle.depend_rows.specs.Machines.{labs, prerequisites, science_packs, tech_row};
 
 use crate::index::Index;
 use crate::members::{Test, all_of, any_of, named, row_with, those};
@@ -27,7 +27,7 @@ fn numbers_of_techs(alloc: Global, techs: &[TechId]) -> Result<Vec<u32>, NoMemor
     Ok(numbers)
 }
 
-#[tactic(auto, unfolding(crate::specs::Doing::prerequisites))]
+#[tactic(auto, unfolding(crate::specs::Machines::prerequisites))]
 fn prerequisites(alloc: Global, game: &Game, tech: &Tech) -> Result<Vec<NodeId>, NoMemory>
     requires sound { IsSound game.now }
     requires tech { IsSoundTech game.now tech.now }
@@ -47,7 +47,7 @@ fn goods_of_parts(alloc: Global, parts: &[(GoodId, Ratio)]) -> Result<Vec<u32>, 
     Ok(goods)
 }
 
-#[tactic(auto, unfolding(crate::specs::Doing::science_packs))]
+#[tactic(auto, unfolding(crate::specs::Machines::science_packs))]
 fn science_packs(alloc: Global, game: &Game, tech: &Tech) -> Result<Vec<NodeId>, NoMemory>
     requires sound { IsSound game.now }
     requires tech { IsSoundTech game.now tech.now }
@@ -92,7 +92,7 @@ pub fn all_labs(alloc: Global, game: &Game) -> Result<Vec<NodeId>, NoMemory>
 }
 
 // The labs that research a technology.
-#[tactic(auto, unfolding(crate::specs::Doing::labs))]
+#[tactic(auto, unfolding(crate::specs::Machines::labs))]
 fn labs(alloc: Global, game: &Game, index: &Index, tech: &Tech) -> Result<Vec<NodeId>, NoMemory>
     requires sound { IsSound game.now }
     requires index { IsIndex game.now index.now }
@@ -115,7 +115,7 @@ fn labs(alloc: Global, game: &Game, index: &Index, tech: &Tech) -> Result<Vec<No
 }
 
 /// The row of a technology.
-#[tactic(auto, unfolding(crate::specs::Doing::tech_row))]
+#[tactic(auto, unfolding(crate::specs::Machines::tech_row))]
 pub fn tech_row(alloc: Global, game: &Game, index: &Index, tech: &Tech) -> Result<Row, NoMemory>
     requires sound { IsSound game.now }
     requires index { IsIndex game.now index.now }

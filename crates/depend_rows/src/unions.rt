@@ -1,8 +1,8 @@
 //! Lists of nodes put together: in node order, each node once.
-ghost use Rattle.std.specs.Prelude.{◌≡◌, ◌++◌, ◌<◌, IfOk, OnOk, length, map};
+ghost use Rattle.std.specs.Prelude.{◌≡◌, ◌++◌, IfOk, OnOk, map};
 ghost use Rattle.depend_rows.specs.Lists.{list_at, HoldInOrder};
 
-use crate::lists::distinct;
+use crate::lists::{distinct, list_of};
 use plan_base::{NoMemory, NodeId};
 use std::alloc::Global;
 
@@ -18,11 +18,9 @@ fn push_numbers(numbers: &mut Vec<u32>, nodes: &[NodeId]) -> Result<(), NoMemory
 
 /// Puts the numbers of the nodes of a list at the end.
 pub fn push_list(numbers: &mut Vec<u32>, lists: &[Vec<NodeId>], number: u32) -> Result<(), NoMemory>
-    requires { number < length lists.now }
     ensures { OnOk result (numbers.new.items ≡ numbers.old.items ++ map (λ n. n.0) (list_at lists.now number)) }
 {
-    let list = &lists[number as usize];
-    push_numbers(numbers, list.as_slice())
+    push_numbers(numbers, list_of(lists, number))
 }
 
 /// The nodes with these numbers, in order and each once.

@@ -2,7 +2,7 @@
 
 use craft_reader::DumpCode;
 use plan_base::Text;
-use planner_cli::{DUMP_LIMIT, Status};
+use planner_cli::{DUMP_LIMIT, PlainWords, Status, plain_words};
 use run_hints::{dump_name, hint, script_name, unread_hint};
 use std::alloc::Global;
 use std::fs::File;
@@ -56,14 +56,19 @@ pub fn said<R: Files + AllocGlobal>(
     status: &Status,
     words: &[Text],
 ) -> Option<Text> {
+    let PlainWords { words, cert } = plain_words(alloc, words).ok()?;
+    let cert = cert.as_ref().map(|name| name.as_str());
     if let Status::ReadFault = status {
-        if let Some(said) = unread(rt, alloc, dump_name(words)) {
+        if let Some(said) = unread(rt, alloc, dump_name(&words)) {
             return Some(said);
         }
-        if let Some(said) = unread(rt, alloc, script_name(words)) {
+        if let Some(said) = unread(rt, alloc, script_name(&words)) {
+            return Some(said);
+        }
+        if let Some(said) = unread(rt, alloc, cert) {
             return Some(said);
         }
     }
-    let dump = faulty_dump(rt, status, words);
-    hint(alloc, status, words, dump.as_deref()).ok()
+    let dump = faulty_dump(rt, status, &words);
+    hint(alloc, status, &words, cert, dump.as_deref()).ok()
 }

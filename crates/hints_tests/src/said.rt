@@ -1,4 +1,5 @@
 //! What is said, by the status of a run.
+use certificate_file::CertFault;
 use craft_reader::{DumpCode, DumpFault};
 use json_text::{JsonCode, JsonFault};
 use plan_base::{NoMemory, Text};
@@ -28,7 +29,7 @@ fn is_text(text: &Result<Text, NoMemory>, wanted: &str) -> bool {
 // Whether this is said of such a run over such a dump.
 fn says_of(alloc: Global, status: &Status, dump: Option<&[u8]>, wanted: &str) -> bool {
     match texts_in(alloc, &WORDS) {
-        Ok(words) => is_text(&hint(alloc, status, &words, dump), wanted),
+        Ok(words) => is_text(&hint(alloc, status, &words, Some("c.json"), dump), wanted),
         Err(NoMemory) => false,
     }
 }
@@ -46,7 +47,8 @@ fn nothing_is_said_where_lines_were_answered(rt: HostRuntime) -> Result<(), Fail
 
 #[test]
 fn bad_words_are_told_the_usage(rt: HostRuntime) -> Result<(), Fail> {
-    let usage = "factoplan: usage: factoplan run DUMP SCRIPT, or factoplan sample NUMBER SIZE\n";
+    let usage =
+        "factoplan: usage: factoplan run DUMP SCRIPT, prove DUMP SCRIPT, check DUMP SCRIPT --cert FILE, or sample NUMBER SIZE\n";
     assert!(rt; says(rt.alloc(), &Status::BadWords, usage));
     Ok(())
 }
@@ -85,6 +87,17 @@ fn a_long_file_is_named(rt: HostRuntime) -> Result<(), Fail> {
     assert!(rt; says(rt.alloc(), &Status::TooLong(Long::DumpBytes), dump));
     assert!(rt; says(rt.alloc(), &Status::TooLong(Long::ScriptBytes), script));
     assert!(rt; says(rt.alloc(), &Status::TooLong(Long::ScriptLines), lines));
+    let cert = "factoplan: c.json: the certificate has more than 268,435,456 bytes\n";
+    assert!(rt; says(rt.alloc(), &Status::TooLong(Long::CertBytes), cert));
+    Ok(())
+}
+
+#[test]
+fn a_bad_certificate_is_named(rt: HostRuntime) -> Result<(), Fail> {
+    let json = "factoplan: c.json: the certificate is no JSON in UTF-8 of at most 127 levels\n";
+    let form = "factoplan: c.json: the JSON is no certificate of version 1\n";
+    assert!(rt; says(rt.alloc(), &Status::BadCert(CertFault::NotJson), json));
+    assert!(rt; says(rt.alloc(), &Status::BadCert(CertFault::BadForm), form));
     Ok(())
 }
 

@@ -1,8 +1,10 @@
--- How the loops over goods and columns end.
-use Rattle.std.specs.Prelude.{◌≡◌, ℕ, ◌<◌, List, Some, slice_get}
-use Rattle.std.proofs.Common.{sym, subst, ◌∙◌}
-use Rattle.fractions.specs.Fraction.{Fraction, ◌≤ʳ◌, ◌<ʳ◌}
-use Rattle.fractions.proofs.Order.{<ʳ_not_≤ʳ}
+-- What a comparison of two fractions tells, and how the loops over goods and columns end.
+use Rattle.std.specs.Prelude.{◌≡◌, ℕ, ◌<◌, List, Some, slice_get, Bool, true, false, not, IsTrue, ◌↔◌}
+use Rattle.std.specs.Ordering.{partial_gt}
+use Rattle.std.proofs.Common.{refl, sym, subst, ◌∙◌}
+use Rattle.fractions.specs.Fraction.{Fraction, zero_fraction, ◌≤ʳ◌, ◌<ʳ◌}
+use Rattle.fractions.specs.Compare.{are_same, partly_compared, same_tells, above_tells}
+use Rattle.fractions.proofs.Order.{<ʳ_not_≤ʳ, ≤ʳ_from_not_<ʳ}
 use Rattle.linear_table.specs.Plans.{good_count, column_count, want_at, value_of}
 use Rattle.linear_table.specs.Basis.{table_name}
 use Rattle.linear_table.specs.declared.Linear.{Linear}
@@ -10,6 +12,33 @@ use Rattle.linear_table.specs.declared.Column.{Column}
 use Rattle.plan_base.specs.declared.ids.GoodId.{GoodId}
 use Rattle.plan_certificate.specs.Faults.{IsBalanceFormed, balance_of, IsBalancedAt, IsUnbalancedAt, IsValueFormed, limit_at, IsWithinAt, GainsAt}
 use Rattle.plan_certificate.specs.declared.Limit.{Limit}
+
+by_test : {P : Type 0} → (t : Bool) → IsTrue t ↔ P → not t ≡ false → P
+by_test true h e = h.0 refl
+by_test false h e = absurd (cc)
+
+against_test : {P : Type 0} → (t : Bool) → IsTrue t ↔ P → t ≡ false → P → ⊥
+against_test true h e p = cc
+against_test false h e p = let u = h.1 p in cc
+
+turned : (t : Bool) → not t ≡ true → t ≡ false
+turned true e = cc
+turned false e = refl
+
+pub equal : (x y : Fraction) → not (are_same x y) ≡ false → x ≡ y
+equal x y e = by_test (are_same x y) (same_tells x y) e
+
+pub differ : (x y : Fraction) → not (are_same x y) ≡ true → x ≡ y → ⊥
+differ x y e = against_test (are_same x y) (same_tells x y) (turned (are_same x y) e)
+
+pub above : (x y : Fraction) → partial_gt partly_compared x y ≡ true → y <ʳ x
+above x y e = (above_tells x y).0 e
+
+pub not_above : (x y : Fraction) → partial_gt partly_compared x y ≡ false → x ≤ʳ y
+not_above x y e = ≤ʳ_from_not_<ʳ x y (against_test (partial_gt partly_compared x y) (above_tells x y) e)
+
+pub not_positive : (x : Fraction) (t : Bool) → IsTrue t ↔ (zero_fraction <ʳ x) → t ≡ false → x ≤ʳ zero_fraction
+not_positive x t h e = ≤ʳ_from_not_<ʳ x zero_fraction (against_test t h e)
 
 pub balanced_at : (l : Linear) (rates : List Fraction) (g : ℕ) (sum want : Fraction) → IsBalanceFormed l rates g × (sum ≡ balance_of l rates g) → want ≡ want_at l g → sum ≡ want → IsBalancedAt l rates g
 balanced_at l rates g sum want h en e = (h.0, sym h.1 ∙ (e ∙ en))

@@ -11,9 +11,9 @@ abbrev pub sum_of_products : ℕ → (ℕ → Fraction) → (ℕ → Fraction) �
 sum_of_products n left right = sum_below n (λ k. left k *ʳ right k)
 
 -- neither the product nor the sum with it is wide
-abbrev pub StepFits : Fraction → Fraction → Fraction → Type 0
-StepFits sum left right = IsNarrow (left *ʳ right) × SumFits sum (left *ʳ right)
+abbrev pub ProductFits : Fraction → Fraction → Fraction → Type 0
+ProductFits sum left right = IsNarrow (left *ʳ right) × SumFits sum (left *ʳ right)
 
 -- no step of the sum below n is wide
 abbrev pub IsFormed : ℕ → (ℕ → Fraction) → (ℕ → Fraction) → Type 0
-IsFormed n left right = (k : ℕ) → k < n → StepFits (sum_of_products k left right) (left k) (right k)
+IsFormed n left right = (k : ℕ) → k < n → ProductFits (sum_of_products k left right) (left k) (right k)

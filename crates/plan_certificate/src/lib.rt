@@ -8,13 +8,12 @@ ghost use Rattle.std.specs.Bool.{OnTrue, OnFalse};
 ghost use Rattle.fractions.specs.Fraction.{Fraction, zero_fraction, ◌+ʳ◌, ◌*ʳ◌, ◌≤ʳ◌, ◌<ʳ◌};
 ghost use Rattle.linear_table.specs.Plans.{good_count, column_count, column_part, column_price, number_at, want_at, IsWellFormed, IsPlan, cost_of, value_of, wants_value, AreLeastCostPrices, AreInfeasibilityPrices};
 ghost use Rattle.linear_table.specs.Basis.{table_name};
-ghost use Rattle.plan_certificate.specs.Formed.{StepFits, IsFormed, sum_of_products};
+ghost use Rattle.plan_certificate.specs.Formed.{ProductFits, IsFormed, sum_of_products};
 ghost use Rattle.plan_certificate.specs.Faults.{HasNoNegative, IsBalanceFormed, balance_of, IsBalanced, IsNegativeAt, IsCostFormed, IsBalanceFault, IsPlanFault, IsAcceptedPlan, limit_at, IsValueFormed, IsWithin, AreWantsFormed, IsGainFault, IsPriceFault, AreAcceptedPrices, AreAcceptedRefusals};
 
 use fractions::{Ratio, Wide};
 use linear_table::{Column, Linear, Plan};
 use plan_base::GoodId;
-use std::cmp::Ordering;
 
 /// Why a certificate is refused: the first test that fails.
 #[derive(Clone, Copy, Debug, PartialEq, Eq)]
@@ -50,7 +49,7 @@ fn number(numbers: &[Ratio], place: usize) -> Ratio
 
 // A sum with one more product.
 fn add_product(sum: &Ratio, left: &Ratio, right: &Ratio) -> Result<Ratio, Wide>
-    ensures { OkIff result (StepFits sum.now left.now right.now) (sum.now +ʳ left.now *ʳ right.now) }
+    ensures { OkIff result (ProductFits sum.now left.now right.now) (sum.now +ʳ left.now *ʳ right.now) }
 {
     let Ok(product) = left.mul(right) else {
         return Err(Wide);
@@ -142,30 +141,6 @@ fn check_signs(linear: &Linear, rates: &[Ratio]) -> Result<(), Column>
     Ok(())
 }
 
-// Whether two fractions are equal.
-fn same(left: &Ratio, right: &Ratio) -> bool
-    ensures yes { OnTrue result (left.now ≡ right.now) }
-    ensures not { OnFalse result (left.now ≢ right.now) }
-{
-    left.cmp(right) == Ordering::Equal
-}
-
-// Whether a fraction is above another.
-fn is_above(left: &Ratio, right: &Ratio) -> bool
-    ensures yes { OnTrue result (right.now <ʳ left.now) }
-    ensures not { OnFalse result (left.now ≤ʳ right.now) }
-{
-    left.cmp(right) == Ordering::Greater
-}
-
-// Whether a fraction is above 0.
-fn is_positive(number: &Ratio) -> bool
-    ensures yes { OnTrue result (zero_fraction <ʳ number.now) }
-    ensures not { OnFalse result (number.now ≤ʳ zero_fraction) }
-{
-    number.cmp(&Ratio::zero()) == Ordering::Greater
-}
-
 // Whether each good is balanced; else what fails of the first that isn't.
 fn check_balance(linear: &Linear, rates: &[Ratio]) -> Result<(), CheckFault>
     requires length { length rates.now ≡ column_count linear.now }
@@ -177,7 +152,7 @@ fn check_balance(linear: &Linear, rates: &[Ratio]) -> Result<(), CheckFault>
             return Err(CheckFault::WideSum);
         };
         let want = linear.want(g);
-        if !same(&sum, &want) {
+        if sum != want {
             return Err(CheckFault::Unbalanced(linear.good(g)));
         }
     }
@@ -205,7 +180,7 @@ fn check_values(linear: &Linear, limit: Limit, prices: &[Ratio]) -> Result<(), C
             return Err(CheckFault::WideSum);
         };
         let most = limit_of(linear, limit, j);
-        if is_above(&value, &most) {
+        if value > most {
             return Err(CheckFault::Gains(linear.name(j)));
         }
     }
@@ -229,7 +204,7 @@ fn check_rates(linear: &Linear, rates: &[Ratio], stated: &Ratio) -> Result<(), C
     let Ok(sum) = cost(linear, rates) else {
         return Err(CheckFault::WideSum);
     };
-    if !same(&sum, stated) {
+    if sum != *stated {
         return Err(CheckFault::WrongValue);
     }
     Ok(())
@@ -263,7 +238,7 @@ fn check_least(linear: &Linear, prices: &[Ratio], stated: &Ratio) -> Result<(), 
     let Ok(sum) = value_of_wants(linear, prices) else {
         return Err(CheckFault::WideSum);
     };
-    if !same(&sum, stated) {
+    if sum != *stated {
         return Err(CheckFault::WrongValue);
     }
     Ok(())
@@ -300,7 +275,7 @@ fn check_none(linear: &Linear, prices: &[Ratio]) -> Result<(), CheckFault>
     let Ok(sum) = value_of_wants(linear, prices) else {
         return Err(CheckFault::WideSum);
     };
-    if !is_positive(&sum) {
+    if !sum.is_positive() {
         return Err(CheckFault::WrongValue);
     }
     Ok(())

@@ -1,30 +1,35 @@
 // The answers to a script.
-ghost use Rattle.std.specs.Prelude.{◌≡◌, []};
+ghost use Rattle.std.specs.Prelude.{◌≡◌, ◌≤◌, [], length};
 ghost use Rattle.game_types.specs.declared.games.Game.{Game};
 ghost use Rattle.planner_core.specs.Lines.{first_planned};
 ghost use Rattle.script_runner.specs.Leaves.{Leaves};
-ghost use Rattle.script_runner.specs.Scripts.{EndsScript, is_cut};
+ghost use Rattle.script_runner.specs.Checks.{EndsCheck};
+ghost use Rattle.script_runner.specs.Lines.{lines_of};
+ghost use Rattle.script_runner.specs.Scripts.{is_cut};
+ghost use Rattle.planner_cli.specs.Ending.{EndsAnswered};
 ghost use Rattle.planner_cli.specs.Keeping.{KeepsSink};
 
 use crate::prepare::Ready;
+use certificate_file::CertEntry;
 use linear_table::SolveAnswer;
 use plan_base::Steps;
 use plan_io::Sink;
 use planner_core::state_is_of_the_active_edits;
-use script_runner::{ScriptEnd, run_script};
+use script_runner::{ScriptEnd, check_lines, prove_script, run_script};
 use std::alloc::Global;
 
-/// Answers each line of the script before the next, and keeps what the solver answers.
+/// Answers each line of the script before the next, writes each reply or behind the last line their certificate, and keeps what the solver answers.
 pub fn answer<K: Sink, L>(
     alloc: Global,
     ready: Ready,
+    prove: bool,
     out: &mut K,
     solved: &mut Vec<SolveAnswer>,
     steps: &mut Steps<L>,
 ) -> ScriptEnd
     requires none_yet { solved.old.items ≡ [] }
     requires loaded { (game : Game) × (ready.planner ≡ first_planned game) }
-    ensures leaves { Leaves (EndsScript ready.planner ready.script.items solved.new.items) is_cut (K.written out.old) (K.written out.new) steps.old steps.new result }
+    ensures leaves { Leaves (EndsAnswered prove ready.planner ready.script.items solved.new.items) is_cut (K.written out.old) (K.written out.new) steps.old steps.new result }
     ensures sink { KeepsSink (K.limit out.old) (K.limit out.new) (K.faults out.old) (K.faults out.new) (result ≡ ScriptEnd.WriteFault) }
 {
     // A planner that was just loaded has a history.
@@ -33,5 +38,31 @@ pub fn answer<K: Sink, L>(
         mut planner,
         script,
     } = ready;
-    run_script(alloc, &mut planner, &script, out, solved, steps)
+    if prove {
+        prove_script(alloc, &mut planner, &script, out, solved, steps)
+    } else {
+        run_script(alloc, &mut planner, &script, out, solved, steps)
+    }
+}
+
+/// Checks each line of the script against the entries of a certificate.
+pub fn check<K: Sink, L>(
+    alloc: Global,
+    ready: Ready,
+    entries: &[CertEntry],
+    out: &mut K,
+    steps: &mut Steps<L>,
+) -> ScriptEnd
+    requires few { length (lines_of ready.script.items) ≤ 100_000 }
+    requires loaded { (game : Game) × (ready.planner ≡ first_planned game) }
+    ensures leaves { Leaves (EndsCheck entries.now ready.planner ready.script.items) is_cut (K.written out.old) (K.written out.new) steps.old steps.new result }
+    ensures sink { KeepsSink (K.limit out.old) (K.limit out.new) (K.faults out.old) (K.faults out.new) (result ≡ ScriptEnd.WriteFault) }
+{
+    // A planner that was just loaded has a history.
+    state_is_of_the_active_edits();
+    let Ready {
+        mut planner,
+        script,
+    } = ready;
+    check_lines(alloc, &mut planner, &script, entries, out, steps)
 }

@@ -1,27 +1,33 @@
-// The two modes: the files of a dump and a script, and a sample.
-ghost use Rattle.std.specs.Prelude.{◌≡◌, ◌≢◌, ◌≤◌, ◌<◌, ◌-◌, [], Some};
+// The modes: the files of a dump and a script, the same with a certificate, and a sample.
+ghost use Rattle.std.specs.Prelude.{◌≡◌, ◌≢◌, ◌≤◌, ◌<◌, ◌-◌, ℕ, [], Some};
 ghost use Rattle.plan_io.specs.Store.{Shelf};
 ghost use Rattle.script_runner.specs.Leaves.{Leaves};
 ghost use Rattle.planner_cli.specs.Begun.{BeginsFiles};
 ghost use Rattle.planner_cli.specs.Early.{is_cut};
-ghost use Rattle.planner_cli.specs.Ending.{EndsRun};
+ghost use Rattle.game_types.specs.declared.games.Game.{Game};
+ghost use Rattle.plan_io.specs.Store.{Begun};
+ghost use Rattle.planner_core.specs.Lines.{first_planned};
+ghost use Rattle.planner_cli.specs.Ending.{EndsRun, IsReady, answering};
 ghost use Rattle.planner_cli.specs.Keeping.{KeepsSink, KeepsStore};
-ghost use Rattle.planner_cli.specs.Words.{Files, Sample};
+ghost use Rattle.planner_cli.specs.Words.{Check, FileNames, Files, Run, Sample};
 
-use crate::answer::answer;
-use crate::prepare::{make_ready, read_files};
+use crate::answer::{answer, check};
+use crate::certs::read_entries;
+use crate::prepare::{Ready, make_ready, read_files};
 use crate::status::{Status, status_of};
 use crate::telling::{is_answered, tell, tell_steps};
 use linear_table::SolveAnswer;
 use plan_base::Steps;
 use plan_io::{Sink, Store};
+use script_runner::{has_many_lines, tell_many_lines};
 use std::alloc::Global;
 
-/// Answers the script of a file over the dump of another.
+/// Answers the script of a file over the dump of another, and writes the replies or their certificate.
 pub fn run_files<S: Store, K: Sink, L>(
     alloc: Global,
     dump: &str,
     script: &str,
+    prove: bool,
     store: &mut S,
     out: &mut K,
     solved: &mut Vec<SolveAnswer>,
@@ -29,13 +35,63 @@ pub fn run_files<S: Store, K: Sink, L>(
 ) -> Status
     requires calls { (S.begun store.old).calls ≤ 1 }
     requires none_yet { solved.old.items ≡ [] }
-    ensures leaves { Leaves (EndsRun (S.shelf store.old) (Some (Files (record { dump = dump.now; script = script.now }))) (steps.new - steps.old) solved.new.items) is_cut (K.written out.old) (K.written out.new) steps.old steps.new result }
-    ensures begins { BeginsFiles (S.shelf store.old) (Some (Files (record { dump = dump.now; script = script.now }))) (S.begun store.old) (S.begun store.new) result }
+    ensures leaves { Leaves (EndsRun (S.shelf store.old) (Some (Files (answering prove) (record { dump = dump.now; script = script.now }))) (steps.new - steps.old) solved.new.items) is_cut (K.written out.old) (K.written out.new) steps.old steps.new result }
+    ensures begins { BeginsFiles (S.shelf store.old) (Some (Files (answering prove) (record { dump = dump.now; script = script.now }))) (S.begun store.old) (S.begun store.new) result }
     ensures store { KeepsStore (S.shelf store.old) (S.shelf store.new) (S.faults store.old) (S.faults store.new) (result ≡ Status.ReadFault) }
     ensures sink { KeepsSink (K.limit out.old) (K.limit out.new) (K.faults out.old) (K.faults out.new) (result ≡ Status.WriteFault) }
 {
     match read_files(alloc, dump, script, store, steps) {
-        Ok(ready) => status_of(answer(alloc, ready, out, solved, steps)),
+        Ok(ready) => status_of(answer(alloc, ready, prove, out, solved, steps)),
+        Err(early) => tell(alloc, early, out),
+    }
+}
+
+// Checks the lines of a script against the certificate of a file.
+fn check_ready<S: Store, K: Sink, L>(
+    alloc: Global,
+    ready: Ready,
+    cert: &str,
+    store: &mut S,
+    out: &mut K,
+    steps: &mut Steps<L>,
+) -> Status
+    requires calls { (S.begun store.old).calls < 4 }
+    requires loaded { (game : Game) × (ready.planner ≡ first_planned game) }
+    ensures leaves { (names : FileNames) (first : ℕ) → IsReady (S.shelf store.old) (Some (Files Run names)) ready.planner ready.script.items (steps.old - first) → first ≤ steps.old
+        → Leaves (EndsRun (S.shelf store.old) (Some (Files (Check cert.now) names)) (steps.new - first) []) is_cut (K.written out.old) (K.written out.new) first steps.new result }
+    ensures begins { (names : FileNames) (first : Begun) → BeginsFiles (S.shelf store.old) (Some (Files Run names)) first (S.begun store.old) Status.Done
+        → BeginsFiles (S.shelf store.old) (Some (Files (Check cert.now) names)) first (S.begun store.new) result }
+    ensures store { KeepsStore (S.shelf store.old) (S.shelf store.new) (S.faults store.old) (S.faults store.new) (result ≡ Status.ReadFault) }
+    ensures sink { KeepsSink (K.limit out.old) (K.limit out.new) (K.faults out.old) (K.faults out.new) (result ≡ Status.WriteFault) }
+    ensures later { steps.old ≤ steps.new }
+{
+    if has_many_lines(&ready.script) {
+        return status_of(tell_many_lines(out));
+    }
+    match read_entries(alloc, cert, store) {
+        Ok(entries) => status_of(check(alloc, ready, entries.as_slice(), out, steps)),
+        Err(early) => tell(alloc, early, out),
+    }
+}
+
+/// Checks the script of a file over the dump of another against the certificate of a third.
+pub fn check_files<S: Store, K: Sink, L>(
+    alloc: Global,
+    dump: &str,
+    script: &str,
+    cert: &str,
+    store: &mut S,
+    out: &mut K,
+    steps: &mut Steps<L>,
+) -> Status
+    requires calls { (S.begun store.old).calls ≤ 1 }
+    ensures leaves { Leaves (EndsRun (S.shelf store.old) (Some (Files (Check cert.now) (record { dump = dump.now; script = script.now }))) (steps.new - steps.old) []) is_cut (K.written out.old) (K.written out.new) steps.old steps.new result }
+    ensures begins { BeginsFiles (S.shelf store.old) (Some (Files (Check cert.now) (record { dump = dump.now; script = script.now }))) (S.begun store.old) (S.begun store.new) result }
+    ensures store { KeepsStore (S.shelf store.old) (S.shelf store.new) (S.faults store.old) (S.faults store.new) (result ≡ Status.ReadFault) }
+    ensures sink { KeepsSink (K.limit out.old) (K.limit out.new) (K.faults out.old) (K.faults out.new) (result ≡ Status.WriteFault) }
+{
+    match read_files(alloc, dump, script, store, steps) {
+        Ok(ready) => check_ready(alloc, ready, cert, store, out, steps),
         Err(early) => tell(alloc, early, out),
     }
 }
@@ -61,7 +117,7 @@ pub fn run_sample<K: Sink, L>(
         Ok(ready) => ready,
         Err(early) => return tell(alloc, early, out),
     };
-    let end = answer(alloc, ready, out, solved, steps);
+    let end = answer(alloc, ready, false, out, solved, steps);
     if is_answered(end) {
         tell_steps(alloc, end, steps.taken() - before, out)
     } else {

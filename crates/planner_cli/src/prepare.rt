@@ -6,7 +6,7 @@ ghost use Rattle.planner_cli.specs.Begun.{BeginsFiles, status_so_far};
 ghost use Rattle.planner_cli.specs.Early.{EndsEarly, EndsLoading};
 ghost use Rattle.planner_cli.specs.Ending.{IsReady};
 ghost use Rattle.planner_cli.specs.Keeping.{KeepsStore};
-ghost use Rattle.planner_cli.specs.Words.{Files, Sample};
+ghost use Rattle.planner_cli.specs.Words.{Files, Run, Sample};
 
 use crate::input::read_input;
 use crate::load::load;
@@ -50,9 +50,9 @@ pub fn read_files<S: Store, L>(
 ) -> Result<Ready, Status>
     requires { (S.begun store.old).calls ≤ 1 }
     ensures ready { MatchResult result
-        (λ ready. IsReady (S.shelf store.old) (Some (Files (record { dump = dump.now; script = script.now }))) ready.planner ready.script.items (steps.new - steps.old))
-        (λ status. EndsEarly (S.shelf store.old) (Some (Files (record { dump = dump.now; script = script.now }))) status (steps.new - steps.old)) }
-    ensures begins { BeginsFiles (S.shelf store.old) (Some (Files (record { dump = dump.now; script = script.now }))) (S.begun store.old) (S.begun store.new) (status_so_far result) }
+        (λ ready. IsReady (S.shelf store.old) (Some (Files Run (record { dump = dump.now; script = script.now }))) ready.planner ready.script.items (steps.new - steps.old))
+        (λ status. EndsEarly (S.shelf store.old) (Some (Files Run (record { dump = dump.now; script = script.now }))) status (steps.new - steps.old)) }
+    ensures begins { BeginsFiles (S.shelf store.old) (Some (Files Run (record { dump = dump.now; script = script.now }))) (S.begun store.old) (S.begun store.new) (status_so_far result) }
     ensures store { KeepsStore (S.shelf store.old) (S.shelf store.new) (S.faults store.old) (S.faults store.new) (IsErrOf result Status.ReadFault) }
     ensures later { steps.old ≤ steps.new }
 {

@@ -1,11 +1,12 @@
 // What is written where a run ends before its script is answered, and behind the answers to a sample's.
 ghost use Rattle.std.specs.Prelude.{◌≡◌, ◌≢◌, true};
-ghost use Rattle.planner_cli.specs.Early.{Tells, long_line};
+ghost use Rattle.planner_cli.specs.Early.{Tells, cert_line, long_line};
 ghost use Rattle.planner_cli.specs.Ending.{TellsSteps, is_answered};
 ghost use Rattle.planner_cli.specs.Keeping.{KeepsSink};
 
 use crate::bad_dump::fault_line;
 use crate::status::{Long, Status, status_of};
+use certificate_file::CertFault;
 use craft_reader::DumpFault;
 use plan_io::Sink;
 use script_runner::{ScriptEnd, write_all};
@@ -18,6 +19,17 @@ fn long_line(long: Long) -> &'static [u8]
         Long::DumpBytes => b"too long dump bytes\n",
         Long::ScriptBytes => b"too long script bytes\n",
         Long::ScriptLines => b"too long script lines\n",
+        Long::CertBytes => b"too long cert bytes\n",
+    }
+}
+
+fn cert_line(fault: CertFault) -> &'static [u8]
+    ensures { result.now ≡ cert_line fault }
+{
+    match fault {
+        CertFault::NoMemory => b"",
+        CertFault::NotJson => b"bad cert C2\n",
+        CertFault::BadForm => b"bad cert C3\n",
     }
 }
 
@@ -51,6 +63,10 @@ pub fn tell<K: Sink>(alloc: Global, early: Status, out: &mut K) -> Status
             Err(_) => Status::WriteFault,
         },
         Status::BadDump(fault) => tell_fault(alloc, fault, out),
+        Status::BadCert(fault) => match write_all(out, cert_line(fault)) {
+            Ok(()) => Status::BadCert(fault),
+            Err(_) => Status::WriteFault,
+        },
         other => other,
     }
 }

@@ -1,11 +1,11 @@
 -- The flights of a sound game are of silos and items that are there, and their launches are sound recipes.
-use Rattle.std.proofs.Common.{◌≡◌, ◌∙◌, ◌<◌, ◌≤◌, ◌+◌, ◌++◌, ℕ, Bool, true, false, List, [], ◌∷◌, Option, Some, None, length, drop, get_or, map, refl, sym, ap, subst, arith}
+use Rattle.std.proofs.Common.{◌≡◌, ◌∙◌, ◌<◌, ◌≤◌, ◌+◌, ◌++◌, ◌⊎◌, ℕ, Bool, true, false, List, [], ◌∷◌, Option, Some, None, length, drop, get_or, map, refl, sym, ap, subst, arith, inl, inr}
 use Rattle.std.specs.Prelude.{All, IfSome, IsSomeAnd, pos, slice_get, slice_index_or, ◌==◌, if◌then◌else◌}
 use Rattle.std.specs.List.{cons_option, flat_map}
 use Rattle.std.proofs.lemmas.Grind.{common_steps}
 use Rattle.std.proofs.lemmas.List.{get_or-drop}
 use Rattle.std.proofs.lemmas.List.Elements.{All-nil, All-cons, All-append, All-head, All-tail, All-map, All-get_or, All-weaker}
-use Rattle.std.proofs.lemmas.Option.{get_or_from_slice_get, slice_get_within, slice_get-get_or}
+use Rattle.std.proofs.lemmas.Option.{get_or_from_slice_get, slice_get_cases, slice_get_within, slice_get-get_or}
 use Rattle.game_types.proofs.Walks.{next_at}
 use Rattle.fractions.specs.Fraction.{one_fraction, whole_fraction}
 use Rattle.plan_base.specs.declared.ids.EntityId.{EntityId}
@@ -23,7 +23,7 @@ use Rattle.game_types.specs.declared.recipes.Product.{Product}
 use Rattle.game_types.specs.declared.recipes.Recipe.{Recipe}
 use Rattle.rocket_launches.specs.declared.silos.Flight.{Flight}
 use Rattle.rocket_launches.specs.declared.silos.Silo.{Silo}
-use Rattle.rocket_launches.specs.Launches.{IsThere, as_catalyst, cargo_of, fixed_recipe, flight, flights, found_from, launch_recipe, one_part, recipe_with, silo_fixed_to, silo_of, silo_with}
+use Rattle.rocket_launches.specs.Launches.{IsThere, as_catalyst, cargo_in, cargo_of, fixed_recipe, flight, flights, found_from, launch_recipe, one_part, recipe_with, silo_fixed_to, silo_of, silo_with, silos_in}
 
 -- ---- what is found of the things of a list, each at its place
 first_of_rest : {A : Type 0} (whole : List A) (number : ℕ) (x : A) (xs : List A) → drop number whole ≡ x ∷ xs → slice_get whole number ≡ Some x
@@ -50,6 +50,13 @@ found_hold {A = A} {B = B} find P whole one number (x ∷ xs) is =
     by_found : (found : Option B) → IfSome found P → All P (found_from find (number + 1) xs) → All P (cons_option found (found_from find (number + 1) xs))
     by_found None holds rest = rest
     by_found (Some value) holds rest = All-cons P value (found_from find (number + 1) xs) holds rest
+
+pub some_within : {A : Type 0} (P : A → Type 0) (xs : List A) (k : ℕ) → IsSomeAnd (slice_get xs k) P → k < length xs
+some_within {A = A} P xs k holds = by_cases (slice_get_cases xs k).1
+  where
+    by_cases : ((x : A) × (k < length xs) × (slice_get xs k ≡ Some x) × (get_or xs k x ≡ x)) ⊎ ((length xs ≤ k) × (slice_get xs k ≡ None)) → k < length xs
+    by_cases (inl (x, within, found, same)) = within
+    by_cases (inr (past, none)) = absurd (subst (λ (o : Option A). IsSomeAnd o P) none holds)
 
 -- ---- silos and cargo
 module _ (g : Game) (sound : IsSound g) where
@@ -110,12 +117,25 @@ module _ (g : Game) (sound : IsSound g) where
       (All-map (IsThere g) (flight silo) cargo (All-weaker (λ (good : GoodId). IsItem g good.0) (λ good. IsThere g (flight silo good)) (λ good is. record { silo = first.0; part = first.1; cargo = is }) cargo cargo_is))
       (flights_there silos cargo (All-tail IsSiloThere silo silos silos_there) cargo_is)
 
+  all_silos : All IsSiloThere (silos_in g)
+  all_silos = found_hold (silo_of g) IsSiloThere g.machines silo_there 0 g.machines refl
+
+  all_cargo : All (λ (cargo : GoodId). IsItem g cargo.0) (cargo_in g)
+  all_cargo = found_hold cargo_of (λ (cargo : GoodId). IsItem g cargo.0) g.items cargo_there 0 g.items refl
+
   pub all_there : All (IsThere g) (flights g)
   unfolding flights
-  all_there =
-      flights_there (found_from (silo_of g) 0 g.machines) (found_from cargo_of 0 g.items)
-      (found_hold (silo_of g) IsSiloThere g.machines silo_there 0 g.machines refl)
-      (found_hold cargo_of (λ (cargo : GoodId). IsItem g cargo.0) g.items cargo_there 0 g.items refl)
+  all_there = flights_there (silos_in g) (cargo_in g) all_silos all_cargo
+
+  pub silos_named : All (λ (silo : Silo). silo.machine.0 < length g.machine_names) (silos_in g)
+  silos_named =
+      All-weaker IsSiloThere (λ (silo : Silo). silo.machine.0 < length g.machine_names)
+      (λ silo there. subst (λ (n : ℕ). silo.machine.0 < n) (sym sound.machine_names) (some_within (λ m. IsCrafterKind m.kind) g.machines silo.machine.0 there.0)) (silos_in g) all_silos
+
+  pub cargo_named : All (λ (good : GoodId). good.0 < length g.item_names) (cargo_in g)
+  cargo_named =
+      All-weaker (λ (good : GoodId). IsItem g good.0) (λ (good : GoodId). good.0 < length g.item_names)
+      (λ good there. subst (λ (n : ℕ). good.0 < n) (sym sound.item_names) there) (cargo_in g) all_cargo
 
   abbrev IsPart : Part → Type 0
   IsPart part = IsGood g part.good.0

@@ -2,7 +2,7 @@
 use Rattle.std.proofs.Common.{◌≡◌, ◌∙◌, ◌<◌, ◌≤◌, ◌+◌, ◌-◌, ◌++◌, ◌⊎◌, ℕ, List, [], Option, Some, None, Ok, Err, Result, length, get_or, map, refl, sym, ap, subst, arith, inl, inr}
 use Rattle.std.proofs.lemmas.List.{length-map}
 use Rattle.std.specs.Prelude.{All, IfOk, IsSomeAnd, option_and_then, slice_get, slice_index_or}
-use Rattle.std.proofs.lemmas.Option.{slice_get-get_or, slice_get_cases, slice_get_past}
+use Rattle.std.proofs.lemmas.Option.{get_or_from_slice_get, slice_get-get_or, slice_get_cases, slice_get_past, slice_get_within}
 use Rattle.plan_base.specs.Shape.{node_count}
 use Rattle.game_types.specs.Nodes.{node_limit, shape_of}
 use Rattle.game_types.specs.Sound.{IsSound}
@@ -16,7 +16,7 @@ use Rattle.prototype_fields.specs.declared.fault.FieldCode.TheVariants.{Twice, L
 use Rattle.dump_reader.specs.Dump.{◌▷◌}
 use Rattle.rocket_launches.specs.declared.silos.Flight.{Flight}
 use Rattle.rocket_launches.specs.Launches.{first_taken, flight_beyond, flight_taken, IsThere, flights, launch_fault, launch_name, launch_recipe, unless_some, with_launches}
-use Rattle.rocket_launches.proofs.Flights.{all_there, launches_sound}
+use Rattle.rocket_launches.proofs.Flights.{all_there, launches_sound, some_within}
 use Rattle.rocket_launches.proofs.Grown.{grown, grown_sound}
 
 no_further : {A : Type 0} (xs : List A) (k : ℕ) → slice_get xs k ≡ None → length xs ≤ k
@@ -85,13 +85,6 @@ names_launched g all names now recipes new sound is few are made none added new_
 within_flights : (g : Game) (all : List Flight) (names : List (List ℕ)) (place : ℕ) → names ≡ map (launch_name g) all → place < length names → place < length all
 within_flights g all names place are within = subst (λ (n : ℕ). place < n) (ap length are ∙ length-map all (launch_name g)) within
 
-some_within : {A : Type 0} (P : A → Type 0) (xs : List A) (k : ℕ) → IsSomeAnd (slice_get xs k) P → k < length xs
-some_within {A = A} P xs k holds = by_cases (slice_get_cases xs k).1
-  where
-    by_cases : ((x : A) × (k < length xs) × (slice_get xs k ≡ Some x) × (get_or xs k x ≡ x)) ⊎ ((length xs ≤ k) × (slice_get xs k ≡ None)) → k < length xs
-    by_cases (inl (x, within, found, same)) = within
-    by_cases (inr (past, none)) = absurd (subst (λ (o : Option A). IsSomeAnd o P) none holds)
-
 pub flight_named : (g : Game) → IsSound g → (all : List Flight) (names : List (List ℕ)) (place : ℕ) (d : Flight) → all ≡ flights g → names ≡ map (launch_name g) all → place < length names
     → (slice_index_or all place d).silo.machine.0 < length g.machine_names
 flight_named g sound all names place d is are within =
@@ -120,11 +113,34 @@ taken_first g all place d fault is taken within fault_is =
     (subst (λ (xs : List Flight). slice_get xs place ≡ Some (slice_index_or all place d)) is (slice_get-get_or all place d within))
     ∙ ap Err (sym fault_is)
 
-pub beyond_limit : (g : Game) (all : List Flight) (place : ℕ) (d : Flight) (fault : DumpFault) → all ≡ flights g → None ≡ first_taken g.recipe_names [] (map (launch_name g) all)
-    → place ≡ node_limit - node_count (shape_of g) → node_limit - node_count (shape_of g) < length all → fault ≡ launch_fault g Limit (slice_index_or all place d) → with_launches g ≡ Err fault
-unfolding with_launches flight_taken flight_beyond
-beyond_limit g all place d fault is free at within fault_is =
-    let none : first_taken g.recipe_names [] (map (launch_name g) (flights g)) ≡ None = ap (λ (xs : List Flight). first_taken g.recipe_names [] (map (launch_name g) xs)) (sym is) ∙ sym free in
-    let there : slice_get (flights g) (node_limit - node_count (shape_of g)) ≡ Some (slice_index_or all place d) =
-    ap (slice_get (flights g)) (sym at) ∙ subst (λ (xs : List Flight). slice_get xs place ≡ Some (slice_index_or all place d)) is (slice_get-get_or all place d (subst (λ (n : ℕ). n < length all) (sym at) within)) in
-    rw (none, there) (ap Err (sym fault_is))
+pub beyond_free : (g : Game) (beyond : Flight) (fault : DumpFault) → first_taken g.recipe_names [] (map (launch_name g) (flights g)) ≡ None → flight_beyond g ≡ Some beyond → fault ≡ launch_fault g Limit beyond
+    → with_launches g ≡ Err fault
+unfolding with_launches flight_taken
+beyond_free g beyond fault free there fault_is = rw (free, there) (ap Err (sym fault_is))
+
+pub beyond_limit : (g : Game) (all : List Flight) (beyond : Flight) (fault : DumpFault) → all ≡ flights g → None ≡ first_taken g.recipe_names [] (map (launch_name g) all)
+    → flight_beyond g ≡ Some beyond → fault ≡ launch_fault g Limit beyond → with_launches g ≡ Err fault
+beyond_limit g all beyond fault is free there fault_is =
+    beyond_free g beyond fault (ap (λ (xs : List Flight). first_taken g.recipe_names [] (map (launch_name g) xs)) (sym is) ∙ sym free) there fault_is
+
+beyond_there : (g : Game) (beyond : Flight) → flight_beyond g ≡ Some beyond → slice_get (flights g) (node_limit - node_count (shape_of g)) ≡ Some beyond
+unfolding flight_beyond
+beyond_there g beyond is = is
+
+pub beyond_named : (g : Game) → IsSound g → (beyond : Flight) → flight_beyond g ≡ Some beyond → beyond.silo.machine.0 < length g.machine_names
+beyond_named g sound beyond is =
+    let at = beyond_there g beyond is in
+    let place = node_limit - node_count (shape_of g) in
+    subst (λ (one : Flight). one.silo.machine.0 < length g.machine_names) (get_or_from_slice_get (flights g) place beyond beyond at)
+    (flight_known g sound (flights g) place beyond refl (slice_get_within (flights g) place beyond at))
+
+pub enough_room : (g : Game) → IsSound g → (all : List Flight) → all ≡ flights g → flight_beyond g ≡ None → node_count (shape_of g) + length all ≤ node_limit
+unfolding flight_beyond
+enough_room g sound all is none =
+    let few = no_further (flights g) (node_limit - node_count (shape_of g)) none in
+    let nodes = sound.nodes in
+    subst (λ (xs : List Flight). node_count (shape_of g) + length xs ≤ node_limit) (sym is) (omega (arith, few, nodes))
+
+pub none_found : (found : Option Flight) → ((one : Flight) → found ≡ Some one → ⊥) → found ≡ None
+none_found None never = refl
+none_found (Some one) never = absurd (never one refl)

@@ -1,20 +1,22 @@
 //! A game with its launches.
-ghost use Rattle.std.specs.Prelude.{◌≡◌, ◌≢◌, ◌<◌, ◌≤◌, ◌+◌, ◌-◌, ◌++◌, IfOk, length, map};
+ghost use Rattle.std.specs.Prelude.{◌≡◌, ◌≢◌, ◌<◌, ◌≤◌, ◌+◌, ◌-◌, ◌++◌, Some, Ok, Err, IfErr, IfOk, length, map, slice_get};
 ghost use Rattle.plan_base.specs.Shape.{node_count};
 ghost use Rattle.game_types.specs.Nodes.{node_limit, shape_of};
 ghost use Rattle.craft_reader.specs.Faults.{GivesDump};
 ghost use Rattle.game_types.specs.Sound.{IsSound};
-ghost use Rattle.rocket_launches.specs.Launches.{AddsNames, IsThere, flights, launch_fault, launch_name, launch_recipe, with_launches};
+ghost use Rattle.rocket_launches.specs.Launches.{AddsNames, cargo_in, flight_beyond, flights, flights_of, launch_fault, launch_name, launch_recipe, silos_in, with_launches};
 
+use crate::apart::are_apart;
 use crate::launches::{launch_names, launch_recipes, name_at};
-use crate::silos::{Flight, flights};
+use crate::silos::{Flight, Silo, cargo, flights, silos};
 use crate::taken::first_taken;
 use craft_reader::{DumpCode, DumpFault};
 use game_types::{Game, NODE_LIMIT, Recipe};
 use name_table::Names;
-use plan_base::{Items, NoMemory, Text};
+use plan_base::{GoodId, Items, NoMemory, Text};
 use prototype_fields::{FieldCode, FieldFault, Key, Within};
 use std::alloc::Global;
+use std::mem;
 
 /// Whether names were added.
 enum Added {
@@ -24,8 +26,8 @@ enum Added {
     NoMemory,
 }
 
-#[tactic(auto, using(crate::proofs::NameLemmas::taken_stop, crate::proofs::NameLemmas::taken_pass, crate::proofs::NameLemmas::taken_none, crate::proofs::NameLemmas::one_more, crate::proofs::NameLemmas::all_added))]
 // Adds names of launches up to the first that is taken.
+#[tactic(auto, using(crate::proofs::NameLemmas::taken_stop, crate::proofs::NameLemmas::taken_pass, crate::proofs::NameLemmas::taken_none, crate::proofs::NameLemmas::one_more, crate::proofs::NameLemmas::all_added))]
 fn add_names(names: &mut Names, new: &[Text]) -> Added
     ensures { AddsNames names.old names.new new.now result }
 {
@@ -67,69 +69,40 @@ fn appended(recipes: Items<Recipe>, more: Vec<Recipe>) -> Result<Items<Recipe>, 
     Ok(Items::from_vec(all))
 }
 
-// The game with recipes behind its own.
-fn with_recipes(game: Game, recipes: Vec<Recipe>) -> Result<Game, NoMemory>
-    ensures { IfOk result (λ new. new ≡ record game { recipes = game.recipes ++ recipes.items }) }
+// Puts recipes behind those of a game, which has none after an error.
+fn put_recipes(alloc: Global, game: &mut Game, recipes: Vec<Recipe>) -> Result<(), NoMemory>
+    ensures { IfOk result (λ done. game.new ≡ record game.old { recipes = game.old.recipes ++ recipes.items }) }
 {
-    let Game {
-        items,
-        fluids,
-        recipes: dumped,
-        sources,
-        machines,
-        techs,
-        character,
-        item_names,
-        fluid_names,
-        recipe_names,
-        source_names,
-        machine_names,
-        tech_names,
-        categories,
-    } = game;
-    let recipes = appended(dumped, recipes)?;
-    Ok(Game {
-        items,
-        fluids,
-        recipes,
-        sources,
-        machines,
-        techs,
-        character,
-        item_names,
-        fluid_names,
-        recipe_names,
-        source_names,
-        machine_names,
-        tech_names,
-        categories,
-    })
+    let dumped = mem::replace(&mut game.recipes, Items::from_vec(Vec::new(alloc)));
+    game.recipes = appended(dumped, recipes)?;
+    Ok(())
 }
 
-// The game with names and recipes behind its own, for flights for which there are nodes.
-fn with_names(
+// Puts names and recipes behind those of a game, for flights for which there are nodes. After an error the game has some of the
+// names.
+fn put_launches(
     alloc: Global,
-    game: Game,
+    game: &mut Game,
     all: &[Flight],
     names: &[Text],
     recipes: Vec<Recipe>,
-) -> Result<Game, DumpFault>
-    requires sound { IsSound game }
-    requires flights { all.now ≡ flights game }
-    requires room { node_count (shape_of game) + length all.now ≤ node_limit }
-    requires names { names.now ≡ map (launch_name game) all.now }
-    requires recipes { recipes.items ≡ map (launch_recipe game) all.now }
-    ensures { GivesDump (with_launches game) result }
+) -> Result<(), DumpFault>
+    requires sound { IsSound game.old }
+    requires flights { all.now ≡ flights game.old }
+    requires room { node_count (shape_of game.old) + length all.now ≤ node_limit }
+    requires names { names.now ≡ map (launch_name game.old) all.now }
+    requires recipes { recipes.items ≡ map (launch_recipe game.old) all.now }
+    ensures game { IfOk result (λ done. with_launches game.old ≡ Ok game.new) }
+    ensures fault { IfErr result (λ fault. fault.code ≢ DumpCode.NoMemory → with_launches game.old ≡ Err fault) }
 {
-    let mut game = game;
     match add_names(&mut game.recipe_names, names) {
-        Added::All => match with_recipes(game, recipes) {
-            Ok(game) => Ok(game),
+        Added::All => match put_recipes(alloc, game, recipes) {
+            Ok(()) => Ok(()),
             Err(NoMemory) => Err(DumpFault::of_code(alloc, DumpCode::NoMemory)),
         },
         Added::Taken(place) => {
             let flight = &all[place];
-            Err(launch_fault(alloc, &game, FieldCode::Twice, flight))
+            Err(launch_fault(alloc, game, FieldCode::Twice, flight))
         }
         Added::NoMemory => Err(DumpFault::of_code(alloc, DumpCode::NoMemory)),
     }
@@ -143,11 +116,39 @@ fn room(game: &Game) -> usize
     (NODE_LIMIT - game.shape().len()) as usize
 }
 
-// The fault of a game with more flights than there is room for.
-fn refused(alloc: Global, game: &Game, all: &[Flight]) -> DumpFault
+// The flight of a place among those of silos with cargo.
+#[tactic(auto, using(crate::proofs::FlightPlaces::no_flights))]
+fn flight_at(silos: &[Silo], cargo: &[GoodId], place: usize) -> Option<Flight>
+    ensures { result ≡ slice_get (flights_of silos.now cargo.now) place }
+{
+    if cargo.is_empty() {
+        return None;
+    }
+    match silos.get(place / cargo.len()) {
+        Some(silo) => Some(Flight {
+            silo: *silo,
+            cargo: cargo[place % cargo.len()],
+        }),
+        None => None,
+    }
+}
+
+// The first flight for which there is no node.
+#[tactic(auto, unfolding(crate::specs::Launches::flight_beyond, crate::specs::Launches::flights))]
+fn flight_beyond(game: &Game, silos: &[Silo], cargo: &[GoodId]) -> Option<Flight>
+    requires sound { IsSound game.now }
+    requires silos { silos.now ≡ silos_in game.now }
+    requires cargo { cargo.now ≡ cargo_in game.now }
+    ensures { result ≡ flight_beyond game.now }
+{
+    flight_at(silos, cargo, room(game))
+}
+
+// The fault of the first flight whose launch has a name that is taken, or else of one for which there is no node.
+fn first_refused(alloc: Global, game: &Game, all: &[Flight], beyond: &Flight) -> DumpFault
     requires sound { IsSound game.now }
     requires flights { all.now ≡ flights game.now }
-    requires more { node_limit - node_count (shape_of game.now) < length all.now }
+    requires beyond { flight_beyond game.now ≡ Some beyond.now }
     ensures { result.code ≢ DumpCode.NoMemory → with_launches game.now ≡ Err result }
 {
     let Ok(taken) = first_taken(alloc, game, all) else {
@@ -155,8 +156,86 @@ fn refused(alloc: Global, game: &Game, all: &[Flight]) -> DumpFault
     };
     match taken {
         Some(place) => launch_fault(alloc, game, FieldCode::Twice, &all[place]),
-        None => launch_fault(alloc, game, FieldCode::Limit, &all[room(game)]),
+        None => launch_fault(alloc, game, FieldCode::Limit, beyond),
     }
+}
+
+// The fault of a game with more flights than there is room for. They are made, which may be many, only where names of launches
+// might be taken.
+fn refused(
+    alloc: Global,
+    game: &Game,
+    silos: &[Silo],
+    cargo: &[GoodId],
+    beyond: &Flight,
+) -> DumpFault
+    requires sound { IsSound game.now }
+    requires silos { silos.now ≡ silos_in game.now }
+    requires cargo { cargo.now ≡ cargo_in game.now }
+    requires beyond { flight_beyond game.now ≡ Some beyond.now }
+    ensures { result.code ≢ DumpCode.NoMemory → with_launches game.now ≡ Err result }
+{
+    if are_apart(game, silos) {
+        return launch_fault(alloc, game, FieldCode::Limit, beyond);
+    }
+    match flights(alloc, silos, cargo) {
+        Ok(all) => first_refused(alloc, game, all.as_slice(), beyond),
+        Err(NoMemory) => DumpFault::of_code(alloc, DumpCode::NoMemory),
+    }
+}
+
+// Puts the launches of flights, for which there are nodes, into a game.
+fn put_flights(alloc: Global, game: &mut Game, all: &[Flight]) -> Result<(), DumpFault>
+    requires sound { IsSound game.old }
+    requires flights { all.now ≡ flights game.old }
+    requires room { node_count (shape_of game.old) + length all.now ≤ node_limit }
+    ensures game { IfOk result (λ done. with_launches game.old ≡ Ok game.new) }
+    ensures fault { IfErr result (λ fault. fault.code ≢ DumpCode.NoMemory → with_launches game.old ≡ Err fault) }
+{
+    let Ok(names) = launch_names(alloc, game, all) else {
+        return Err(DumpFault::of_code(alloc, DumpCode::NoMemory));
+    };
+    let Ok(recipes) = launch_recipes(alloc, game, all) else {
+        return Err(DumpFault::of_code(alloc, DumpCode::NoMemory));
+    };
+    put_launches(alloc, game, all, names.as_slice(), recipes)
+}
+
+// Puts the launches of silos with cargo into a game.
+fn put_all(
+    alloc: Global,
+    game: &mut Game,
+    silos: &[Silo],
+    cargo: &[GoodId],
+) -> Result<(), DumpFault>
+    requires sound { IsSound game.old }
+    requires silos { silos.now ≡ silos_in game.old }
+    requires cargo { cargo.now ≡ cargo_in game.old }
+    ensures game { IfOk result (λ done. with_launches game.old ≡ Ok game.new) }
+    ensures fault { IfErr result (λ fault. fault.code ≢ DumpCode.NoMemory → with_launches game.old ≡ Err fault) }
+{
+    if let Some(beyond) = flight_beyond(game, silos, cargo) {
+        return Err(refused(alloc, game, silos, cargo, &beyond));
+    }
+    match flights(alloc, silos, cargo) {
+        Ok(all) => put_flights(alloc, game, all.as_slice()),
+        Err(NoMemory) => Err(DumpFault::of_code(alloc, DumpCode::NoMemory)),
+    }
+}
+
+// Puts its launches into a game.
+fn launch(alloc: Global, game: &mut Game) -> Result<(), DumpFault>
+    requires { IsSound game.old }
+    ensures game { IfOk result (λ done. with_launches game.old ≡ Ok game.new) }
+    ensures fault { IfErr result (λ fault. fault.code ≢ DumpCode.NoMemory → with_launches game.old ≡ Err fault) }
+{
+    let Ok(silos) = silos(alloc, game) else {
+        return Err(DumpFault::of_code(alloc, DumpCode::NoMemory));
+    };
+    let Ok(cargo) = cargo(alloc, game) else {
+        return Err(DumpFault::of_code(alloc, DumpCode::NoMemory));
+    };
+    put_all(alloc, game, silos.as_slice(), cargo.as_slice())
 }
 
 // The game with its launches.
@@ -164,20 +243,11 @@ fn launched(alloc: Global, game: Game) -> Result<Game, DumpFault>
     requires { IsSound game }
     ensures { GivesDump (with_launches game) result }
 {
-    let Ok(flights) = flights(alloc, &game) else {
-        return Err(DumpFault::of_code(alloc, DumpCode::NoMemory));
-    };
-    let all = flights.as_slice();
-    if room(&game) < all.len() {
-        return Err(refused(alloc, &game, all));
+    let mut game = game;
+    match launch(alloc, &mut game) {
+        Ok(()) => Ok(game),
+        Err(fault) => Err(fault),
     }
-    let Ok(names) = launch_names(alloc, &game, all) else {
-        return Err(DumpFault::of_code(alloc, DumpCode::NoMemory));
-    };
-    let Ok(recipes) = launch_recipes(alloc, &game, all) else {
-        return Err(DumpFault::of_code(alloc, DumpCode::NoMemory));
-    };
-    with_names(alloc, game, all, names.as_slice(), recipes)
 }
 
 /// The game with a recipe for each launch behind the recipes of the dump.

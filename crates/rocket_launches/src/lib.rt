@@ -2,6 +2,7 @@
 #![tactic(auto)]
 
 mod adding;
+mod apart;
 mod launches;
 mod silos;
 mod taken;

@@ -1,8 +1,8 @@
 //! Silos, what they send up, and the flights that these make.
 ghost use Rattle.std.specs.Prelude.{◌≡◌, ◌++◌, [], IfOk, map};
-ghost use Rattle.std.specs.List.{cons_option, flat_map};
+ghost use Rattle.std.specs.List.{cons_option};
 ghost use Rattle.game_types.specs.Sound.{IsSound, IsSoundMachine};
-ghost use Rattle.rocket_launches.specs.Launches.{cargo_of, fixed_recipe, flight, flights, found_from, silo_of, silo_with};
+ghost use Rattle.rocket_launches.specs.Launches.{cargo_in, cargo_of, fixed_recipe, flight, flights_of, silo_of, silo_with, silos_in};
 
 use game_types::{Game, Item, Machine, MachineKind, Recipe};
 use plan_base::{EntityId, GoodId, NoMemory, RecipeId};
@@ -88,11 +88,11 @@ fn put_found<T: Drop>(list: &mut Vec<T>, found: Option<T>) -> Result<(), NoMemor
     Ok(())
 }
 
+/// All silos.
 #[tactic(auto, using(crate::proofs::Loops::found_next, crate::proofs::Loops::found_end))]
-// All silos.
-fn silos(alloc: Global, game: &Game) -> Result<Vec<Silo>, NoMemory>
+pub fn silos(alloc: Global, game: &Game) -> Result<Vec<Silo>, NoMemory>
     requires { IsSound game.now }
-    ensures { IfOk result (λ silos. silos.items ≡ found_from (silo_of game.now) 0 game.now.machines) }
+    ensures { IfOk result (λ silos. silos.items ≡ silos_in game.now) }
 {
     let mut silos = Vec::new(alloc);
     let mut number = 0;
@@ -103,11 +103,11 @@ fn silos(alloc: Global, game: &Game) -> Result<Vec<Silo>, NoMemory>
     Ok(silos)
 }
 
+/// All cargo.
 #[tactic(auto, using(crate::proofs::Loops::found_next, crate::proofs::Loops::found_end))]
-// All cargo.
-fn cargo(alloc: Global, game: &Game) -> Result<Vec<GoodId>, NoMemory>
+pub fn cargo(alloc: Global, game: &Game) -> Result<Vec<GoodId>, NoMemory>
     requires { IsSound game.now }
-    ensures { IfOk result (λ cargo. cargo.items ≡ found_from cargo_of 0 game.now.items) }
+    ensures { IfOk result (λ cargo. cargo.items ≡ cargo_in game.now) }
 {
     let mut cargo = Vec::new(alloc);
     let mut number = 0;
@@ -118,8 +118,8 @@ fn cargo(alloc: Global, game: &Game) -> Result<Vec<GoodId>, NoMemory>
     Ok(cargo)
 }
 
-#[tactic(auto, using(crate::proofs::Loops::map_next, crate::proofs::Loops::map_end))]
 // The flights of a silo, behind others.
+#[tactic(auto, using(crate::proofs::Loops::map_next, crate::proofs::Loops::map_end))]
 fn put_flights(list: &mut Vec<Flight>, silo: Silo, cargo: &[GoodId]) -> Result<(), NoMemory>
     ensures { IfOk result (λ done. list.new.items ≡ list.old.items ++ map (flight silo) cargo.now) }
 {
@@ -129,24 +129,14 @@ fn put_flights(list: &mut Vec<Flight>, silo: Silo, cargo: &[GoodId]) -> Result<(
     Ok(())
 }
 
+/// Each silo with each cargo, both in order.
 #[tactic(auto, using(crate::proofs::Loops::flat_next, crate::proofs::Loops::flat_end))]
-fn all_flights(alloc: Global, silos: &[Silo], cargo: &[GoodId]) -> Result<Vec<Flight>, NoMemory>
-    ensures { IfOk result (λ flights. flights.items ≡ flat_map (λ silo. map (flight silo) cargo.now) silos.now) }
+pub fn flights(alloc: Global, silos: &[Silo], cargo: &[GoodId]) -> Result<Vec<Flight>, NoMemory>
+    ensures { IfOk result (λ flights. flights.items ≡ flights_of silos.now cargo.now) }
 {
     let mut flights = Vec::new(alloc);
     for silo in silos {
         put_flights(&mut flights, *silo, cargo)?;
     }
     Ok(flights)
-}
-
-/// Each silo with each cargo, both in order.
-#[tactic(auto, unfolding(crate::specs::Launches::flights))]
-pub fn flights(alloc: Global, game: &Game) -> Result<Vec<Flight>, NoMemory>
-    requires { IsSound game.now }
-    ensures { IfOk result (λ found. found.items ≡ flights game.now) }
-{
-    let silos = silos(alloc, game)?;
-    let cargo = cargo(alloc, game)?;
-    all_flights(alloc, silos.as_slice(), cargo.as_slice())
 }

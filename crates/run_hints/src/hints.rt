@@ -1,9 +1,10 @@
 // The line that is said of a run.
 ghost use Rattle.std.specs.Prelude.{◌≡◌, IfOk, None, Some, codes, option_copied, option_map, string_bytes};
-ghost use Rattle.run_hints.specs.Hints.{hint_line, hint_of, long_hint, name_part};
+ghost use Rattle.run_hints.specs.Hints.{cert_text, hint_line, hint_of, long_hint, name_part};
 
 use crate::faults::fault_text;
 use crate::names::{dump_name, script_name};
+use certificate_file::CertFault;
 use plan_base::{NoMemory, Text};
 use plan_report::printed_word;
 use planner_cli::{Long, Status};
@@ -31,8 +32,13 @@ fn hint_line(alloc: Global, file: Option<&str>, what: &str) -> Result<Text, NoMe
     Ok(Text::from_string(line))
 }
 
-fn long_hint(alloc: Global, long: Long, words: &[Text]) -> Result<Text, NoMemory>
-    ensures { IfOk result (λ text. text ≡ long_hint long words.now) }
+fn long_hint(
+    alloc: Global,
+    long: Long,
+    words: &[Text],
+    cert: Option<&str>,
+) -> Result<Text, NoMemory>
+    ensures { IfOk result (λ text. text ≡ long_hint long words.now (option_map (λ name. name.now) cert.entry)) }
 {
     match long {
         Long::DumpBytes => hint_line(
@@ -50,11 +56,28 @@ fn long_hint(alloc: Global, long: Long, words: &[Text]) -> Result<Text, NoMemory
             script_name(words),
             "the script has more than 100,000 lines",
         ),
+        Long::CertBytes => hint_line(
+            alloc,
+            cert,
+            "the certificate has more than 268,435,456 bytes",
+        ),
     }
 }
 
-/// What is said of a run with these words that ended so: one line, or nothing where every line was answered. The bytes of
-/// the dump, where they are given, tell the line and the column of a fault.
+// What is wrong with a certificate.
+fn cert_text(fault: CertFault) -> &'static str
+    ensures { result.now ≡ cert_text fault }
+{
+    match fault {
+        CertFault::NoMemory => "no memory is left",
+        CertFault::NotJson => "the certificate is no JSON in UTF-8 of at most 127 levels",
+        CertFault::BadForm => "the JSON is no certificate of version 1",
+    }
+}
+
+/// What is said of a run with these words, and with the certificate of this name where there is one, that ended so: one line, or
+/// nothing where every line was answered. The words are those without the option of the certificate. The bytes of the dump, where they
+/// are given, tell the line and the column of a fault.
 ///
 /// # Errors
 ///
@@ -63,16 +86,17 @@ pub fn hint(
     alloc: Global,
     status: &Status,
     words: &[Text],
+    cert: Option<&str>,
     dump: Option<&[u8]>,
 ) -> Result<Text, NoMemory>
-    ensures { IfOk result (λ text. text ≡ hint_of status.now words.now (option_copied dump.entry)) }
+    ensures { IfOk result (λ text. text ≡ hint_of status.now words.now (option_map (λ name. name.now) cert.entry) (option_copied dump.entry)) }
 {
     match status {
         Status::Done | Status::SomeRefused => Ok(Text::from_string(String::new(alloc))),
         Status::BadWords => hint_line(
             alloc,
             None,
-            "usage: factoplan run DUMP SCRIPT, or factoplan sample NUMBER SIZE",
+            "usage: factoplan run DUMP SCRIPT, prove DUMP SCRIPT, check DUMP SCRIPT --cert FILE, or sample NUMBER SIZE",
         ),
         Status::BadDump(fault) => {
             let what = fault_text(alloc, fault, dump)?;
@@ -81,7 +105,8 @@ pub fn hint(
         Status::ReadFault => hint_line(alloc, None, "a file could not be read"),
         Status::WriteFault => hint_line(alloc, None, "the report could not be written"),
         Status::NoMemory => hint_line(alloc, None, "no memory is left"),
-        Status::TooLong(long) => long_hint(alloc, *long, words),
+        Status::TooLong(long) => long_hint(alloc, *long, words, cert),
+        Status::BadCert(fault) => hint_line(alloc, cert, cert_text(*fault)),
     }
 }
 

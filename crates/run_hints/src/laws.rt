@@ -12,6 +12,6 @@ pub fn names_are_of_the_run()
 
 /// Whatever names and texts a dump holds, nothing is said, or one line.
 pub fn hints_are_lines()
-    ensures hint { (status : Status) (words : List (List ℕ)) (dump : Option (List ℕ)) → (hint_of status words dump ≡ []) ⊎ IsLine (hint_of status words dump) }
+    ensures hint { (status : Status) (words : List (List ℕ)) (cert dump : Option (List ℕ)) → (hint_of status words cert dump ≡ []) ⊎ IsLine (hint_of status words cert dump) }
     ensures unread { (file : Option (List ℕ)) (why : List ℕ) → is_unbroken why ≡ true → IsLine (hint_line file why) }
 {}

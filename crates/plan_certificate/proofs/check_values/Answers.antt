@@ -1,5 +1,5 @@
-use Rattle.std.proofs.Common.{arith, below_more}
-use Rattle.plan_certificate.proofs.Ends.{within_at, gains_at}
+use Rattle.std.proofs.Common.{arith, below_more, sym, ◌∙◌}
+use Rattle.plan_certificate.proofs.Ends.{within_at, gains_at, above, not_above}
 use Rattle.plan_certificate.proofs.check_values.Goals as goal
 
 pub returns-in_default : goal.returns-in_default
@@ -10,15 +10,15 @@ returns-in_default c =
       wide = c.in_default.ensures;
     }
 
-pub returns-then-is_above : goal.returns-then-is_above
-returns-then-is_above c =
+pub returns-then-gt : goal.returns-then-gt
+returns-then-gt c =
     gains_at c.args.linear.now c.args.limit c.args.prices.now c.loop-j.j c.in-Ok.value c.limit_of-most.result c.name.result
-    (omega arith) c.loop-j.invariant c.in-Ok.ensures c.limit_of-most.ensures c.if-is_above.ensures.yes c.name.ensures
+    (omega arith) c.loop-j.invariant c.in-Ok.ensures c.limit_of-most.ensures (above c.in-Ok.value c.limit_of-most.result (sym c.gt.ensures ∙ c.if-gt.true)) c.name.ensures
 
 pub loop-j-preserved : goal.loop-j-preserved
 loop-j-preserved c =
     below_more _ _ c.loop-j.invariant
-    (within_at c.args.linear.now c.args.limit c.args.prices.now c.loop-j.j c.in-Ok.value c.limit_of-most.result c.in-Ok.ensures c.limit_of-most.ensures c.if-is_above.ensures.not)
+    (within_at c.args.linear.now c.args.limit c.args.prices.now c.loop-j.j c.in-Ok.value c.limit_of-most.result c.in-Ok.ensures c.limit_of-most.ensures (not_above c.in-Ok.value c.limit_of-most.result (sym c.gt.ensures ∙ c.if-gt.false)))
 
 pub returns : goal.returns
 returns c = λ j h. c.loop-j.invariant j (omega arith)

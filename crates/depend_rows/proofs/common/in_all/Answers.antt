@@ -3,9 +3,6 @@ use Rattle.depend_rows.specs.Lists.{Rise}
 use Rattle.depend_rows.proofs.CommonLemmas.{among_below, are_common}
 use Rattle.depend_rows.proofs.common.in_all.Goals as goal
 
-pub list_at-requires : goal.list_at-requires
-list_at-requires c = among_below (length c.args.lists.now) c.shortest-first.result c.args.numbers.now c.requires.within c.shortest-first.ensures
-
 pub returns : goal.returns
 returns c =
     let within = among_below (length c.args.lists.now) c.shortest-first.result c.args.numbers.now c.requires.within c.shortest-first.ensures in

@@ -1,6 +1,6 @@
 use Rattle.game_types.specs.Making.{gives}
 use Rattle.game_types.specs.declared.recipes.Recipe.{Recipe}
-use Rattle.depend_rows.specs.Making.{first_recipe, good_count}
+use Rattle.depend_rows.specs.Goods.{first_recipe, good_count}
 use Rattle.depend_rows.proofs.AmongLemmas.{hold_all}
 use Rattle.depend_rows.proofs.index.recipe_makers.Goals as goal
 

@@ -2,7 +2,7 @@ use Rattle.std.proofs.Common.{length}
 use Rattle.std.specs.Prelude.{◌==◌}
 use Rattle.std.specs.List.{list_any}
 use Rattle.game_types.specs.declared.research.Tech.{Tech}
-use Rattle.depend_rows.specs.Making.{first_tech}
+use Rattle.depend_rows.specs.Goods.{first_tech}
 use Rattle.depend_rows.proofs.AmongLemmas.{hold_all}
 use Rattle.depend_rows.proofs.index.unlockers.Goals as goal
 

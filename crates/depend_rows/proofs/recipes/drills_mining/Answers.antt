@@ -1,6 +1,6 @@
-use Rattle.std.proofs.Common.{◌∙◌, ◌≡◌, arith, rules}
+use Rattle.std.proofs.Common.{◌∙◌, ◌≡◌, rules}
 use Rattle.std.specs.Prelude.{is_none, not}
-use Rattle.depend_rows.specs.Making.{first_machine}
+use Rattle.depend_rows.specs.Goods.{first_machine}
 use Rattle.depend_rows.proofs.CraftLemmas.{drills_of_category, no_drills, none_or_some}
 use Rattle.depend_rows.proofs.recipes.drills_mining.Goals as goal
 
@@ -11,5 +11,5 @@ pub returns-in_ok-nodes : goal.returns-in_ok-nodes
 returns-in_ok-nodes c =
     let source = c.args.source.now in
     let fluid : is_none source.fluid ≡ not c.is_some-boxed.result = none_or_some source.fluid c.is_some-boxed.result (search rules) in
-    c.in_ok-nodes.ensures ∙ c.drills_of-drills.ensures.each source.category (omega (arith, c.if-source-drills.true))
+    c.in_ok-nodes.ensures ∙ c.drills_of-drills.ensures source.category
     ∙ drills_of_category source c.is_some-boxed.result (first_machine c.args.game.now) c.args.game.now.machines (search rules) fluid

@@ -1,6 +1,6 @@
 use Rattle.std.proofs.Common.{◌≡◌, ◌++◌, drop}
 use Rattle.std.specs.List.{filter_map}
-use Rattle.depend_rows.specs.Making.{free_good}
+use Rattle.depend_rows.specs.Goods.{free_good}
 use Rattle.depend_rows.proofs.recipes.goods_of_parts.Given as goal
 
 abbrev pub invariant-loop-part : goal.invariant-loop-part

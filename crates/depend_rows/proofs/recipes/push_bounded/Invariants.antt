@@ -1,6 +1,6 @@
 use Rattle.std.proofs.Common.{◌≡◌, ◌++◌, drop}
 use Rattle.std.specs.List.{filter_map}
-use Rattle.depend_rows.specs.Making.{bounded_group}
+use Rattle.depend_rows.specs.Goods.{bounded_group}
 use Rattle.depend_rows.proofs.recipes.push_bounded.Given as goal
 
 abbrev pub invariant-loop-part : goal.invariant-loop-part

@@ -5,8 +5,8 @@ use Rattle.std.proofs.lemmas.Bool.Decides.{nat_tests}
 use Rattle.plan_base.specs.declared.ids.GoodId.{GoodId}
 use Rattle.plan_base.specs.declared.ids.NodeId.{NodeId}
 use Rattle.fractions.specs.Fraction.{Fraction}
-use Rattle.depend_rows.specs.Making.{first_machine}
-use Rattle.depend_rows.specs.Doing.{labs}
+use Rattle.depend_rows.specs.Goods.{first_machine}
+use Rattle.depend_rows.specs.Machines.{labs}
 use Rattle.depend_rows.specs.Lists.{list_at, AreCommon, Rise}
 use Rattle.depend_rows.proofs.LabLemmas.{common_labs, lists_rise}
 use Rattle.depend_rows.proofs.Walks.{numbers_below}

@@ -1,12 +1,7 @@
-use Rattle.std.proofs.Common.{◌≡◌, ◌∙◌, List, subst, sym}
-use Rattle.std.specs.Prelude.{All}
-use Rattle.rocket_launches.specs.declared.silos.Flight.{Flight}
-use Rattle.rocket_launches.specs.Launches.{IsThere}
-use Rattle.rocket_launches.proofs.Flights.{all_there}
 use Rattle.rocket_launches.proofs.adding.launched.Goals as goal
 
-pub launch_names-requires-clause-there : goal.launch_names-requires-clause-there
-launch_names-requires-clause-there c = subst (λ (xs : List Flight). All (IsThere c.args.game) xs) (sym (c.as_slice-all.ensures.value ∙ c.in-Ok.ensures)) (all_there c.args.game c.requires)
+pub returns-in-Ok : goal.returns-in-Ok
+returns-in-Ok c = c.in-Ok.ensures.game
 
-pub launch_recipes-requires : goal.launch_recipes-requires
-launch_recipes-requires c = subst (λ (xs : List Flight). All (IsThere c.args.game) xs) (sym (c.as_slice-all.ensures.value ∙ c.in-Ok.ensures)) (all_there c.args.game c.requires)
+pub returns-in-Err : goal.returns-in-Err
+returns-in-Err c = c.in-Err.ensures.fault

@@ -1,25 +1,24 @@
-use Rattle.std.proofs.Common.{◌∙◌, List, Option, ℕ, ◌<◌, length, subst, sym}
-use Rattle.std.specs.Prelude.{All, IfSome}
-use Rattle.rocket_launches.specs.Launches.{IsThere}
-use Rattle.rocket_launches.specs.declared.silos.Flight.{Flight}
-use Rattle.rocket_launches.proofs.Flights.{all_there}
-use Rattle.rocket_launches.proofs.SoundLaunches.{beyond_limit, flight_known, taken_first}
+use Rattle.std.proofs.Common.{◌∙◌, ◌<◌, List, length, subst, sym}
+use Rattle.std.specs.Prelude.{All}
+use Rattle.rocket_launches.specs.declared.silos.Silo.{Silo}
+use Rattle.rocket_launches.proofs.ApartLaunches.{apart_free}
+use Rattle.rocket_launches.proofs.FlightPlaces.{made_flights}
+use Rattle.rocket_launches.proofs.Flights.{cargo_named, silos_named}
+use Rattle.rocket_launches.proofs.SoundLaunches.{beyond_free, beyond_named}
 use Rattle.rocket_launches.proofs.adding.refused.Goals as goal
 
-abbrev nothing : Flight
-nothing = record { silo = record { machine = record { 0 = 0 }; category = 0; part = record { 0 = 0 }; parts = 0 }; cargo = record { 0 = 0 } }
-
-pub first_taken-requires-clause-there : goal.first_taken-requires-clause-there
-first_taken-requires-clause-there c = subst (λ (xs : List Flight). All (IsThere c.args.game.now) xs) (sym c.requires.flights) (all_there c.args.game.now c.requires.sound)
+pub are_apart-requires : goal.are_apart-requires
+are_apart-requires c = subst (λ (xs : List Silo). All (λ (silo : Silo). silo.machine.0 < length c.args.game.now.machine_names) xs) (sym c.requires.silos) (silos_named c.args.game.now c.requires.sound)
 
 pub launch_fault-requires : goal.launch_fault-requires
-launch_fault-requires c = flight_known c.args.game.now c.requires.sound c.args.all.now c.in-Some.place nothing c.requires.flights (subst (λ (o : Option ℕ). IfSome o (λ place. place < length c.args.all.now)) c.in-Some.is c.in-Ok.ensures.within)
+launch_fault-requires c = beyond_named c.args.game.now c.requires.sound c.args.beyond.now c.requires.beyond
 
-pub launch_fault-requires-in-None : goal.launch_fault-requires-in-None
-launch_fault-requires-in-None c = flight_known c.args.game.now c.requires.sound c.args.all.now c.room.result nothing c.requires.flights (subst (λ (n : ℕ). n < length c.args.all.now) (sym c.room.ensures) c.requires.more)
+pub returns-then-are_apart : goal.returns-then-are_apart
+returns-then-are_apart c = λ memory.
+    beyond_free c.args.game.now c.args.beyond.now c.launch_fault.result
+    (apart_free c.args.game.now c.args.silos.now c.are_apart.ensures.machines c.are_apart.ensures.items (silos_named c.args.game.now c.requires.sound) (cargo_named c.args.game.now c.requires.sound) c.requires.silos
+    (sym c.if-are_apart.true ∙ c.are_apart.ensures.apart))
+    c.requires.beyond (c.launch_fault.ensures memory)
 
-pub returns-in-Some : goal.returns-in-Some
-returns-in-Some c = λ memory. taken_first c.args.game.now c.args.all.now c.in-Some.place nothing c.launch_fault.result c.requires.flights (sym c.in-Some.is ∙ c.in-Ok.ensures.first) (subst (λ (o : Option ℕ). IfSome o (λ place. place < length c.args.all.now)) c.in-Some.is c.in-Ok.ensures.within) (c.launch_fault.ensures memory)
-
-pub returns-in-None : goal.returns-in-None
-returns-in-None c = λ memory. beyond_limit c.args.game.now c.args.all.now c.room.result nothing _ c.requires.flights (sym c.in-None.is ∙ c.in-Ok.ensures.first) c.room.ensures c.requires.more (c.launch_fault-in-None.ensures memory)
+pub first_refused-requires-clause-flights : goal.first_refused-requires-clause-flights
+first_refused-requires-clause-flights c = c.as_slice.ensures.value ∙ c.in-Ok.ensures ∙ made_flights c.args.game.now c.args.silos.now c.args.cargo.now c.requires.silos c.requires.cargo

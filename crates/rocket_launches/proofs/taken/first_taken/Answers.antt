@@ -1,4 +1,4 @@
-use Rattle.std.proofs.Common.{◌∙◌, ◌≤◌, length, map, string_bytes, sym, ap, arith}
+use Rattle.std.proofs.Common.{◌∙◌, map, string_bytes, sym, arith}
 use Rattle.std.specs.Prelude.{slice_index_or}
 use Rattle.rocket_launches.specs.declared.silos.Flight.{Flight}
 use Rattle.rocket_launches.specs.Launches.{launch_name}

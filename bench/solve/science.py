@@ -1,0 +1,162 @@
+"""Times one large table: the science of the example's game, each recipe of it plain, and full of each of
+two productivity modules.
+
+    apt-get update && apt-get install glpk-utils
+    (cd ../../crates/factoplan && rt run > /dev/null)      builds out/factoplan
+    python3 science.py [PROGRAM]
+
+It prints the rows and goods of the table, the processor time of a whole run with the table and of one that only reads
+the dump, and that of `glpsol --exact` on the same table: the least of fifteen each. The costs have to agree in every
+digit that glpsol prints.
+"""
+import json
+import os
+import re
+import subprocess
+import sys
+import tempfile
+from fractions import Fraction
+from pathlib import Path
+
+HERE = Path(__file__).resolve().parent
+TOP = HERE.parent.parent
+DUMP = TOP / "examples" / "factory.json"
+PROGRAM = TOP / "crates" / "factoplan" / "out" / "factoplan"
+PACKS = ["automation", "logistic", "military", "chemical", "production", "utility"]
+PRICES = {"item:iron-ore": "1", "item:copper-ore": "1", "item:coal": "1/2", "item:stone": "1/3", "item:wood": "2",
+          "item:uranium-ore": "5", "fluid:crude-oil": "1/10", "fluid:water": "1/1000"}
+MODULES = ["productivity-module", "productivity-module-3"]
+ROUNDS = 15
+
+
+def part(entry):
+    """A good with its amount, and the share of it that productivity multiplies."""
+    if isinstance(entry, list):
+        return "item:" + entry[0], Fraction(str(entry[1])), Fraction(str(entry[1]))
+    amount = Fraction(str(entry["amount"])) * Fraction(str(entry.get("probability", 1)))
+    return entry["type"] + ":" + entry["name"], amount, amount - Fraction(str(entry.get("catalyst_amount", 0)))
+
+
+def parts(recipe):
+    taken = [part(entry) for entry in recipe["ingredients"]]
+    results = recipe.get("results") or [[recipe["result"], recipe.get("result_count", 1)]]
+    return taken, [part(entry) for entry in results]
+
+
+class Science:
+    """The rows of the table: what each takes and gives, and the line that makes it."""
+
+    def __init__(self, game):
+        self.game, self.rows = game, []
+        makers = {}
+        for name, recipe in game["recipe"].items():
+            if not name.startswith(("fill-", "empty-")):
+                for good, _, _ in parts(recipe)[1]:
+                    makers.setdefault(good, []).append(name)
+        wanted, seen, self.recipes = ["item:%s-science-pack" % pack for pack in PACKS], set(), []
+        while wanted:
+            good = wanted.pop()
+            if good in seen or good in PRICES:
+                continue
+            seen.add(good)
+            for name in makers.get(good, []):
+                if name not in self.recipes and self.machine(name):
+                    self.recipes.append(name)
+                    wanted += [g for side in parts(game["recipe"][name]) for g, _, _ in side]
+        for name in self.recipes:
+            self.add(name, name, None)
+            for place, module in enumerate(MODULES):
+                if name in game["module"][module]["limitation"]:
+                    self.add("%s+%d" % (name, place + 1), name, module)
+
+    def machine(self, name):
+        category = self.game["recipe"][name].get("category", "crafting")
+        fitting = [m for section in ("assembling-machine", "furnace") for m in self.game[section].values()
+                   if category in m["crafting_categories"] and m["energy_source"]["type"] == "electric"]
+        return max(fitting, key=lambda m: m["crafting_speed"], default=None)
+
+    def add(self, label, name, module):
+        machine, bonus, fill = self.machine(name), 0, ""
+        if module:
+            slots = machine["module_specification"]["module_slots"]
+            bonus = slots * Fraction(str(self.game["module"][module]["effect"]["productivity"]["bonus"]))
+            fill = " module item:%s %d" % (module, slots)
+        column, (taken, given) = {}, parts(self.game["recipe"][name])
+        for good, amount, _ in taken:
+            column[good] = column.get(good, 0) - amount
+        for good, amount, multiplied in given:
+            column[good] = column.get(good, 0) + amount + bonus * multiplied
+        self.rows.append((label, column, "row science %s recipe:%s by machine:%s%s" % (label, name, machine["name"], fill)))
+
+    def goods(self):
+        return sorted({good for _, column, _ in self.rows for good in column})
+
+    def free(self):
+        """Goods that may go out at no price: what some recipe gives beside another."""
+        beside = [parts(self.game["recipe"][name])[1] for name in self.recipes]
+        return sorted({good for given in beside if len(given) > 1 for good, _, _ in given})
+
+    def script(self):
+        lines = ["table science"] + [line for _, _, line in self.rows]
+        lines += ["import science %s %s" % (good, PRICES[good]) for good in self.goods() if good in PRICES]
+        lines += ["surplus science %s 0" % good for good in self.free()]
+        lines += ["want science item:%s-science-pack 3/4" % pack for pack in PACKS]
+        return "\n".join(lines + ["solve science", ""])
+
+    def linear_program(self):
+        number = lambda x: repr(float(x))
+        imports = [good for good in self.goods() if good in PRICES]
+        columns = [("x%d" % j, 0, column) for j, (_, column, _) in enumerate(self.rows)]
+        columns += [("i%d" % j, Fraction(PRICES[good]), {good: 1}) for j, good in enumerate(imports)]
+        columns += [("s%d" % j, 0, {good: -1}) for j, good in enumerate(self.free())]
+        lines = ["minimize", " cost: " + " + ".join("%s %s" % (number(price), name) for name, price, _ in columns if price), "subject to"]
+        for g, good in enumerate(self.goods()):
+            terms = ["%s %s %s" % ("-" if c[good] < 0 else "+", number(abs(c[good])), name) for name, _, c in columns if c.get(good)]
+            want = Fraction(3, 4) if good in ["item:%s-science-pack" % pack for pack in PACKS] else 0
+            lines.append(" g%d: %s = %s" % (g, " ".join(terms), number(want)))
+        return "\n".join(lines + ["end", ""])
+
+
+def spent(words):
+    """The least processor time of a program in milliseconds, and what it printed."""
+    least, printed = None, ""
+    for _ in range(ROUNDS):
+        child = subprocess.Popen(words, stdout=subprocess.PIPE, text=True)
+        printed = child.stdout.read()
+        _, status, usage = os.wait4(child.pid, 0)
+        if status != 0:
+            sys.exit("%s: status %d\n%s" % (words[0], os.waitstatus_to_exitcode(status), printed))
+        time = 1000 * (usage.ru_utime + usage.ru_stime)
+        least = time if least is None else min(least, time)
+    return least, printed
+
+
+def agree(cost, printed):
+    digits = len(re.sub(r"e.*|[-.]|^0+", "", printed)) or 1
+    return "%.*g" % (digits, Fraction(cost)) == "%.*g" % (digits, Fraction(printed))
+
+
+def main(program):
+    science = Science(json.loads(DUMP.read_text()))
+    with tempfile.TemporaryDirectory() as folder:
+        script, nothing, linear = Path(folder, "science.txt"), Path(folder, "nothing.txt"), Path(folder, "science.lp")
+        script.write_text(science.script())
+        nothing.write_text("")
+        linear.write_text(science.linear_program())
+        ours, report = spent([program, "run", DUMP, script])
+        reading, _ = spent([program, "run", DUMP, nothing])
+        theirs, _ = spent(["glpsol", "--exact", "--lp", linear])
+        result = Path(folder, "result.txt")
+        subprocess.run(["glpsol", "--exact", "--lp", linear, "-o", result], stdout=subprocess.DEVNULL, check=True)
+        printed = re.search(r"Objective:\s+cost = (\S+)", result.read_text()).group(1)
+    cost = re.search(r"^\d+ plan science cost (\S+)", report, re.M)
+    if not cost:
+        sys.exit(report)
+    if not agree(cost.group(1), printed):
+        sys.exit("the costs differ: %s and %s" % (cost.group(1), printed))
+    print("%d rows, %d goods, cost %s" % (len(science.rows), len(science.goods()), cost.group(1)))
+    print("factoplan: %.1f ms, of which reading %.1f; glpsol --exact: %.1f ms" % (ours, reading, theirs))
+
+
+if __name__ == "__main__":
+    main(sys.argv[1] if len(sys.argv) > 1 else PROGRAM)

@@ -1,0 +1,107 @@
+-- What a check leaves whose certificate gives no entries, and which files it begins.
+use Rattle.std.proofs.Common.{◌≡◌, ◌≢◌, ◌≤◌, ◌<◌, ◌+◌, ◌-◌, ◌∙◌, inl, inr, [], ℕ, List, arith, length, refl, subst, sym, ap}
+use Rattle.std.specs.Prelude.{Option, Some, None, IsSome}
+use Rattle.plan_io.specs.Store.{Shelf, Begun}
+use Rattle.planner_core.specs.Lines.{Planned}
+use Rattle.certificate_file.specs.declared.CertEntry.{CertEntry}
+use Rattle.script_runner.specs.Checks.{EndsCheck}
+use Rattle.script_runner.specs.Lines.{lines_of}
+use Rattle.script_runner.specs.TrialLines.{TellsMany}
+use Rattle.script_runner.specs.declared.run.ScriptEnd.{ScriptEnd}
+use Rattle.script_runner.specs.declared.run.ScriptEnd.TheVariants as script
+use Rattle.planner_cli.specs.declared.status.Status.{Status}
+use Rattle.planner_cli.specs.declared.status.Status.TheVariants.{Done, SomeRefused, BadWords, BadDump, ReadFault, WriteFault, NoMemory, TooLong, BadCert}
+use Rattle.planner_cli.specs.declared.status.Long.TheVariants.{DumpBytes, ScriptBytes, ScriptLines, CertBytes}
+use Rattle.planner_cli.specs.Begun.{BeginsFiles, CallsUnder}
+use Rattle.planner_cli.specs.Certs.{EndsReadingCert}
+use Rattle.planner_cli.specs.Early.{EndsEarly, IsTold}
+use Rattle.planner_cli.specs.Ending.{IsReady, status_of}
+use Rattle.planner_cli.specs.Inputs.{IsBase}
+use Rattle.planner_cli.specs.Words.{FileNames, Files, Check, Run}
+use Rattle.planner_cli.proofs.EndingLemmas.{base_for, begins_told}
+
+-- the store tells what it told before
+pub kept : (R P : Shelf → Type 0) (before now : Shelf) → now ≡ before → R before → (R now → P now) → P before
+kept R P before now same r f = subst P same (f (subst R (sym same) r))
+
+-- the run ends early
+pub cert_early : (shelf : Shelf) (cert : List ℕ) (names : FileNames) (first : Planned) (bytes : List ℕ) (work : ℕ) (early : Status) → IsReady shelf (Some (Files Run names)) first bytes work → length (lines_of bytes) ≤ 100_000
+    → EndsReadingCert shelf cert early → EndsEarly shelf (Some (Files (Check cert) names)) early work
+cert_early shelf cert names first bytes work (BadCert fault) ready few ends =
+    record { game = ready.game; base = base_for shelf (Check cert) names ready.game ready.base; script = bytes; script_is = ready.script_is; few = few; takes = ready.takes; ends = ends }
+cert_early shelf cert names first bytes work (TooLong CertBytes) ready few ends =
+    record { game = ready.game; base = base_for shelf (Check cert) names ready.game ready.base; script = bytes; script_is = ready.script_is; few = few; takes = ready.takes; ends = ends }
+cert_early shelf cert names first bytes work (TooLong DumpBytes) ready few ends = absurd ends
+cert_early shelf cert names first bytes work (TooLong ScriptBytes) ready few ends = absurd ends
+cert_early shelf cert names first bytes work (TooLong ScriptLines) ready few ends = absurd ends
+cert_early shelf cert names first bytes work ReadFault ready few ends = inr (ready.game, base_for shelf (Check cert) names ready.game ready.base, ready.takes)
+cert_early shelf cert names first bytes work NoMemory ready few ends = tt
+cert_early shelf cert names first bytes work Done ready few ends = absurd ends
+cert_early shelf cert names first bytes work SomeRefused ready few ends = absurd ends
+cert_early shelf cert names first bytes work BadWords ready few ends = absurd ends
+cert_early shelf cert names first bytes work (BadDump fault) ready few ends = absurd ends
+cert_early shelf cert names first bytes work WriteFault ready few ends = absurd ends
+
+-- writing was not cut off before it began
+pub cert_no_cut : (shelf : Shelf) (cert : List ℕ) (early : Status) → EndsReadingCert shelf cert early → early ≢ WriteFault
+cert_no_cut shelf cert early ends is = subst (EndsReadingCert shelf cert) is ends
+
+-- ---- the files that were begun
+-- three calls: the third by one more
+grown : (shelf : Shelf) (cert : List ℕ) (names : FileNames) (first mid new : Begun) (status : Status) → BeginsFiles shelf (Some (Files Run names)) first mid Done → new.calls ≡ mid.calls + 1
+    → (IsSome (shelf.file cert) → new.unnamed ≡ mid.unnamed) → CallsUnder 3 status first.calls (first.calls + 3) → BeginsFiles shelf (Some (Files (Check cert) names)) first new status
+grown shelf cert names first mid new status begins more named calls =
+    let three : new.calls ≡ first.calls + 3 = omega (arith, more, begins.calls) in
+    record {
+      calls = subst (CallsUnder 3 status first.calls) (sym three) calls;
+      behind = λ after. let found = begins.behind (omega (arith, begins.calls)) in (found.0, base_for shelf (Check cert) names found.0 found.1);
+      named = λ dump script given. named given ∙ begins.named dump script tt;
+    }
+
+early_calls : (shelf : Shelf) (cert : List ℕ) (early : Status) (old : ℕ) → EndsReadingCert shelf cert early → CallsUnder 3 early old (old + 3)
+early_calls shelf cert (BadCert fault) old ends = refl
+early_calls shelf cert (TooLong CertBytes) old ends = refl
+early_calls shelf cert (TooLong DumpBytes) old ends = absurd ends
+early_calls shelf cert (TooLong ScriptBytes) old ends = absurd ends
+early_calls shelf cert (TooLong ScriptLines) old ends = absurd ends
+early_calls shelf cert ReadFault old ends = omega arith
+early_calls shelf cert NoMemory old ends = omega arith
+early_calls shelf cert Done old ends = absurd ends
+early_calls shelf cert SomeRefused old ends = absurd ends
+early_calls shelf cert BadWords old ends = absurd ends
+early_calls shelf cert (BadDump fault) old ends = absurd ends
+early_calls shelf cert WriteFault old ends = absurd ends
+
+pub cert_begins_early : (shelf : Shelf) (cert : List ℕ) (names : FileNames) (first mid new : Begun) (early status : Status) (text : List ℕ) → BeginsFiles shelf (Some (Files Run names)) first mid Done → new.calls ≡ mid.calls + 1
+    → (IsSome (shelf.file cert) → new.unnamed ≡ mid.unnamed) → EndsReadingCert shelf cert early → IsTold early status text → BeginsFiles shelf (Some (Files (Check cert) names)) first new status
+cert_begins_early shelf cert names first mid new early status text begins more named ends told =
+    begins_told shelf (Some (Files (Check cert) names)) first new early status text told (grown shelf cert names first mid new early begins more named (early_calls shelf cert early first.calls ends))
+
+checked_calls : (entries : List CertEntry) (first : Planned) (bytes text : List ℕ) (work : ℕ) (end : ScriptEnd) (old : ℕ) → EndsCheck entries first bytes end text work → CallsUnder 3 (status_of end) old (old + 3)
+unfolding EndsCheck
+checked_calls entries first bytes text work script.Done old ends = refl
+checked_calls entries first bytes text work script.SomeRefused old ends = refl
+checked_calls entries first bytes text work script.TooManyLines old ends = absurd ends
+checked_calls entries first bytes text work script.WriteFault old ends = omega arith
+checked_calls entries first bytes text work script.NoMemory old ends = omega arith
+
+pub cert_begins_checked : (shelf : Shelf) (cert : List ℕ) (names : FileNames) (first mid new : Begun) (entries : List CertEntry) (planner : Planned) (bytes text : List ℕ) (work : ℕ) (end : ScriptEnd)
+    → BeginsFiles shelf (Some (Files Run names)) first mid Done → new.calls ≡ mid.calls + 1 → (IsSome (shelf.file cert) → new.unnamed ≡ mid.unnamed) → EndsCheck entries planner bytes end text work
+    → BeginsFiles shelf (Some (Files (Check cert) names)) first new (status_of end)
+cert_begins_checked shelf cert names first mid new entries planner bytes text work end begins more named ends =
+    grown shelf cert names first mid new (status_of end) begins more named (checked_calls entries planner bytes text work end first.calls ends)
+
+many_calls : (before after : Option (List ℕ)) (end : ScriptEnd) (old new : ℕ) → TellsMany before after end → new ≡ old + 2 → CallsUnder 3 (status_of end) old new
+many_calls before after script.TooManyLines old new told two = two
+many_calls before after script.WriteFault old new told two = omega (arith, two)
+many_calls before after script.Done old new told two = absurd told
+many_calls before after script.SomeRefused old new told two = absurd told
+many_calls before after script.NoMemory old new told two = absurd told
+
+pub cert_begins_many : (shelf : Shelf) (cert : List ℕ) (names : FileNames) (first mid : Begun) (before after : Option (List ℕ)) (end : ScriptEnd) → BeginsFiles shelf (Some (Files Run names)) first mid Done → TellsMany before after end
+    → BeginsFiles shelf (Some (Files (Check cert) names)) first mid (status_of end)
+cert_begins_many shelf cert names first mid before after end begins told = record {
+  calls = many_calls before after end first.calls mid.calls told begins.calls;
+  behind = λ after. let found = begins.behind after in (found.0, base_for shelf (Check cert) names found.0 found.1);
+  named = λ dump script given. begins.named dump script tt;
+}
