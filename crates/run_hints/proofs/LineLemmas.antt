@@ -8,7 +8,7 @@ use Rattle.std.proofs.lemmas.List.Concat.{flat_map-cons}
 use Rattle.std.proofs.lemmas.Grind.{common_steps}
 use Rattle.plan_report.specs.Words.{in_quotes, is_bare, needs_quotes, printed_word, quoted}
 use Rattle.run_hints.specs.Places.{is_newline}
-use Rattle.run_hints.specs.Hints.{IsLine, hint_line, hint_of, is_unbroken, long_hint, name_part}
+use Rattle.run_hints.specs.Hints.{IsLine, cert_text, hint_line, hint_of, is_unbroken, long_hint, name_part}
 use Rattle.run_hints.specs.Faults.{fault_text, field_text, field_words, json_text_at, json_words, kind_text, known_place, part, text_by, words_at}
 use Rattle.run_hints.specs.Names.{dump_name, script_name}
 use Rattle.run_hints.specs.declared.place.Place.{Place}
@@ -18,10 +18,12 @@ use Rattle.json_text.specs.declared.fault.JsonFault.{JsonFault}
 use Rattle.craft_reader.specs.declared.fault.DumpCode.{DumpCode}
 use Rattle.craft_reader.specs.declared.fault.DumpCode.TheVariants as d
 use Rattle.craft_reader.specs.declared.fault.DumpFault.{DumpFault}
+use Rattle.certificate_file.specs.declared.CertFault.{CertFault}
+use Rattle.certificate_file.specs.declared.CertFault.TheVariants as c
 use Rattle.planner_cli.specs.declared.status.Long.{Long}
-use Rattle.planner_cli.specs.declared.status.Long.TheVariants.{DumpBytes, ScriptBytes, ScriptLines}
+use Rattle.planner_cli.specs.declared.status.Long.TheVariants.{DumpBytes, ScriptBytes, ScriptLines, CertBytes}
 use Rattle.planner_cli.specs.declared.status.Status.{Status}
-use Rattle.planner_cli.specs.declared.status.Status.TheVariants.{Done, SomeRefused, BadWords, BadDump, ReadFault, WriteFault, NoMemory, TooLong}
+use Rattle.planner_cli.specs.declared.status.Status.TheVariants.{Done, SomeRefused, BadWords, BadDump, ReadFault, WriteFault, NoMemory, TooLong, BadCert}
 
 pub joined : (xs ys : List ℕ) → is_unbroken xs ≡ true → is_unbroken ys ≡ true → is_unbroken (xs ++ ys) ≡ true
 joined xs ys first second = rw (list_all-append (λ byte. not (is_newline byte)) xs ys, first, second) refl
@@ -160,17 +162,24 @@ is_line file what unbroken = (
   joined (codes "factoplan: ") (name_part file ++ what) refl (joined (name_part file) what (name_part_unbroken file) unbroken),
 )
 
-long_is_line : (long : Long) (words : List (List ℕ)) → IsLine (long_hint long words)
-long_is_line DumpBytes words = is_line (dump_name words) (codes "the dump has more than 268,435,456 bytes") refl
-long_is_line ScriptBytes words = is_line (script_name words) (codes "the script has more than 16,777,216 bytes") refl
-long_is_line ScriptLines words = is_line (script_name words) (codes "the script has more than 100,000 lines") refl
+long_is_line : (long : Long) (words : List (List ℕ)) (cert : Option (List ℕ)) → IsLine (long_hint long words cert)
+long_is_line DumpBytes words cert = is_line (dump_name words) (codes "the dump has more than 268,435,456 bytes") refl
+long_is_line ScriptBytes words cert = is_line (script_name words) (codes "the script has more than 16,777,216 bytes") refl
+long_is_line ScriptLines words cert = is_line (script_name words) (codes "the script has more than 100,000 lines") refl
+long_is_line CertBytes words cert = is_line cert (codes "the certificate has more than 268,435,456 bytes") refl
 
-pub hint_is_line : (status : Status) (words : List (List ℕ)) (dump : Option (List ℕ)) → (hint_of status words dump ≡ []) ⊎ IsLine (hint_of status words dump)
-hint_is_line Done words dump = inl refl
-hint_is_line SomeRefused words dump = inl refl
-hint_is_line BadWords words dump = inr (is_line None _ refl)
-hint_is_line (BadDump fault) words dump = inr (is_line (dump_name words) _ (fault_text_unbroken fault dump))
-hint_is_line ReadFault words dump = inr (is_line None _ refl)
-hint_is_line WriteFault words dump = inr (is_line None _ refl)
-hint_is_line NoMemory words dump = inr (is_line None _ refl)
-hint_is_line (TooLong long) words dump = inr (long_is_line long words)
+cert_unbroken : (fault : CertFault) → is_unbroken (cert_text fault) ≡ true
+cert_unbroken c.NoMemory = refl
+cert_unbroken c.NotJson = refl
+cert_unbroken c.BadForm = refl
+
+pub hint_is_line : (status : Status) (words : List (List ℕ)) (cert dump : Option (List ℕ)) → (hint_of status words cert dump ≡ []) ⊎ IsLine (hint_of status words cert dump)
+hint_is_line Done words cert dump = inl refl
+hint_is_line SomeRefused words cert dump = inl refl
+hint_is_line BadWords words cert dump = inr (is_line None _ refl)
+hint_is_line (BadDump fault) words cert dump = inr (is_line (dump_name words) _ (fault_text_unbroken fault dump))
+hint_is_line ReadFault words cert dump = inr (is_line None _ refl)
+hint_is_line WriteFault words cert dump = inr (is_line None _ refl)
+hint_is_line NoMemory words cert dump = inr (is_line None _ refl)
+hint_is_line (TooLong long) words cert dump = inr (long_is_line long words cert)
+hint_is_line (BadCert fault) words cert dump = inr (is_line cert (cert_text fault) (cert_unbroken fault))
