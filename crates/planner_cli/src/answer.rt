@@ -1,7 +1,8 @@
 // The answers to a script.
 ghost use Rattle.std.specs.Prelude.{◌≡◌, ◌≤◌, [], length};
 ghost use Rattle.game_types.specs.declared.games.Game.{Game};
-ghost use Rattle.planner_core.specs.Lines.{first_planned};
+ghost use Rattle.planning_state.specs.States.{State};
+ghost use Rattle.planner_core.specs.Lines.{first_planned, IsSessionOf};
 ghost use Rattle.script_runner.specs.Leaves.{Leaves};
 ghost use Rattle.script_runner.specs.Checks.{EndsCheck};
 ghost use Rattle.script_runner.specs.Lines.{lines_of};
@@ -14,9 +15,31 @@ use certificate_file::CertEntry;
 use linear_table::SolveAnswer;
 use plan_base::Steps;
 use plan_io::Sink;
-use planner_core::state_is_of_the_active_edits;
+use planner_core::{Planner, state_is_of_the_active_edits};
 use script_runner::{ScriptEnd, check_lines, prove_script, run_script};
 use std::alloc::Global;
+
+// Answers the script with a planner that is lent.
+fn answer_lent<K: Sink, L>(
+    alloc: Global,
+    planner: &mut Planner,
+    script: &[u8],
+    prove: bool,
+    out: &mut K,
+    solved: &mut Vec<SolveAnswer>,
+    steps: &mut Steps<L>,
+) -> ScriptEnd
+    requires session { (base : State) × IsSessionOf base planner.old }
+    requires none_yet { solved.old.items ≡ [] }
+    ensures leaves { Leaves (EndsAnswered prove planner.old script.now solved.new.items) is_cut (K.written out.old) (K.written out.new) steps.old steps.new result }
+    ensures sink { KeepsSink (K.limit out.old) (K.limit out.new) (K.faults out.old) (K.faults out.new) (result ≡ ScriptEnd.WriteFault) }
+{
+    if prove {
+        prove_script(alloc, planner, script, out, solved, steps)
+    } else {
+        run_script(alloc, planner, script, out, solved, steps)
+    }
+}
 
 /// Answers each line of the script before the next, writes each reply or behind the last line their certificate, and keeps what the solver answers.
 pub fn answer<K: Sink, L>(
@@ -38,11 +61,7 @@ pub fn answer<K: Sink, L>(
         mut planner,
         script,
     } = ready;
-    if prove {
-        prove_script(alloc, &mut planner, &script, out, solved, steps)
-    } else {
-        run_script(alloc, &mut planner, &script, out, solved, steps)
-    }
+    answer_lent(alloc, &mut planner, &script, prove, out, solved, steps)
 }
 
 /// Checks each line of the script against the entries of a certificate.
