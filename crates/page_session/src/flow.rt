@@ -166,6 +166,9 @@ pub fn flow_of<L>(
 ) -> Result<String, PageFault>
     requires { (base : State) × IsSessionOf base ready.planner }
 {
-    let mut ready = ready;
-    flow_in(alloc, &mut ready.planner, &ready.script, name, steps)
+    let Ready {
+        mut planner,
+        script,
+    } = ready;
+    flow_in(alloc, &mut planner, &script, name, steps)
 }

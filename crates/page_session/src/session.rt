@@ -172,6 +172,9 @@ pub fn page_of<L>(
 ) -> Result<(String, bool), PageFault>
     requires { (base : State) × IsSessionOf base ready.planner }
 {
-    let mut ready = ready;
-    page_in(alloc, &mut ready.planner, &ready.script, steps)
+    let Ready {
+        mut planner,
+        script,
+    } = ready;
+    page_in(alloc, &mut planner, &script, steps)
 }

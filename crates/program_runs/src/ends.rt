@@ -68,7 +68,7 @@ fn said<R: Files>(rt: &R, alloc: Global, status: &Status, names: Names<'_>) -> O
         }
     }
     let words = run_words(alloc, names).ok()?;
-    hint(alloc, status, words.as_slice(), None).ok()
+    hint(alloc, status, words.as_slice(), None, None).ok()
 }
 
 /// The end by a status of a run over these files.
