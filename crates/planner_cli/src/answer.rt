@@ -1,22 +1,19 @@
 // The answers to a script.
-ghost use Rattle.std.specs.Prelude.{◌≡◌, ◌≤◌, [], length};
+ghost use Rattle.std.specs.Prelude.{◌≡◌, []};
 ghost use Rattle.game_types.specs.declared.games.Game.{Game};
 ghost use Rattle.planning_state.specs.States.{State};
 ghost use Rattle.planner_core.specs.Lines.{first_planned, IsSessionOf};
 ghost use Rattle.script_runner.specs.Leaves.{Leaves};
-ghost use Rattle.script_runner.specs.Checks.{EndsCheck};
-ghost use Rattle.script_runner.specs.Lines.{lines_of};
 ghost use Rattle.script_runner.specs.Scripts.{is_cut};
 ghost use Rattle.planner_cli.specs.Ending.{EndsAnswered};
 ghost use Rattle.planner_cli.specs.Keeping.{KeepsSink};
 
 use crate::prepare::Ready;
-use certificate_file::CertEntry;
 use linear_table::SolveAnswer;
 use plan_base::Steps;
 use plan_io::Sink;
 use planner_core::{Planner, state_is_of_the_active_edits};
-use script_runner::{ScriptEnd, check_lines, prove_script, run_script};
+use script_runner::{ScriptEnd, prove_script, run_script};
 use std::alloc::Global;
 
 // Answers the script with a planner that is lent.
@@ -62,26 +59,4 @@ pub fn answer<K: Sink, L>(
         script,
     } = ready;
     answer_lent(alloc, &mut planner, &script, prove, out, solved, steps)
-}
-
-/// Checks each line of the script against the entries of a certificate.
-pub fn check<K: Sink, L>(
-    alloc: Global,
-    ready: Ready,
-    entries: &[CertEntry],
-    out: &mut K,
-    steps: &mut Steps<L>,
-) -> ScriptEnd
-    requires few { length (lines_of ready.script.items) ≤ 100_000 }
-    requires loaded { (game : Game) × (ready.planner ≡ first_planned game) }
-    ensures leaves { Leaves (EndsCheck entries.now ready.planner ready.script.items) is_cut (K.written out.old) (K.written out.new) steps.old steps.new result }
-    ensures sink { KeepsSink (K.limit out.old) (K.limit out.new) (K.faults out.old) (K.faults out.new) (result ≡ ScriptEnd.WriteFault) }
-{
-    // A planner that was just loaded has a history.
-    state_is_of_the_active_edits();
-    let Ready {
-        mut planner,
-        script,
-    } = ready;
-    check_lines(alloc, &mut planner, &script, entries, out, steps)
 }

@@ -6,12 +6,13 @@ ghost use Rattle.planner_cli.specs.Begun.{BeginsFiles};
 ghost use Rattle.planner_cli.specs.Early.{is_cut};
 ghost use Rattle.game_types.specs.declared.games.Game.{Game};
 ghost use Rattle.plan_io.specs.Store.{Begun};
-ghost use Rattle.planner_core.specs.Lines.{first_planned};
+ghost use Rattle.planning_state.specs.States.{State};
+ghost use Rattle.planner_core.specs.Lines.{first_planned, IsSessionOf};
 ghost use Rattle.planner_cli.specs.Ending.{EndsRun, IsReady, answering};
 ghost use Rattle.planner_cli.specs.Keeping.{KeepsSink, KeepsStore};
 ghost use Rattle.planner_cli.specs.Words.{Check, FileNames, Files, Run, Sample};
 
-use crate::answer::{answer, check};
+use crate::answer::answer;
 use crate::certs::read_entries;
 use crate::prepare::{Ready, make_ready, read_files};
 use crate::status::{Status, status_of};
@@ -19,7 +20,8 @@ use crate::telling::{is_answered, tell, tell_steps};
 use linear_table::SolveAnswer;
 use plan_base::Steps;
 use plan_io::{Sink, Store};
-use script_runner::{has_many_lines, tell_many_lines};
+use planner_core::{Planner, state_is_of_the_active_edits};
+use script_runner::{check_lines, has_many_lines, tell_many_lines};
 use std::alloc::Global;
 
 /// Answers the script of a file over the dump of another, and writes the replies or their certificate.
@@ -46,6 +48,42 @@ pub fn run_files<S: Store, K: Sink, L>(
     }
 }
 
+// Checks the lines of a script against the certificate of a file, with a planner that is lent.
+fn check_lent<S: Store, K: Sink, L>(
+    alloc: Global,
+    planner: &mut Planner,
+    script: &[u8],
+    cert: &str,
+    store: &mut S,
+    out: &mut K,
+    steps: &mut Steps<L>,
+) -> Status
+    requires calls { (S.begun store.old).calls < 4 }
+    requires session { (base : State) × IsSessionOf base planner.old }
+    ensures leaves { (names : FileNames) (first : ℕ) → IsReady (S.shelf store.old) (Some (Files Run names)) planner.old script.now (steps.old - first) → first ≤ steps.old
+        → Leaves (EndsRun (S.shelf store.old) (Some (Files (Check cert.now) names)) (steps.new - first) []) is_cut (K.written out.old) (K.written out.new) first steps.new result }
+    ensures begins { (names : FileNames) (first : Begun) → BeginsFiles (S.shelf store.old) (Some (Files Run names)) first (S.begun store.old) Status.Done
+        → BeginsFiles (S.shelf store.old) (Some (Files (Check cert.now) names)) first (S.begun store.new) result }
+    ensures store { KeepsStore (S.shelf store.old) (S.shelf store.new) (S.faults store.old) (S.faults store.new) (result ≡ Status.ReadFault) }
+    ensures sink { KeepsSink (K.limit out.old) (K.limit out.new) (K.faults out.old) (K.faults out.new) (result ≡ Status.WriteFault) }
+    ensures later { steps.old ≤ steps.new }
+{
+    if has_many_lines(script) {
+        return status_of(tell_many_lines(out));
+    }
+    match read_entries(alloc, cert, store) {
+        Ok(entries) => status_of(check_lines(
+            alloc,
+            planner,
+            script,
+            entries.as_slice(),
+            out,
+            steps,
+        )),
+        Err(early) => tell(alloc, early, out),
+    }
+}
+
 // Checks the lines of a script against the certificate of a file.
 fn check_ready<S: Store, K: Sink, L>(
     alloc: Global,
@@ -65,13 +103,13 @@ fn check_ready<S: Store, K: Sink, L>(
     ensures sink { KeepsSink (K.limit out.old) (K.limit out.new) (K.faults out.old) (K.faults out.new) (result ≡ Status.WriteFault) }
     ensures later { steps.old ≤ steps.new }
 {
-    if has_many_lines(&ready.script) {
-        return status_of(tell_many_lines(out));
-    }
-    match read_entries(alloc, cert, store) {
-        Ok(entries) => status_of(check(alloc, ready, entries.as_slice(), out, steps)),
-        Err(early) => tell(alloc, early, out),
-    }
+    // A planner that was just loaded has a history.
+    state_is_of_the_active_edits();
+    let Ready {
+        mut planner,
+        script,
+    } = ready;
+    check_lent(alloc, &mut planner, &script, cert, store, out, steps)
 }
 
 /// Checks the script of a file over the dump of another against the certificate of a third.

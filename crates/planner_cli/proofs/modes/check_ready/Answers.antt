@@ -1,46 +1,19 @@
-use Rattle.std.proofs.Common.{◌<◌, ◌≤◌, [], ℕ, List, length, refl, subst, sym}
+use Rattle.std.proofs.Common.{◌-◌, ◌≤◌, ℕ, List, subst, sym}
 use Rattle.std.specs.Prelude.{Some}
-use Rattle.certificate_file.specs.declared.CertEntry.{CertEntry}
-use Rattle.script_runner.specs.Lines.{lines_of}
-use Rattle.planner_cli.specs.Inputs.{IsCert}
-use Rattle.planner_cli.specs.Words.{Check, Files}
-use Rattle.planner_cli.proofs.CheckLemmas.{cert_begins_checked, cert_begins_early, cert_begins_many, cert_early, cert_no_cut}
-use Rattle.planner_cli.proofs.EndingLemmas.{leaves_checked, leaves_many, leaves_told}
+use Rattle.planning_state.specs.States.{first_state}
+use Rattle.planner_core.specs.Lines.{IsSessionOf}
+use Rattle.planner_cli.specs.Ending.{IsReady}
+use Rattle.planner_cli.specs.Words.{Files, Run}
 use Rattle.planner_cli.proofs.modes.check_ready.Goals as goal
 
-pub tell-requires : goal.tell-requires
-tell-requires g c = cert_no_cut (g.S.Store.shelf c.args.store.now) c.args.cert.now c.in-Err.early c.in-Err.ensures.entries
+pub check_lent-requires-clause-session : goal.check_lent-requires-clause-session
+check_lent-requires-clause-session g c =
+    let game = c.requires.loaded.0 in
+    (first_state game, subst (IsSessionOf (first_state game)) (sym c.requires.loaded.1) (c.state_is_of_the_active_edits.ensures.first game))
 
-pub returns-then-has_many_lines-clause-leaves : goal.returns-then-has_many_lines-clause-leaves
-returns-then-has_many_lines-clause-leaves g c = λ names first ready later.
-    rw c.status_of.ensures
-    (leaves_many (g.S.Store.shelf c.args.store.now) c.args.cert.now names [] c.args.ready.planner c.args.ready.script.items (g.K.Sink.written c.args.out.now) (g.K.Sink.written c.tell_many_lines.new.out) first c.args.steps.now c.tell_many_lines.result
-    ready later (subst (λ (bytes : List ℕ). 100_000 < length (lines_of bytes)) c.deref.ensures.value (c.if-has_many_lines.ensures.many refl)) refl c.tell_many_lines.ensures.tells)
+pub returns-clause-leaves : goal.returns-clause-leaves
+returns-clause-leaves g c = λ names first ready later.
+    c.check_lent.ensures.leaves names first (subst (λ (bytes : List ℕ). IsReady (g.S.Store.shelf c.args.store.now) (Some (Files Run names)) c.args.ready.planner bytes (c.args.steps.now - first)) (sym c.deref.ensures.value) ready) later
 
-pub returns-then-has_many_lines-clause-begins : goal.returns-then-has_many_lines-clause-begins
-returns-then-has_many_lines-clause-begins g c = λ names first begins.
-    rw c.status_of.ensures
-    (cert_begins_many (g.S.Store.shelf c.args.store.now) c.args.cert.now names first (g.S.Store.begun c.args.store.now) (g.K.Sink.written c.args.out.now) (g.K.Sink.written c.tell_many_lines.new.out) c.tell_many_lines.result begins c.tell_many_lines.ensures.tells)
-
-pub returns-in-Err-clause-leaves : goal.returns-in-Err-clause-leaves
-returns-in-Err-clause-leaves g c = λ names first ready later.
-    leaves_told (g.S.Store.shelf c.args.store.now) (Some (Files (Check c.args.cert.now) names)) [] c.in-Err.early (g.K.Sink.written c.args.out.now) (g.K.Sink.written c.tell.new.out) first c.args.steps.now c.tell.result refl
-    (cert_early (g.S.Store.shelf c.args.store.now) c.args.cert.now names c.args.ready.planner c.args.ready.script.items _ c.in-Err.early ready (subst (λ (bytes : List ℕ). length (lines_of bytes) ≤ 100_000) c.deref.ensures.value (c.if-has_many_lines.ensures.few refl)) c.in-Err.ensures.entries) later c.tell.ensures.tells
-
-pub returns-in-Err-clause-begins : goal.returns-in-Err-clause-begins
-returns-in-Err-clause-begins g c = λ names first begins.
-    cert_begins_early (g.S.Store.shelf c.args.store.now) c.args.cert.now names first (g.S.Store.begun c.args.store.now) (g.S.Store.begun c.read_entries.new.store) c.in-Err.early c.tell.result c.tell.ensures.tells.text
-    begins c.in-Err.ensures.calls c.in-Err.ensures.named c.in-Err.ensures.entries c.tell.ensures.tells.told
-
-pub returns-in-Ok-clause-leaves : goal.returns-in-Ok-clause-leaves
-returns-in-Ok-clause-leaves g c = λ names first ready later.
-    rw c.status_of-in-Ok.ensures
-    (leaves_checked (g.S.Store.shelf c.args.store.now) c.args.cert.now names [] c.args.ready.planner c.args.ready.script.items c.as_slice.result.now (g.K.Sink.written c.args.out.now) (g.K.Sink.written c.check.new.out) first c.args.steps.now c.check.new.steps c.check.result
-    ready later (subst (λ (bytes : List ℕ). length (lines_of bytes) ≤ 100_000) c.deref.ensures.value (c.if-has_many_lines.ensures.few refl)) (subst (λ (entries : List CertEntry). IsCert (g.S.Store.shelf c.args.store.now) c.args.cert.now entries) (sym c.as_slice.ensures) c.in-Ok.ensures.entries) refl c.check.ensures.leaves)
-
-pub returns-in-Ok-clause-begins : goal.returns-in-Ok-clause-begins
-returns-in-Ok-clause-begins g c = λ names first begins.
-    let leaves = c.check.ensures.leaves in
-    rw c.status_of-in-Ok.ensures
-    (cert_begins_checked (g.S.Store.shelf c.args.store.now) c.args.cert.now names first (g.S.Store.begun c.args.store.now) (g.S.Store.begun c.read_entries.new.store) _ c.args.ready.planner c.args.ready.script.items leaves.text leaves.work c.check.result
-    begins c.in-Ok.ensures.calls c.in-Ok.ensures.named leaves.ends)
+pub returns-clause-begins : goal.returns-clause-begins
+returns-clause-begins g c = λ names first begins. c.check_lent.ensures.begins names first begins
