@@ -17,3 +17,15 @@ returns-clause-leaves g c = λ names first ready later.
 
 pub returns-clause-begins : goal.returns-clause-begins
 returns-clause-begins g c = λ names first begins. c.check_lent.ensures.begins names first begins
+
+pub returns-clause-store : goal.returns-clause-store
+returns-clause-store g c = c.check_lent.ensures.store
+
+pub returns-clause-sink : goal.returns-clause-sink
+returns-clause-sink g c = c.check_lent.ensures.sink
+
+pub returns-clause-later : goal.returns-clause-later
+returns-clause-later g c = c.check_lent.ensures.later
+
+pub check_lent-requires-clause-calls : goal.check_lent-requires-clause-calls
+check_lent-requires-clause-calls g c = c.requires.calls
