@@ -334,13 +334,15 @@ fn link_draft(alloc: Global, draft: Draft) -> Result<Game, DumpFault>
         techs: tech_names,
     };
     match link_lists(alloc, &names, items, recipes, sources, machines, techs) {
-        Ok(Lists {
-            items,
-            recipes,
-            sources,
-            machines,
-            techs,
-        }) => Ok(Game {
+        Ok(
+            Lists {
+                items,
+                recipes,
+                sources,
+                machines,
+                techs,
+            },
+        ) => Ok(Game {
             items,
             fluids: Items::from_vec(fluids),
             recipes,
