@@ -7,6 +7,7 @@ ghost use Rattle.dump_reader.specs.Draft.{draft_seen};
 ghost use Rattle.dump_reader.specs.Sections.{section_text};
 ghost use Rattle.dump_reader.specs.Sound.{IsSoundDraft};
 ghost use Rattle.game_types.specs.Sound.{ArePlain, IsSound};
+ghost use Rattle.game_reader.specs.Lists.{linked_lists, linked_means, linked_ways};
 ghost use Rattle.game_reader.specs.Links.{each_linked, linked, linked_item, linked_machine, linked_recipe, linked_source, linked_tech};
 
 use crate::families::Families;
@@ -227,8 +228,81 @@ fn link_techs(
     Ok(Items::from_vec(linked))
 }
 
+// The lists of a game.
+#[derive(Drop)]
+struct Lists {
+    items: Items<Item>,
+    recipes: Items<Recipe>,
+    sources: Items<Source>,
+    machines: Items<Machine>,
+    techs: Items<Tech>,
+}
+
+// All recipes and all that is mined.
+#[tactic(auto, unfolding(crate::specs::Lists::linked_ways))]
+fn link_ways(
+    alloc: Global,
+    names: &Families,
+    recipes: Vec<RawRecipe>,
+    sources: Vec<RawSource>,
+) -> Result<(Items<Recipe>, Items<Source>), DumpFault>
+    requires recipes { length recipes.items ≡ length names.now.recipes }
+    requires sources { length sources.items ≡ length names.now.sources }
+    ensures { GivesDump (linked_ways names.now recipes.items sources.items) result }
+{
+    let recipes = link_recipes(alloc, names, recipes)?;
+    let sources = link_sources(alloc, names, sources)?;
+    Ok((recipes, sources))
+}
+
+// All machines and technologies.
+#[tactic(auto, unfolding(crate::specs::Lists::linked_means))]
+fn link_means(
+    alloc: Global,
+    names: &Families,
+    machines: Vec<RawMachine>,
+    techs: Vec<RawTech>,
+) -> Result<(Items<Machine>, Items<Tech>), DumpFault>
+    requires machines { length machines.items ≡ length names.now.machines }
+    requires techs { length techs.items ≡ length names.now.techs }
+    ensures { GivesDump (linked_means names.now machines.items techs.items) result }
+{
+    let machines = link_machines(alloc, names, machines)?;
+    let techs = link_techs(alloc, names, techs)?;
+    Ok((machines, techs))
+}
+
+// The lists of a game. Each list of prototypes is beside its names.
+#[tactic(auto, unfolding(crate::specs::Lists::linked_lists))]
+fn link_lists(
+    alloc: Global,
+    names: &Families,
+    items: Vec<RawItem>,
+    recipes: Vec<RawRecipe>,
+    sources: Vec<RawSource>,
+    machines: Vec<RawMachine>,
+    techs: Vec<RawTech>,
+) -> Result<Lists, DumpFault>
+    requires items { length items.items ≡ length names.now.items }
+    requires recipes { length recipes.items ≡ length names.now.recipes }
+    requires sources { length sources.items ≡ length names.now.sources }
+    requires machines { length machines.items ≡ length names.now.machines }
+    requires techs { length techs.items ≡ length names.now.techs }
+    ensures { GivesDump (linked_lists names.now items.items recipes.items sources.items machines.items techs.items) result }
+{
+    let items = link_items(alloc, names, items)?;
+    let (recipes, sources) = link_ways(alloc, names, recipes, sources)?;
+    let (machines, techs) = link_means(alloc, names, machines, techs)?;
+    Ok(Lists {
+        items,
+        recipes,
+        sources,
+        machines,
+        techs,
+    })
+}
+
 // The game that a first pass left.
-#[tactic(auto, unfolding(crate::specs::Links::linked))]
 fn link_draft(alloc: Global, draft: Draft) -> Result<Game, DumpFault>
     requires { IsSoundDraft (draft_seen draft) }
     ensures { GivesDump (linked (draft_seen draft)) result }
@@ -259,30 +333,36 @@ fn link_draft(alloc: Global, draft: Draft) -> Result<Game, DumpFault>
         machines: machine_names,
         techs: tech_names,
     };
-    let items = link_items(alloc, &names, items)?;
-    let recipes = link_recipes(alloc, &names, recipes)?;
-    let sources = link_sources(alloc, &names, sources)?;
-    let machines = link_machines(alloc, &names, machines)?;
-    let techs = link_techs(alloc, &names, techs)?;
-    Ok(Game {
-        items,
-        fluids: Items::from_vec(fluids),
-        recipes,
-        sources,
-        machines,
-        techs,
-        character: Character {
-            crafting: Items::from_vec(crafting),
-            mining: Items::from_vec(mining),
-        },
-        item_names: names.items,
-        fluid_names: names.fluids,
-        recipe_names: names.recipes,
-        source_names: names.sources,
-        machine_names: names.machines,
-        tech_names: names.techs,
-        categories,
-    })
+    match link_lists(alloc, &names, items, recipes, sources, machines, techs) {
+        Ok(
+            Lists {
+                items,
+                recipes,
+                sources,
+                machines,
+                techs,
+            },
+        ) => Ok(Game {
+            items,
+            fluids: Items::from_vec(fluids),
+            recipes,
+            sources,
+            machines,
+            techs,
+            character: Character {
+                crafting: Items::from_vec(crafting),
+                mining: Items::from_vec(mining),
+            },
+            item_names: names.items,
+            fluid_names: names.fluids,
+            recipe_names: names.recipes,
+            source_names: names.sources,
+            machine_names: names.machines,
+            tech_names: names.techs,
+            categories,
+        }),
+        Err(fault) => Err(fault),
+    }
 }
 
 /// The game that a first pass left, with ids in place of names. It is sound, and each fluid is one record.
