@@ -1,3 +1,0 @@
-pub mod EscapeLemmas
-pub mod DecimalLemmas
-pub mod FlowLemmas
