@@ -1,6 +1,6 @@
 -- What a check leaves whose certificate gives no entries, and which files it begins.
-use Rattle.std.proofs.Common.{◌≡◌, ◌≢◌, ◌≤◌, ◌<◌, ◌+◌, ◌-◌, ◌∙◌, inl, inr, [], ℕ, List, arith, length, refl, subst, sym, ap}
-use Rattle.std.specs.Prelude.{Option, Some, None, IsSome}
+use Rattle.std.proofs.Common.{◌≡◌, ◌≢◌, ◌≤◌, ◌+◌, ◌∙◌, inr, ℕ, List, arith, length, refl, subst, sym}
+use Rattle.std.specs.Prelude.{Option, Some, IsSome}
 use Rattle.plan_io.specs.Store.{Shelf, Begun}
 use Rattle.planner_core.specs.Lines.{Planned}
 use Rattle.certificate_file.specs.declared.CertEntry.{CertEntry}
@@ -16,7 +16,6 @@ use Rattle.planner_cli.specs.Begun.{BeginsFiles, CallsUnder}
 use Rattle.planner_cli.specs.Certs.{EndsReadingCert}
 use Rattle.planner_cli.specs.Early.{EndsEarly, IsTold}
 use Rattle.planner_cli.specs.Ending.{IsReady, status_of}
-use Rattle.planner_cli.specs.Inputs.{IsBase}
 use Rattle.planner_cli.specs.Words.{FileNames, Files, Check, Run}
 use Rattle.planner_cli.proofs.EndingLemmas.{base_for, begins_told}
 

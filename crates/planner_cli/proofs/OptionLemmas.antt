@@ -1,9 +1,9 @@
 -- The words without the option that names a certificate.
 use Rattle.std.proofs.Common.{◌≡◌, ◌∙◌, ◌<◌, ◌≤◌, ◌+◌, ◌++◌, ◌∷◌, [], ℕ, List, length, drop, get_or, ap, sym, refl, append_assoc, append-nil, arith, drop-cons, add-one, true, false, codes}
-use Rattle.std.specs.Prelude.{Option, Some, None}
+use Rattle.std.specs.Prelude.{Some, None}
 use Rattle.std.specs.Str.{bytes_eq}
 use Rattle.std.proofs.lemmas.Grind.{common_steps}
-use Rattle.planner_cli.specs.Words.{Plain, behind, cert_here, plain, taken, taken_or}
+use Rattle.planner_cli.specs.Words.{Plain, behind, cert_here, plain, taken}
 
 -- ---- copies of words behind others
 pub copied_next : (front words : List (List ℕ)) (k : ℕ) (word : List ℕ) → k < length words → word ≡ get_or words k word → front ++ drop k words ≡ (front ++ word ∷ []) ++ drop (k + 1) words

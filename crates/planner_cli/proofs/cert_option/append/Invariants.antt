@@ -1,5 +1,4 @@
 use Rattle.std.proofs.Common.{◌≡◌, ◌++◌, drop}
-use Rattle.planner_cli.proofs.OptionLemmas.{copied_end, copied_next}
 use Rattle.planner_cli.proofs.cert_option.append.Given as goal
 
 abbrev pub invariant-loop-word : goal.invariant-loop-word
