@@ -5,7 +5,7 @@ use Rattle.std.specs.Bool.{Decides}
 use Rattle.std.proofs.lemmas.List.{get_or-set_same, set-get_or}
 use Rattle.std.proofs.lemmas.Option.{get_or_from_slice_get, slice_get_within}
 use Rattle.fractions.specs.Fraction.{Fraction}
-use Rattle.game_types.specs.Making.{is_positive}
+use Rattle.fractions.specs.Signs.{is_positive}
 use Rattle.plan_base.specs.declared.GoodId.{GoodId}
 use Rattle.plan_base.specs.declared.NodeId.{NodeId}
 use Rattle.plan_base.specs.declared.RecipeId.{RecipeId}

@@ -2,7 +2,7 @@
 use Rattle.std.specs.Prelude.{◌≡◌, ◌≢◌, ℕ, Bool, true, false, List, length, nat_lt, Option, Some, None, Result, Ok, Err, if◌then◌else◌}
 pub use Rattle.plan_base.specs.Binds.{◌▸◌}
 use Rattle.fractions.specs.Fraction.{Fraction}
-use Rattle.game_types.specs.Making.{is_positive}
+use Rattle.fractions.specs.Signs.{is_positive}
 use Rattle.data_edit.specs.declared.edits.EditFault.{EditFault}
 use Rattle.data_edit.specs.declared.edits.EditFault.TheVariants.{Unknown, NotPositive, NoChange, Limit, NoMemory}
 use Rattle.data_edit.specs.Lists.{same_lists, is_fraction}

@@ -2,7 +2,8 @@
 use Rattle.std.proofs.Common.{◌≡◌, ◌≢◌, ◌∙◌, ℕ, zero, suc, Bool, true, false, List, [], ◌∷◌, refl, ap, sym, subst, arith}
 use Rattle.std.specs.Prelude.{◌==◌, ◌||◌, ◌&&◌, Ok, slice_get}
 use Rattle.std.specs.List.{list_any}
-use Rattle.game_types.specs.Making.{expected_amount, gives, is_positive}
+use Rattle.game_types.specs.Making.{expected_amount, gives}
+use Rattle.fractions.specs.Signs.{is_positive}
 use Rattle.game_types.specs.declared.recipes.Product.{Product}
 use Rattle.game_types.specs.declared.recipes.Recipe.{Recipe}
 use Rattle.game_types.specs.declared.research.Tech.{Tech}

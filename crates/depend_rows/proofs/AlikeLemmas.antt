@@ -12,7 +12,8 @@ use Rattle.game_types.specs.Nodes.{shape_of}
 use Rattle.std.specs.Vec.{with_items}
 use Rattle.std.proofs.lemmas.List.{length-map, with_items_is}
 use Rattle.std.proofs.lemmas.Bool.Decides.{nat_tests}
-use Rattle.game_types.specs.Making.{gives, holds, is_positive}
+use Rattle.game_types.specs.Making.{gives, holds}
+use Rattle.fractions.specs.Signs.{is_positive}
 use Rattle.game_types.specs.Temperatures.{is_good}
 use Rattle.game_types.specs.declared.games.Game.{Game}
 use Rattle.game_types.specs.declared.goods.Fluid.{Fluid}

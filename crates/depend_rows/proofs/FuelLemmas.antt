@@ -4,7 +4,8 @@ use Rattle.std.specs.Prelude.{◌==◌, ◌||◌, ◌&&◌, Option, Some, None}
 use Rattle.std.specs.Global.{Global}
 use Rattle.std.specs.List.{list_any}
 use Rattle.plan_base.specs.declared.ids.NodeId.{NodeId}
-use Rattle.game_types.specs.Making.{holds, is_positive}
+use Rattle.game_types.specs.Making.{holds}
+use Rattle.fractions.specs.Signs.{is_positive}
 use Rattle.game_types.specs.declared.goods.Fuel.{Fuel}
 use Rattle.game_types.specs.declared.goods.Item.{Item}
 use Rattle.depend_rows.specs.Members.{those}

@@ -7,16 +7,10 @@ use Rattle.fractions.specs.Fraction.{Fraction, ◌+ʳ◌, ◌*ʳ◌, ◌/ʳ◌, 
 use Rattle.fractions.specs.Fracs.{atom, ◌⊠◌, opposite, same_amount}
 use Rattle.fractions.proofs.Laws.{zero-+ʳ, zero-*ʳ, *ʳ-zero, +ʳ-negated, +ʳ_comm, *ʳ_comm, *ʳ-inverse}
 use Rattle.fractions.proofs.Order.{num_of_positive, positive_frac, positive-*ʳ, ≤ʳ_or_<ʳ, ≤ʳ_refl, <ʳ-≤ʳ, <ʳ_not_≤ʳ, *ʳ-≤ʳ, +ʳ-<ʳ}
-use Rattle.game_types.specs.Making.{is_above_zero, is_positive, expected_amount}
+use Rattle.game_types.specs.Making.{expected_amount}
+use Rattle.fractions.specs.Signs.{is_positive}
 use Rattle.game_types.specs.declared.recipes.Product.{Product}
-use Rattle.game_types.proofs.StepLemmas.{positive_is}
-
-above : (n : ℤ) → pos 0 <ℤ n → is_above_zero n ≡ true
-above (pos n) h = grind (arith, ints, nat_tests)
-above (negsuc n) h = absurd (omega (arith, ints))
-
-is_positive_when : (x : Fraction) → zero_fraction <ʳ x → is_positive x ≡ true
-is_positive_when x h = above x.num (num_of_positive x h)
+use Rattle.fractions.proofs.Signs.{is_positive_when, positive_is}
 
 decided : (b : Bool) → (b ≡ true → ⊥) → b ≡ false
 decided true h = absurd (h refl)

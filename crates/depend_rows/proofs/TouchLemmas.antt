@@ -20,7 +20,8 @@ use Rattle.plan_base.specs.declared.shape.Shape.{Shape}
 use Rattle.plan_base.specs.declared.shape.Kind.TheVariants.{Recipe as RecipeKind}
 use Rattle.graph_store.specs.Rows.{has_node}
 use Rattle.game_types.specs.Lookups.{machine_at, recipe_at, source_at, no_recipe}
-use Rattle.game_types.specs.Making.{gives, is_positive, expected_amount, kind_crafts}
+use Rattle.game_types.specs.Making.{gives, expected_amount, kind_crafts}
+use Rattle.fractions.specs.Signs.{is_positive}
 use Rattle.game_types.specs.Nodes.{shape_of}
 use Rattle.game_types.specs.declared.games.Game.{Game}
 use Rattle.game_types.specs.declared.recipes.Product.{Product}

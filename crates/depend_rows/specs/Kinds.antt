@@ -2,7 +2,8 @@
 use Rattle.std.specs.Prelude.{ℕ, ◌==◌, ◌&&◌, ◌||◌, Bool, false, true, not, List, Option, Some, None, is_none, slice_get}
 use Rattle.plan_base.specs.declared.ids.RecipeId.{RecipeId}
 use Rattle.depend_rows.specs.Machines.{names_good}
-use Rattle.game_types.specs.Making.{holds, is_positive}
+use Rattle.game_types.specs.Making.{holds}
+use Rattle.fractions.specs.Signs.{is_positive}
 use Rattle.game_types.specs.declared.goods.Fuel.{Fuel}
 use Rattle.game_types.specs.declared.machinery.MachineKind.{MachineKind}
 use Rattle.game_types.specs.declared.machinery.MachineKind.TheVariants.{Crafter, Drill, Lab}

@@ -8,7 +8,8 @@ use Rattle.plan_base.specs.declared.ids.EntityId.{EntityId}
 use Rattle.plan_base.specs.declared.ids.GoodId.{GoodId}
 use Rattle.graph_store.specs.declared.Group.{Group}
 use Rattle.graph_store.specs.declared.Row.{Row}
-use Rattle.game_types.specs.Making.{is_positive, takes_fuel}
+use Rattle.game_types.specs.Making.{takes_fuel}
+use Rattle.fractions.specs.Signs.{is_positive}
 use Rattle.game_types.specs.declared.games.Game.{Game}
 use Rattle.game_types.specs.declared.goods.Fuel.{Fuel}
 use Rattle.game_types.specs.declared.machinery.Energy.{Energy}

@@ -1,7 +1,8 @@
 //! The things about a number, from lists that hold their nodes and perhaps others.
 ghost use Rattle.std.specs.Prelude.{◌≡◌, ℕ, ◌+◌, ◌<◌, ◌^◌, ◌==◌, Bool, IfOk, length, true};
 ghost use Rattle.std.specs.List.{list_any};
-ghost use Rattle.game_types.specs.Making.{expected_amount, gives, is_positive};
+ghost use Rattle.game_types.specs.Making.{expected_amount, gives};
+ghost use Rattle.fractions.specs.Signs.{is_positive};
 ghost use Rattle.game_types.specs.Sound.{IsSound};
 ghost use Rattle.depend_rows.specs.Indexed.{IsIndex};
 ghost use Rattle.depend_rows.specs.Lists.{Rise, has_node, list_at};

@@ -1,6 +1,7 @@
 //! What goods need: any that gives them.
 ghost use Rattle.std.specs.Prelude.{◌≡◌, ◌<◌, ◌++◌, IfOk, OnOk, length, nat_lt};
-ghost use Rattle.game_types.specs.Making.{expected_amount, is_positive};
+ghost use Rattle.game_types.specs.Making.{expected_amount};
+ghost use Rattle.fractions.specs.Signs.{is_positive};
 ghost use Rattle.game_types.specs.Sound.{IsSound};
 ghost use Rattle.depend_rows.specs.Indexed.{IsIndex};
 ghost use Rattle.game_types.specs.Temperatures.{is_base};
@@ -11,7 +12,8 @@ use crate::among::recipes_giving;
 use crate::index::Index;
 use crate::lists::{list_at, list_of};
 use crate::members::{any_of, row_with};
-use game_types::{Game, Product, is_positive};
+use fractions::is_positive;
+use game_types::{Game, Product};
 use graph_store::Row;
 use plan_base::{NoMemory, NodeId};
 use std::alloc::Global;

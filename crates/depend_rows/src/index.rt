@@ -23,9 +23,9 @@ use crate::places::{
 use crate::techs::all_labs;
 use crate::temperatures::sorted_lists;
 use crate::words::words_of_all;
+use fractions::is_positive;
 use game_types::{
     Fluid, Fuel, Game, Item, Machine, MachineKind, Product, Recipe, Source, Tech, holds,
-    is_positive,
 };
 use plan_base::{EntityId, GoodId, Items, NoMemory, NodeId, RecipeId};
 use std::alloc::Global;

@@ -2,7 +2,7 @@
 ghost use Rattle.std.specs.Prelude.{◌&&◌, is_none, ◌≡◌, ◌<◌, ◌++◌, ◌∷◌, [], IfOk, IfSome, OnOk, length};
 ghost use Rattle.fractions.specs.Fraction.{Fraction};
 ghost use Rattle.game_types.specs.declared.machinery.Energy.TheVariants.{Burner};
-ghost use Rattle.game_types.specs.Making.{is_positive};
+ghost use Rattle.fractions.specs.Signs.{is_positive};
 ghost use Rattle.game_types.specs.Sound.{IsFluid, IsSound, IsSoundEnergy, IsSoundKind, IsSoundMachine};
 ghost use Rattle.depend_rows.specs.Members.{any_of, row_with, those};
 ghost use Rattle.depend_rows.specs.Indexed.{IsIndex};
@@ -15,7 +15,8 @@ use crate::lists::{distinct, list_at};
 use crate::members::{Test, all_of_good, all_of_node, any_of, row_with, those};
 use crate::places::{first_fluid, first_machine};
 use crate::unions::{in_order, push_list};
-use game_types::{Energy, Fluid, Game, Machine, MachineKind, is_positive};
+use fractions::is_positive;
+use game_types::{Energy, Fluid, Game, Machine, MachineKind};
 use graph_store::{Group, Row};
 use plan_base::{GoodId, NoMemory, NodeId};
 use std::alloc::Global;

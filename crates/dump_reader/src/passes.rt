@@ -1,5 +1,5 @@
 //! The first pass over the tree of a dump.
-ghost use Rattle.std.specs.Prelude.{◌≡◌, ◌≢◌, [], IfErr, IfOk, option_map, map};
+ghost use Rattle.std.specs.Prelude.{◌≡◌, ◌≢◌, [], IfErr, IfOk, map};
 ghost use Rattle.json_text.specs.SpanSeen.{members_seen, span_seen, text_seen};
 ghost use Rattle.prototype_fields.specs.Values.{Gives, seen_as};
 ghost use Rattle.craft_reader.specs.Faults.{GivesDump, IsBare, fault_in};
@@ -7,25 +7,13 @@ ghost use Rattle.dump_reader.specs.Draft.{draft_seen};
 ghost use Rattle.dump_reader.specs.Dump.{each_after, member_of, named_of, no_object, prototype_of, section_of, sections, raw_game};
 ghost use Rattle.dump_reader.specs.Sections.{section_text};
 ghost use Rattle.dump_reader.specs.Sound.{IsSoundDraft};
-ghost use Rattle.prototype_fields.specs.Objects.{if_utf8};
 
 use crate::draft::{Draft, add_prototype};
 use crate::sections::Section;
 use craft_reader::{DumpCode, DumpFault};
 use json_text::{SpanMember, SpanTree};
-use prototype_fields::{FieldCode, FieldFault, Fields, Within, as_object, value_at};
+use prototype_fields::{FieldCode, FieldFault, Fields, Within, as_object, if_utf8, value_at};
 use std::alloc::Global;
-use std::str::from_utf8;
-
-// The text that bytes are, where they are UTF-8.
-fn if_utf8(bytes: &[u8]) -> Option<&str>
-    ensures { option_map (λ text. text.now) result ≡ if_utf8 bytes.now }
-{
-    match from_utf8(bytes) {
-        Ok(text) => Some(text),
-        Err(_) => None,
-    }
-}
 
 // A prototype.
 #[tactic(auto, unfolding(crate::specs::Dump::prototype_of))]

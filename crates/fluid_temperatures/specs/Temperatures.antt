@@ -4,7 +4,7 @@ use Rattle.std.specs.Prelude.{◌≡◌, All, ℕ, ◌+◌, ◌==◌, true, List
 use Rattle.std.specs.List.{flat_map, filter_map, range_with_len}
 use Rattle.fractions.specs.Fraction.{Fraction, zero_fraction}
 use Rattle.plan_base.specs.declared.ids.GoodId.{GoodId}
-use Rattle.game_types.specs.Making.{is_positive}
+use Rattle.fractions.specs.Signs.{is_positive}
 use Rattle.game_types.specs.Temperatures.{fluid_at, is_cooler}
 use Rattle.game_types.specs.declared.games.Game.{Game}
 use Rattle.game_types.specs.declared.goods.Fluid.{Fluid}

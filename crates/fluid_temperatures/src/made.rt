@@ -5,8 +5,8 @@ ghost use Rattle.game_types.specs.Sound.{IsSound};
 ghost use Rattle.game_types.specs.Temperatures.{fluid_at};
 ghost use Rattle.fluid_temperatures.specs.Temperatures.{all_made, default_of, heat_of, machine_made, or_default, output_default, product_made};
 
-use fractions::Ratio;
-use game_types::{Fluid, Game, MachineKind, Product, is_positive};
+use fractions::{Ratio, is_positive};
+use game_types::{Fluid, Game, MachineKind, Product};
 use plan_base::{GoodId, NoMemory};
 use std::alloc::Global;
 

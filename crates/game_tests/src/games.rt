@@ -4,10 +4,9 @@ ghost use Rattle.fractions.specs.Fraction.{zero_fraction, ◌<ʳ◌};
 ghost use Rattle.game_types.specs.declared.games.Game.{Game as AnyGame};
 ghost use Rattle.game_types.specs.Sound.{IsSound, IsSoundEnergy, IsSoundItem, IsSoundMachine, IsSoundRecipe};
 
-use fractions::Ratio;
+use fractions::{Ratio, is_positive};
 use game_types::{
     Activity, Allowed, Character, Energy, Fuel, Game, Item, Machine, MachineKind, Recipe, Setup,
-    is_positive,
 };
 use name_table::Names;
 use plan_base::{EntityId, GoodId, Items, RecipeId};

@@ -2,9 +2,9 @@
 ghost use Rattle.game_types.specs.Sound.{IsSound, IsSoundSetup};
 
 use crate::games::{Given, game_of, setup_of};
-use fractions::{Ratio, read_ratio};
+use fractions::{Ratio, is_positive, read_ratio};
 use fuel_choice::fuel_use;
-use game_types::{BeaconSum, Bonus, Effects, Game, Product, Rates, Setup, Wide, is_positive};
+use game_types::{BeaconSum, Bonus, Effects, Game, Product, Rates, Setup, Wide};
 use machine_rates::{check_machine, effects_of, plain_effects, rates_of, yield_of};
 use plan_base::{GoodId, NoMemory};
 use std::alloc::Global;

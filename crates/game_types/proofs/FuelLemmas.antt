@@ -10,9 +10,9 @@ use Rattle.game_types.specs.declared.setups.Setup.{Setup}
 use Rattle.game_types.specs.declared.games.Game.{Game}
 use Rattle.game_types.specs.Fuels.{burnt_in, burner_effectivity, fuel_of_good, setup_fuel, fuel_use_of}
 use Rattle.game_types.specs.Lookups.{item_at, machine_at}
-use Rattle.game_types.specs.Making.{is_positive}
+use Rattle.fractions.specs.Signs.{is_positive}
 use Rattle.game_types.specs.Sound.{IsSoundEnergy}
-use Rattle.game_types.proofs.StepLemmas.{positive_is}
+use Rattle.fractions.proofs.Signs.{positive_is}
 
 chosen : {A E : Type 0} (b : Bool) (x : A) (e : E) → IsOk (if b then Ok x else Err e) → b ≡ true
 chosen true x e h = refl

@@ -16,7 +16,7 @@ use Rattle.fractions.specs.Fraction.{whole_fraction}
 use Rattle.fractions.proofs.Order.{positive_frac}
 use Rattle.std.specs.Prelude.{ℤ, negsuc, ◌<ℤ◌}
 use Rattle.std.proofs.lemmas.Int.{ints}
-use Rattle.game_types.specs.Making.{is_positive, is_above_zero}
+use Rattle.fractions.specs.Signs.{is_positive, is_above_zero}
 use Rattle.fractions.proofs.Order.{positive_of_num}
 
 both : (a b : Bool) → (a && b) ≡ true → (a ≡ true) × (b ≡ true)
@@ -85,10 +85,3 @@ multiplied_value step x y z e = formed_value step (is_narrow (x *ʳ y)) (x *ʳ y
 pub positive_whole : (n : ℕ) → 0 < n → zero_fraction <ʳ whole_fraction (pos n)
 unfolding whole_fraction
 positive_whole n h = positive_frac (pos n) 1 (omega arith) (omega (arith, ints))
-
-above_zero : (z : ℤ) → is_above_zero z ≡ true → pos 0 <ℤ z
-above_zero (pos n) h = let k : 0 < n = grind (arith, nat_tests) in omega (arith, ints)
-above_zero (negsuc n) h = absurd (cc)
-
-pub positive_is : (x : Fraction) → is_positive x ≡ true → zero_fraction <ʳ x
-positive_is x h = positive_of_num x (above_zero x.num h)

@@ -2,7 +2,7 @@
 -- After the prototype documentation of Factorio 1.1.
 use Rattle.std.specs.Prelude.{ℕ, ◌==◌, ◌&&◌, ◌||◌, Bool, false, not, pos, List, Option, Some, None, nat_lt, is_none}
 use Rattle.std.specs.List.{list_all, list_any}
-use Rattle.std.specs.Prelude.{ℤ, negsuc}
+use Rattle.fractions.specs.Signs.{is_positive}
 use Rattle.fractions.specs.Fraction.{Fraction, ◌+ʳ◌, ◌*ʳ◌, ◌/ʳ◌, whole_fraction}
 use Rattle.plan_base.specs.declared.EntityId.{EntityId}
 use Rattle.plan_base.specs.declared.RecipeId.{RecipeId}
@@ -15,14 +15,6 @@ use Rattle.game_types.specs.declared.machinery.Energy.{Energy}
 use Rattle.game_types.specs.declared.machinery.Energy.TheVariants.{Burner}
 use Rattle.game_types.specs.declared.goods.Fuel.{Fuel}
 use Rattle.game_types.specs.declared.research.Character.{Character}
-
--- whether a number is above 0
-abbrev pub is_above_zero : ℤ → Bool
-is_above_zero (pos n) = nat_lt 0 n
-is_above_zero (negsuc n) = false
-
-abbrev pub is_positive : Fraction → Bool
-is_positive x = is_above_zero x.num
 
 abbrev pub holds : List ℕ → ℕ → Bool
 holds categories category = list_any (λ c. c == category) categories

@@ -28,7 +28,7 @@ pub use games::{Game, NODE_LIMIT};
 pub use goods::{Fluid, Fuel, Item, Module};
 pub use installed::{check_slots, named, total_hundredths};
 pub use machinery::{Energy, Machine, MachineKind};
-pub use making::{holds, is_positive, takes_fuel};
+pub use making::{holds, takes_fuel};
 pub use recipes::{Part, Product, Recipe, Source};
 pub use refusals::{BeaconFault, FuelFault, MachineFault, ModuleFault};
 pub use research::{Character, Tech};

@@ -1,22 +1,15 @@
 //! Who makes what.
 ghost use Rattle.std.specs.Prelude.{◌≡◌};
-ghost use Rattle.game_types.specs.Making.{holds, is_positive, takes_fuel};
+ghost use Rattle.game_types.specs.Making.{holds, takes_fuel};
 
 use crate::{Energy, Fuel};
-use fractions::Ratio;
+use fractions::is_positive;
 
 /// Whether a category is one of some.
 pub fn holds(categories: &[u32], category: u32) -> bool
     ensures { result ≡ holds categories.now category }
 {
     categories.iter().any(|other| *other == category)
-}
-
-/// Whether a fraction is above 0.
-pub fn is_positive(number: &Ratio) -> bool
-    ensures { result ≡ is_positive number.now }
-{
-    number.numerator() > 0
 }
 
 /// Whether a machine burns a fuel: a burner of its category does where the fuel has any energy.

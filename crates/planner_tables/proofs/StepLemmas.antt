@@ -16,7 +16,8 @@ use Rattle.production_table.specs.declared.faults.TableFault.TheVariants.{Full, 
 use Rattle.production_table.specs.declared.tables.Table.{Table}
 use Rattle.production_table.specs.declared.tables.TableRow.{TableRow}
 use Rattle.production_table.specs.Changes.{dropped, in_table, is_used, new_row, place_of, priced, with_import, with_price, with_row, with_surplus, with_want, without_row}
-use Rattle.production_table.specs.Numbers.{guard, is_full, is_negative, number_of, or_nothing, price_fits, put_or_take, repriced, rewanted, want_fits, with_number, without_number}
+use Rattle.production_table.specs.Numbers.{guard, is_full, number_of, or_nothing, price_fits, put_or_take, repriced, rewanted, want_fits, with_number, without_number}
+use Rattle.fractions.specs.Signs.{is_negative}
 use Rattle.production_table.specs.Tables.{IsSoundTable, is_label}
 use Rattle.production_table.proofs.Found.{no_price, place_is, price_is, some_row}
 use Rattle.planner_tables.specs.declared.refusals.TableRefusal.{TableRefusal}

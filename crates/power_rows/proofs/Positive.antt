@@ -9,10 +9,11 @@ use Rattle.game_types.specs.declared.effects.Wide.{Wide}
 use Rattle.game_types.specs.declared.goods.Fluid.{Fluid}
 use Rattle.game_types.specs.declared.machinery.MachineKind.{MachineKind}
 use Rattle.game_types.specs.declared.machinery.MachineKind.TheVariants.{Generator, BurnerGenerator, Solar}
-use Rattle.game_types.specs.Making.{is_positive}
+use Rattle.fractions.specs.Signs.{is_positive}
 use Rattle.game_types.specs.Steps.{multiplied, subtracted, formed, do_fit}
 use Rattle.game_types.specs.Temperatures.{is_cooler}
-use Rattle.game_types.proofs.StepLemmas.{multiplied_value, positive_is}
+use Rattle.fractions.proofs.Signs.{positive_is}
+use Rattle.game_types.proofs.StepLemmas.{multiplied_value}
 use Rattle.power_rows.specs.Power.{at_most, checked_power, heats_nothing, is_idle, is_shut, gives_nothing, makes, power_fits}
 use Rattle.power_rows.specs.Inputs.{fluid_in}
 use Rattle.game_types.specs.Lookups.{machine_at}

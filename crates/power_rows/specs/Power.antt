@@ -20,7 +20,7 @@ use Rattle.game_types.specs.declared.setups.Setup.{Setup}
 use Rattle.game_types.specs.declared.games.Game.{Game}
 use Rattle.game_types.specs.Fuels.{setup_fuel}
 use Rattle.game_types.specs.Lookups.{machine_at}
-use Rattle.game_types.specs.Making.{is_positive}
+use Rattle.fractions.specs.Signs.{is_positive}
 use Rattle.game_types.specs.Rates.{power_of, fuel_emissions}
 use Rattle.game_types.specs.Steps.{◌▸◌, multiplied, divided, added, subtracted}
 use Rattle.game_types.specs.Temperatures.{is_cooler, is_good}

@@ -5,8 +5,8 @@ ghost use Rattle.game_types.specs.Temperatures.{is_cooler};
 ghost use Rattle.power_rows.specs.Power.{at_most, makes, heats_nothing, is_idle, is_shut, gives_nothing, checked_power};
 
 use crate::inputs::fluid_in;
-use fractions::Ratio;
-use game_types::{Activity, Fluid, Game, MachineKind, Setup, is_positive};
+use fractions::{Ratio, is_positive};
+use game_types::{Activity, Fluid, Game, MachineKind, Setup};
 use std::cmp::Ordering;
 
 /// Why a row heats nothing or makes no electricity.

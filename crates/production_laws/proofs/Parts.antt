@@ -12,11 +12,12 @@ use Rattle.linear_table.specs.Parts.{part_at}
 use Rattle.table_rows.specs.Columns.{column_of}
 use Rattle.production_table.specs.declared.tables.TableRow.{TableRow}
 use Rattle.production_table.specs.Linear.{columns_of, import_column, of_row, or_none, parts_at, place_in, row_columns, surplus_column}
-use Rattle.production_table.specs.Numbers.{is_zero, number_of}
+use Rattle.production_table.specs.Numbers.{number_of}
+use Rattle.fractions.specs.Signs.{is_zero}
 use Rattle.production_table.specs.Tables.{Rises}
 use Rattle.production_table.proofs.Columns.{of_row_is, through, EachRises}
 use Rattle.production_table.proofs.Places.{place_is_spot, spot, spot_get, AllIn, EachIn, Has}
-use Rattle.production_table.proofs.Signs.{zero_is}
+use Rattle.fractions.proofs.Signs.{zero_is}
 use Rattle.production_laws.specs.Amounts.{amount_in, where_same}
 use Rattle.production_laws.specs.Balance.{column_amount, rate_of, row_amount, weighted}
 use Rattle.production_laws.proofs.Lists.{column_sum}

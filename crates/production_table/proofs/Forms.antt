@@ -13,7 +13,7 @@ use Rattle.production_table.specs.declared.faults.TableFault.TheVariants.{NoMemo
 use Rattle.production_table.specs.declared.tables.TableRow.{TableRow}
 use Rattle.production_table.specs.Answers.{Gives, Outcome}
 use Rattle.production_table.specs.Linear.{columns_of, of_row, parts_at, place_in, row_column, row_columns}
-use Rattle.production_table.specs.Numbers.{is_zero}
+use Rattle.fractions.specs.Signs.{is_zero}
 
 append_none : {A : Type 0} (xs : List A) → xs ++ [] ≡ xs
 append_none [] = refl

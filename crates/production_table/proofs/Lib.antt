@@ -1,6 +1,5 @@
 pub mod Labels
 pub mod Sound
-pub mod Signs
 pub mod Found
 pub mod Pairs
 pub mod NumberLemmas

@@ -9,9 +9,10 @@ use Rattle.game_types.specs.Steps.{◌▸◌}
 use Rattle.production_table.specs.declared.faults.TableFault.{TableFault}
 use Rattle.production_table.specs.declared.faults.TableFault.TheVariants.{Full, Negative}
 use Rattle.production_table.specs.Answers.{Outcome}
-use Rattle.production_table.specs.Numbers.{guard, is_full, is_negative, is_zero, no_room, number_of, price_fits, put_or_take, repriced, rewanted, want_fits, with_number, without_number}
+use Rattle.production_table.specs.Numbers.{guard, is_full, no_room, number_of, price_fits, put_or_take, repriced, rewanted, want_fits, with_number, without_number}
+use Rattle.fractions.specs.Signs.{is_negative, is_zero}
 use Rattle.production_table.specs.Tables.{Rises}
-use Rattle.production_table.proofs.Signs.{nonneg_is, positive_is}
+use Rattle.fractions.proofs.Signs.{nonneg_is, positive_left}
 
 -- ---- order
 pub lower : (low more : ℕ) → (ps : List (GoodId × Fraction)) → low ≤ more → Rises more ps → Rises low ps
@@ -172,7 +173,7 @@ want_left : (good : GoodId) (rate : Fraction) (ps : List (GoodId × Fraction)) �
 unfolding Left
 want_left good rate ps s true e (Ok fine) h = sound_take (λ x. zero_fraction <ʳ x) good ps s
 want_left good rate ps s false e (Ok fine) h =
-    let both = two (is_negative rate) (no_room ps good) h in sound_put (λ x. zero_fraction <ʳ x) good rate ps s (positive_is rate both.0 e) both.1
+    let both = two (is_negative rate) (no_room ps good) h in sound_put (λ x. zero_fraction <ʳ x) good rate ps s (positive_left rate both.0 e) both.1
   where
     two : (b c : Bool) → (guard b Negative ▸ λ _. guard c Full) ≡ Ok tt → (b ≡ false) × (c ≡ false)
     two false c h = (refl, passes c Full h)

@@ -7,7 +7,7 @@ use Rattle.fractions.specs.Fraction.{Fraction}
 use Rattle.plan_base.specs.declared.ids.GoodId.{GoodId}
 use Rattle.linear_table.specs.Plans.{Rises as PlacesRise}
 use Rattle.production_table.specs.Linear.{is_numbered, or_first, parts_at, place_in, with_columns, with_good, with_goods}
-use Rattle.production_table.specs.Numbers.{is_zero}
+use Rattle.fractions.specs.Signs.{is_zero}
 use Rattle.production_table.specs.Tables.{GoodsRise, Rises}
 
 -- ---- goods that rise

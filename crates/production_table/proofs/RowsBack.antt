@@ -14,12 +14,13 @@ use Rattle.production_table.specs.declared.tables.Table.{Table}
 use Rattle.production_table.specs.declared.tables.TableRow.{TableRow}
 use Rattle.production_table.specs.Answers.{Outcome}
 use Rattle.production_table.specs.Changes.{dropped, is_used, new_row, place_of, priced, row_fits, with_price, with_row, with_row_at, without_row, HasRoom}
-use Rattle.production_table.specs.Numbers.{guard, is_negative}
+use Rattle.production_table.specs.Numbers.{guard}
+use Rattle.fractions.specs.Signs.{is_negative}
 use Rattle.production_table.specs.Tables.{is_label, HasOwnLabels, IsSoundTable}
 use Rattle.production_table.proofs.Pairs.{same_parts}
 use Rattle.production_table.proofs.Added.{new_is}
 use Rattle.production_table.proofs.Labels.{any_at, differ, or_false, false_or}
-use Rattle.production_table.proofs.Signs.{not_negative}
+use Rattle.fractions.proofs.Signs.{not_negative}
 
 own_label : (label : List ℕ) → bytes_eq label label ≡ true
 own_label label = (bytes_eq-Decides label label).1 refl

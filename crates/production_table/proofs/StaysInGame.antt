@@ -12,7 +12,8 @@ use Rattle.production_table.specs.declared.faults.TableFault.TheVariants.{Negati
 use Rattle.production_table.specs.declared.tables.Table.{Table}
 use Rattle.production_table.specs.declared.tables.TableRow.{TableRow}
 use Rattle.production_table.specs.Changes.{dropped, empty_table, new_row, place_of, priced, row_fits, with_balance, with_import, with_price, with_row, with_row_at, with_surplus, with_want, without_row}
-use Rattle.production_table.specs.Numbers.{guard, is_negative, number_of, or_nothing, price_fits, put_or_take, repriced, rewanted, want_fits, with_number, without_number}
+use Rattle.production_table.specs.Numbers.{guard, number_of, or_nothing, price_fits, put_or_take, repriced, rewanted, want_fits, with_number, without_number}
+use Rattle.fractions.specs.Signs.{is_negative}
 use Rattle.production_table.specs.Tables.{IsOfGame}
 use Rattle.production_table.proofs.Columns.{through}
 use Rattle.production_table.proofs.Pairs.{same_parts}

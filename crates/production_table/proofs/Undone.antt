@@ -10,12 +10,13 @@ use Rattle.game_types.specs.Steps.{◌▸◌}
 use Rattle.production_table.specs.declared.faults.TableFault.{TableFault}
 use Rattle.production_table.specs.declared.faults.TableFault.TheVariants.{Full, Negative, Unknown}
 use Rattle.production_table.specs.Answers.{Outcome}
-use Rattle.production_table.specs.Numbers.{guard, is_full, is_negative, is_zero, lacks, no_room, number_of, or_nothing, or_zero, price_fits, put_or_take, repriced, rewanted, want_fits, with_number, without_number}
+use Rattle.production_table.specs.Numbers.{guard, is_full, lacks, no_room, number_of, or_nothing, or_zero, price_fits, put_or_take, repriced, rewanted, want_fits, with_number, without_number}
+use Rattle.fractions.specs.Signs.{is_negative, is_zero}
 use Rattle.production_table.specs.Tables.{Rises}
 use Rattle.production_table.proofs.Pairs.{same_parts}
 use Rattle.production_table.proofs.NumberLemmas.{put_behind}
 use Rattle.production_table.proofs.NumberSound.{number_below, IsSoundList}
-use Rattle.production_table.proofs.Signs.{not_negative, positive_not_zero, zero_not_negative, zero_of}
+use Rattle.fractions.proofs.Signs.{not_negative, positive_not_zero, zero_not_negative, zero_of}
 use Rattle.table_rows.proofs.Parts.{first_branch, second_branch}
 
 -- ---- one good against another

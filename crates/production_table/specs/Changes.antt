@@ -12,7 +12,8 @@ use Rattle.production_table.specs.declared.faults.TableFault.TheVariants.{NoMemo
 use Rattle.production_table.specs.declared.tables.Table.{Table}
 use Rattle.production_table.specs.declared.tables.TableRow.{TableRow}
 use Rattle.production_table.specs.Answers.{Outcome}
-use Rattle.production_table.specs.Numbers.{guard, is_full, is_negative, repriced, rewanted}
+use Rattle.production_table.specs.Numbers.{guard, is_full, repriced, rewanted}
+use Rattle.fractions.specs.Signs.{is_negative}
 use Rattle.production_table.specs.Tables.{is_label}
 use Rattle.table_rows.specs.declared.faults.SetupFault.{SetupFault}
 use Rattle.table_rows.specs.Setups.{checked_setup}

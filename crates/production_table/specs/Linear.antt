@@ -13,7 +13,8 @@ use Rattle.production_table.specs.declared.faults.TableFault.TheVariants.{Wide a
 use Rattle.production_table.specs.declared.tables.Table.{Table}
 use Rattle.production_table.specs.declared.tables.TableRow.{TableRow}
 use Rattle.production_table.specs.Answers.{Outcome}
-use Rattle.production_table.specs.Numbers.{is_zero, number_of}
+use Rattle.production_table.specs.Numbers.{number_of}
+use Rattle.fractions.specs.Signs.{is_zero}
 use Rattle.table_rows.specs.Columns.{column_of}
 
 -- ---- the columns of all rows, or the first row that has a wide step, with the first such step

@@ -2,6 +2,7 @@
 -- change makes of them, when it is refused, and what it answers, which undoes it.
 use Rattle.std.specs.Prelude.{◌≡◌, ◌≢◌, ◌==◌, ◌&&◌, Bool, true, false, not, nat_lt, is_none, ℤ, pos, negsuc, List, [], ◌∷◌, length, Option, Some, None, Result, Ok, Err, if◌then◌else◌}
 use Rattle.fractions.specs.Fraction.{Fraction, zero_fraction}
+use Rattle.fractions.specs.Signs.{is_negative, is_zero}
 use Rattle.plan_base.specs.declared.ids.GoodId.{GoodId}
 use Rattle.game_types.specs.Steps.{◌▸◌}
 use Rattle.production_table.specs.declared.faults.TableFault.{TableFault}
@@ -19,20 +20,6 @@ guard refuses fault = if refuses then Err fault else Ok tt
 -- whether there are as many as there may be
 abbrev pub is_full : {A : Type 0} → List A → Bool
 is_full things = not (nat_lt (length things) 512)
-
-abbrev pub is_below_zero : ℤ → Bool
-is_below_zero (pos n) = false
-is_below_zero (negsuc n) = true
-
-abbrev pub is_negative : Fraction → Bool
-is_negative x = is_below_zero x.num
-
-abbrev pub is_zero_number : ℤ → Bool
-is_zero_number (pos n) = n == 0
-is_zero_number (negsuc n) = false
-
-abbrev pub is_zero : Fraction → Bool
-is_zero x = is_zero_number x.num
 
 abbrev pub is_pair_of : GoodId → GoodId × Fraction → Bool
 is_pair_of good pair = pair.0.0 == good.0

@@ -10,9 +10,9 @@ ghost use Rattle.production_table.specs.Tables.{GoodsRise, IsOfGame, IsSoundTabl
 ghost use Rattle.table_rows.specs.Columns.{column_of};
 ghost use Rattle.table_rows.specs.Setups.{IsFitting};
 
-use crate::numbers::{is_zero, number_of};
+use crate::numbers::number_of;
 use crate::{LIMIT, Table, TableFault, TableRow};
-use fractions::Ratio;
+use fractions::{Ratio, is_zero};
 use game_types::Game;
 use linear_table::{Column, Linear, LinearColumn};
 use plan_base::{GoodId, Items, NoMemory, Text};

@@ -1,9 +1,9 @@
 //! Numbers of goods: wants, and the prices of what may come in and go out, in the order of goods.
 ghost use Rattle.std.specs.Prelude.{◌≡◌, OnErr, OnOk, position};
-ghost use Rattle.production_table.specs.Numbers.{guard, is_negative, is_pair_of, is_zero, lacks, no_room, number_of, or_nothing, price_fits, put_or_take, repriced, want_fits, rewanted, with_number, without_number, ListChanges};
+ghost use Rattle.production_table.specs.Numbers.{guard, is_pair_of, lacks, no_room, number_of, or_nothing, price_fits, put_or_take, repriced, want_fits, rewanted, with_number, without_number, ListChanges};
 
 use crate::{LIMIT, TableFault};
-use fractions::Ratio;
+use fractions::{Ratio, is_negative, is_zero};
 use plan_base::{GoodId, Items, NoMemory};
 use std::alloc::Global;
 use std::mem;
@@ -82,20 +82,6 @@ fn take(alloc: Global, pairs: &mut Items<(GoodId, Ratio)>, good: GoodId)
     let mut list = mem::replace(pairs, none).into_vec();
     take_number(&mut list, good);
     *pairs = Items::from_vec(list);
-}
-
-// Whether a number is below 0.
-fn is_negative(number: &Ratio) -> bool
-    ensures { result ≡ is_negative number.now }
-{
-    number.is_neg()
-}
-
-/// Whether a number is 0.
-pub fn is_zero(number: &Ratio) -> bool
-    ensures { result ≡ is_zero number.now }
-{
-    number.is_zero()
 }
 
 /// A fault, or none.

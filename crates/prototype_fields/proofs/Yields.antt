@@ -6,13 +6,14 @@ use Rattle.std.proofs.lemmas.Bool.Decides.{nat_tests}
 use Rattle.std.proofs.lemmas.Int.{ints}
 use Rattle.json_text.specs.Kept.{Kept}
 use Rattle.fractions.specs.Fraction.{Fraction, ◌<ʳ◌, zero_fraction}
-use Rattle.fractions.proofs.Order.{positive_of_num}
 use Rattle.prototype_fields.specs.declared.names.Key.{Key}
 use Rattle.prototype_fields.specs.declared.names.Within.{Within}
 use Rattle.prototype_fields.specs.declared.fault.FieldCode.{FieldCode}
 use Rattle.prototype_fields.specs.declared.fault.FieldCode.TheVariants.{Missing, Limit}
 use Rattle.prototype_fields.specs.Objects.{Object, field}
-use Rattle.prototype_fields.specs.Numbers.{is_positive, up_to_65535, small_whole}
+use Rattle.fractions.specs.Signs.{is_positive}
+use Rattle.fractions.proofs.Signs.{positive_is}
+use Rattle.prototype_fields.specs.Numbers.{up_to_65535, small_whole}
 use Rattle.prototype_fields.specs.Values.{Reading, ◌▸◌, Names, with_names, wrong, in_range, or_wrong, optional, required, or_default, number_in, positive_in, positive, required_positive, positive_or, whole_or, object_in, object_at}
 
 pub record Yields {A E : Type 0} (r : Result A E) (P : A → Type 0) : Type 0 where
@@ -73,11 +74,8 @@ unfolding object_at
 object_there object key within = optional_there (object_in within object key) (field object key)
 
 -- ---- numbers above 0
-above : (n : ℤ) → int_lt (pos 0) n ≡ true → pos 0 <ℤ n
-above n h = grind (arith, ints)
-
 positive_in_yields : (object : Object) (key : Key) (value : Kept) → Yields (positive_in object key value) (λ x. zero_fraction <ʳ x)
-positive_in_yields object key value = whatever (number_in object key value) λ x. in_range_yields object key is_positive x λ h. positive_of_num x (above x.num h)
+positive_in_yields object key value = whatever (number_in object key value) λ x. in_range_yields object key is_positive x (positive_is x)
 
 pub positive_yields : (object : Object) (key : Key) → Yields (positive object key) (λ found. IfSome found (λ x. zero_fraction <ʳ x))
 unfolding positive

@@ -46,15 +46,9 @@ energy_reading measure text = if whole_len text == 0 then Err energy_fault.NoNum
 abbrev pub is_whole_negative : ℤ → Bool
 is_whole_negative n = int_lt n (pos 0)
 
-abbrev pub is_above_zero : ℤ → Bool
-is_above_zero n = int_lt (pos 0) n
-
--- whether a number is at least 0, and above 0
+-- whether a number is at least 0
 abbrev pub is_amount : Fraction → Bool
 is_amount x = not (is_whole_negative x.num)
-
-abbrev pub is_positive : Fraction → Bool
-is_positive x = is_above_zero x.num
 
 abbrev pub up_to_65535 : ℤ → Option ℕ
 up_to_65535 (pos n) = if nat_le n 65535 then Some n else None

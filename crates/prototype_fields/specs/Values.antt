@@ -19,7 +19,8 @@ use Rattle.prototype_fields.specs.declared.fault.FieldCode.{FieldCode}
 use Rattle.prototype_fields.specs.declared.fault.FieldCode.TheVariants.{Missing, WrongKind, Number, Energy, Limit, NoMemory}
 use Rattle.prototype_fields.specs.declared.fault.FieldFault.{FieldFault}
 use Rattle.prototype_fields.specs.Objects.{Object, Member, as_object, as_list, as_text, as_bytes, as_flag, as_number, field}
-use Rattle.prototype_fields.specs.Numbers.{hundredths, numeral_reading, energy_reading, is_amount, is_positive, small_whole}
+use Rattle.fractions.specs.Signs.{is_positive}
+use Rattle.prototype_fields.specs.Numbers.{hundredths, numeral_reading, energy_reading, is_amount, small_whole}
 
 -- ---- what reading gives
 -- a value, or a fault

@@ -7,14 +7,14 @@ ghost use Rattle.prototype_fields.specs.Objects.{field, pair_members, value_at};
 ghost use Rattle.prototype_fields.specs.Seen.{listed_members, object_seen};
 ghost use Rattle.prototype_fields.specs.Values.{Reading, amount, amount_in, amount_or, energy_in, energy_or, fault_at, flag_or, hundredths_or_zero, list, list_or_empty, name, name_or, number, number_in, number_or, object_at, object_element, object_in, object_or_empty, positive, positive_in, positive_or, power, required, required_amount, required_list, required_name, required_object, required_positive, required_power, required_short_list, seen_as, short_list, short_list_or_empty, text, text_in, unless_empty, whole_or};
 
-use crate::numbers::{energy, hundredths, is_amount, is_positive, numeral, small_whole};
+use crate::numbers::{energy, hundredths, is_amount, numeral, small_whole};
 use crate::trees::{
     as_bytes, as_flag, as_list, as_number, as_object, as_text, no_elements, no_members,
     unless_null, value_at,
 };
 use crate::{FieldCode, FieldFault, Key, Within};
 use energy_units::Measure;
-use fractions::{NumeralFault, Ratio};
+use fractions::{NumeralFault, Ratio, is_positive};
 use json_text::{SpanMember, SpanTree};
 
 /// The most elements that a short list has.

@@ -11,7 +11,5 @@ mod trees;
 pub use fault::{FieldCode, FieldFault};
 pub use fields::{Fields, LIST_LIMIT};
 pub use names::{Key, Within};
-pub use numbers::{
-    energy, is_amount, is_less, is_positive, numeral, small_whole, tenth, thirtieth,
-};
-pub use trees::{as_bytes, as_flag, as_list, as_number, as_object, as_text, value_at};
+pub use numbers::{energy, is_amount, is_less, numeral, small_whole, tenth, thirtieth};
+pub use trees::{as_bytes, as_flag, as_list, as_number, as_object, as_text, if_utf8, value_at};

@@ -4,7 +4,7 @@ ghost use Rattle.fractions.specs.Fraction.{◌/ʳ◌, whole_fraction};
 ghost use Rattle.fractions.specs.Limits.{IsBelow};
 ghost use Rattle.fractions.specs.Reading.{ReadsNumeral};
 ghost use Rattle.energy_units.specs.Energy.{Reads};
-ghost use Rattle.prototype_fields.specs.Numbers.{energy_reading, hundredths, is_amount, is_less, is_positive, numeral_reading, small_whole};
+ghost use Rattle.prototype_fields.specs.Numbers.{energy_reading, hundredths, is_amount, is_less, numeral_reading, small_whole};
 
 use energy_units::{EnergyFault, Measure, read_energy, read_power};
 use fractions::{NumeralFault, Ratio, read_numeral};
@@ -66,13 +66,6 @@ pub fn is_amount(number: &Ratio) -> bool
     ensures { result ≡ is_amount number.now }
 {
     !(number.numerator() < 0)
-}
-
-/// Whether a number is above 0.
-pub fn is_positive(number: &Ratio) -> bool
-    ensures { result ≡ is_positive number.now }
-{
-    number.numerator() > 0
 }
 
 /// A whole number of at most 65,535.

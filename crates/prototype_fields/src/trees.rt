@@ -60,8 +60,8 @@ pub fn as_bytes<'t, 'b>(tree: &'t SpanTree<'b>) -> Option<&'t [u8]>
     }
 }
 
-// The text that bytes are, where they are UTF-8.
-fn if_utf8(bytes: &[u8]) -> Option<&str>
+/// The text that bytes are, where they are UTF-8.
+pub fn if_utf8(bytes: &[u8]) -> Option<&str>
     ensures { option_map (λ text. text.now) result ≡ if_utf8 bytes.now }
 {
     match from_utf8(bytes) {

@@ -3,7 +3,7 @@ ghost use Rattle.script_reader.specs.Reading.{Answers};
 ghost use Rattle.script_reader.specs.Lines.{command_of_line, command_spelled, utf8};
 
 use crate::commands::read_words;
-use crate::split::{begins_comment, behind_separators, split_line};
+use crate::split::{begins_comment, behind_separators, split_words};
 use crate::{Command, ScriptFault};
 use std::alloc::Global;
 use std::str::from_utf8;
@@ -20,7 +20,7 @@ fn check_utf8(line: &[u8]) -> Result<(), ScriptFault>
 fn read_command(alloc: Global, line: &[u8]) -> Result<Option<Command>, ScriptFault>
     ensures { Answers (command_spelled line.now) result }
 {
-    let words = match split_line(alloc, line) {
+    let words = match split_words(alloc, line) {
         Ok(words) => words,
         Err(fault) => return Err(fault),
     };

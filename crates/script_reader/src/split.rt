@@ -165,7 +165,7 @@ fn text_of_bytes(bytes: Vec<u8>) -> Option<Text>
 }
 
 /// The words of a line.
-pub fn split_line(alloc: Global, line: &[u8]) -> Result<Items<Text>, ScriptFault>
+pub fn split_words(alloc: Global, line: &[u8]) -> Result<Items<Text>, ScriptFault>
     ensures { Answers (spelled line.now) result }
 {
     let mut words = Vec::new(alloc);

@@ -11,7 +11,7 @@ use Rattle.game_types.specs.declared.games.Game.{Game}
 use Rattle.game_types.specs.declared.setups.Activity.{Activity}
 use Rattle.game_types.specs.declared.setups.Activity.TheVariants.{Craft, Mine, Pump, Generate, Boil, Research}
 use Rattle.game_types.specs.declared.setups.Setup.{Setup}
-use Rattle.game_types.specs.Making.{is_positive}
+use Rattle.fractions.specs.Signs.{is_positive}
 use Rattle.game_types.specs.Nodes.{shape_of}
 use Rattle.production_table.specs.declared.tables.Table.{Table}
 use Rattle.production_table.specs.declared.tables.TableRow.{TableRow}

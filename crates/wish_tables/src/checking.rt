@@ -9,8 +9,8 @@ ghost use Rattle.wish_tables.specs.Answers.{IsAnswer, all_supplied, brings, colu
 
 use crate::reach::{is_marked, is_reached};
 use crate::setups::is_fitting;
-use fractions::Ratio;
-use game_types::{Activity, Game, is_positive};
+use fractions::{Ratio, is_positive};
+use game_types::{Activity, Game};
 use plan_base::{GoodId, Items, Kind, NoMemory};
 use production_table::{Table, TableRow};
 use std::alloc::Global;

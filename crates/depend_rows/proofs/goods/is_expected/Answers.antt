@@ -1,6 +1,6 @@
 use Rattle.std.proofs.Common.{◌∙◌, ap, subst}
 use Rattle.fractions.specs.Fraction.{Fraction, ◌<ʳ◌}
-use Rattle.game_types.specs.Making.{is_positive}
+use Rattle.fractions.specs.Signs.{is_positive}
 use Rattle.depend_rows.proofs.Signs.{expected_less, expected_equal, expected_greater}
 use Rattle.depend_rows.proofs.goods.is_expected.Goals as goal
 

@@ -1,4 +1,5 @@
-use Rattle.game_types.specs.Making.{is_positive, expected_amount}
+use Rattle.game_types.specs.Making.{expected_amount}
+use Rattle.fractions.specs.Signs.{is_positive}
 use Rattle.depend_rows.proofs.KeyLemmas.{KeysSoFar}
 use Rattle.depend_rows.proofs.index.goods_given.Given as goal
 

@@ -1,12 +1,27 @@
--- The signs of numbers.
-use Rattle.std.proofs.Common.{◌≡◌, ◌∙◌, refl, sym, ap, arith}
-use Rattle.std.specs.Prelude.{Bool, true, false, IsTrue, ◌↔◌, ℤ, pos, negsuc, ◌≤ℤ◌, ◌<ℤ◌, ◌≢◌}
+-- What the tests of signs show.
+use Rattle.std.proofs.Common.{◌≡◌, refl, ap, arith}
+use Rattle.std.specs.Prelude.{Bool, true, false, ℤ, pos, negsuc, ◌≤ℤ◌, ◌<ℤ◌, ◌<◌, ◌≢◌}
 use Rattle.std.proofs.lemmas.Int.{ints}
 use Rattle.std.proofs.lemmas.Bool.Decides.{nat_tests}
 use Rattle.fractions.specs.Fraction.{Fraction, zero_fraction, ◌≤ʳ◌, ◌<ʳ◌}
-use Rattle.fractions.proofs.Order.{num_of_nonneg, nonneg_of_num, num_of_positive, positive_of_num, <ʳ_not_≤ʳ, ≤ʳ_from_not_<ʳ}
+use Rattle.fractions.specs.Signs.{is_above_zero, is_positive, is_below_zero, is_negative, is_zero, is_zero_number}
+use Rattle.fractions.proofs.Order.{num_of_nonneg, nonneg_of_num, num_of_positive, positive_of_num, <ʳ_not_≤ʳ}
 use Rattle.fractions.proofs.Parts.{num-zero}
-use Rattle.production_table.specs.Numbers.{is_below_zero, is_negative, is_zero, is_zero_number}
+
+-- ---- above 0
+above_zero : (z : ℤ) → is_above_zero z ≡ true → pos 0 <ℤ z
+above_zero (pos n) h = let k : 0 < n = grind (arith, nat_tests) in omega (arith, ints)
+above_zero (negsuc n) h = absurd (cc)
+
+pub positive_is : (x : Fraction) → is_positive x ≡ true → zero_fraction <ʳ x
+positive_is x h = positive_of_num x (above_zero x.num h)
+
+above : (z : ℤ) → pos 0 <ℤ z → is_above_zero z ≡ true
+above (pos n) h = grind (arith, ints, nat_tests)
+above (negsuc n) h = absurd (omega (arith, ints))
+
+pub is_positive_when : (x : Fraction) → zero_fraction <ʳ x → is_positive x ≡ true
+is_positive_when x h = above x.num (num_of_positive x h)
 
 -- ---- below 0
 below : (z : ℤ) → ¬ (pos 0 ≤ℤ z) → is_below_zero z ≡ true
@@ -22,10 +37,6 @@ not_below (negsuc n) h = absurd (omega (arith, ints))
 
 pub not_negative : (x : Fraction) → zero_fraction ≤ʳ x → is_negative x ≡ false
 not_negative x h = not_below x.num (num_of_nonneg x h)
-
-pub negative_decided : (x : Fraction) (b : Bool) → (IsTrue b ↔ (x <ʳ zero_fraction)) → b ≡ is_negative x
-negative_decided x true h = sym (negative_is x (h.0 refl))
-negative_decided x false h = sym (not_negative x (≤ʳ_from_not_<ʳ zero_fraction x (λ k. let t : false ≡ true = h.1 k in absurd (cc))))
 
 fair : (z : ℤ) → is_below_zero z ≡ false → pos 0 ≤ℤ z
 fair (pos n) h = omega (arith, ints)
@@ -46,20 +57,13 @@ pub zero_of : is_zero zero_fraction ≡ true
 unfolding zero_fraction
 zero_of = refl
 
-pub zero_decided : (x : Fraction) (b : Bool) → (IsTrue b ↔ (x ≡ zero_fraction)) → b ≡ is_zero x
-zero_decided x true h = sym (ap (λ (y : Fraction). is_zero y) (h.0 refl) ∙ zero_of)
-zero_decided x false h = by_test (is_zero x) refl
-  where
-    by_test : (b : Bool) → is_zero x ≡ b → false ≡ is_zero x
-    by_test false e = sym e
-    by_test true e = absurd (let t : false ≡ true = h.1 (zero_is x e) in cc)
-
 more : (z : ℤ) → is_below_zero z ≡ false → is_zero_number z ≡ false → pos 0 <ℤ z
 more (pos n) h k = let e : n ≢ 0 = grind (arith, nat_tests) in omega (arith, ints)
 more (negsuc n) h k = absurd (cc)
 
-pub positive_is : (x : Fraction) → is_negative x ≡ false → is_zero x ≡ false → zero_fraction <ʳ x
-positive_is x h k = positive_of_num x (more x.num h k)
+-- what is neither below 0 nor 0 is above 0
+pub positive_left : (x : Fraction) → is_negative x ≡ false → is_zero x ≡ false → zero_fraction <ʳ x
+positive_left x h k = positive_of_num x (more x.num h k)
 
 pub zero_not_negative : is_negative zero_fraction ≡ false
 unfolding zero_fraction

@@ -4,7 +4,7 @@ use Rattle.script_reader.specs.Reading.{Answers}
 use Rattle.script_reader.specs.Lines.{spelled}
 use Rattle.script_reader.proofs.Readings.{answers_memory}
 use Rattle.script_reader.proofs.Splits.{so_far_none, so_far_more, so_far_end, quoting_fault, no_text, shorter}
-use Rattle.script_reader.proofs.split.split_line.Goals as goal
+use Rattle.script_reader.proofs.split.split_words.Goals as goal
 
 pub loop-rest-init : goal.loop-rest-init
 loop-rest-init c = so_far_none c.args.line.now c.behind_separators-rest.result.now c.new-words.result.items c.behind_separators-rest.ensures c.new-words.ensures.items
