@@ -10,7 +10,7 @@ use Rattle.fractions.proofs.Order.{num_of_positive, positive_frac, positive-*ʳ,
 use Rattle.game_types.specs.Making.{expected_amount}
 use Rattle.fractions.specs.Signs.{is_positive}
 use Rattle.game_types.specs.declared.recipes.Product.{Product}
-use Rattle.fractions.proofs.Signs.{is_positive_when, positive_is}
+use Rattle.fractions.proofs.SignLemmas.{is_positive_when, positive_is}
 
 decided : (b : Bool) → (b ≡ true → ⊥) → b ≡ false
 decided true h = absurd (h refl)

@@ -12,7 +12,7 @@ use Rattle.game_types.specs.Fuels.{burnt_in, burner_effectivity, fuel_of_good, s
 use Rattle.game_types.specs.Lookups.{item_at, machine_at}
 use Rattle.fractions.specs.Signs.{is_positive}
 use Rattle.game_types.specs.Sound.{IsSoundEnergy}
-use Rattle.fractions.proofs.Signs.{positive_is}
+use Rattle.fractions.proofs.SignLemmas.{positive_is}
 
 chosen : {A E : Type 0} (b : Bool) (x : A) (e : E) → IsOk (if b then Ok x else Err e) → b ≡ true
 chosen true x e h = refl

@@ -12,7 +12,7 @@ use Rattle.game_types.specs.declared.machinery.MachineKind.TheVariants.{Generato
 use Rattle.fractions.specs.Signs.{is_positive}
 use Rattle.game_types.specs.Steps.{multiplied, subtracted, formed, do_fit}
 use Rattle.game_types.specs.Temperatures.{is_cooler}
-use Rattle.fractions.proofs.Signs.{positive_is}
+use Rattle.fractions.proofs.SignLemmas.{positive_is}
 use Rattle.game_types.proofs.StepLemmas.{multiplied_value}
 use Rattle.power_rows.specs.Power.{at_most, checked_power, heats_nothing, is_idle, is_shut, gives_nothing, makes, power_fits}
 use Rattle.power_rows.specs.Inputs.{fluid_in}

@@ -17,7 +17,7 @@ use Rattle.fractions.specs.Signs.{is_zero}
 use Rattle.production_table.specs.Tables.{Rises}
 use Rattle.production_table.proofs.Columns.{of_row_is, through, EachRises}
 use Rattle.production_table.proofs.Places.{place_is_spot, spot, spot_get, AllIn, EachIn, Has}
-use Rattle.fractions.proofs.Signs.{zero_is}
+use Rattle.fractions.proofs.SignLemmas.{zero_is}
 use Rattle.production_laws.specs.Amounts.{amount_in, where_same}
 use Rattle.production_laws.specs.Balance.{column_amount, rate_of, row_amount, weighted}
 use Rattle.production_laws.proofs.Lists.{column_sum}

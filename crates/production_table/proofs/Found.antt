@@ -10,7 +10,7 @@ use Rattle.production_table.specs.declared.faults.TableFault.TheVariants.{Unknow
 use Rattle.production_table.specs.declared.tables.Table.{Table}
 use Rattle.production_table.specs.declared.tables.TableRow.{TableRow}
 use Rattle.production_table.specs.Numbers.{guard}
-use Rattle.fractions.proofs.Signs.{negative_is, not_negative}
+use Rattle.fractions.proofs.SignLemmas.{negative_is, not_negative}
 use Rattle.production_table.specs.Changes.{dropped, place_of, priced, with_price, without_row}
 use Rattle.production_table.specs.Tables.{is_label}
 

@@ -12,7 +12,7 @@ use Rattle.production_table.specs.Answers.{Outcome}
 use Rattle.production_table.specs.Numbers.{guard, is_full, no_room, number_of, price_fits, put_or_take, repriced, rewanted, want_fits, with_number, without_number}
 use Rattle.fractions.specs.Signs.{is_negative, is_zero}
 use Rattle.production_table.specs.Tables.{Rises}
-use Rattle.fractions.proofs.Signs.{nonneg_is, positive_left}
+use Rattle.fractions.proofs.SignLemmas.{nonneg_is, positive_left}
 
 -- ---- order
 pub lower : (low more : ℕ) → (ps : List (GoodId × Fraction)) → low ≤ more → Rises more ps → Rises low ps

@@ -20,7 +20,7 @@ use Rattle.production_table.specs.Tables.{is_label, HasOwnLabels, IsSoundTable}
 use Rattle.production_table.proofs.Pairs.{same_parts}
 use Rattle.production_table.proofs.Added.{new_is}
 use Rattle.production_table.proofs.Labels.{any_at, differ, or_false, false_or}
-use Rattle.fractions.proofs.Signs.{not_negative}
+use Rattle.fractions.proofs.SignLemmas.{not_negative}
 
 own_label : (label : List ℕ) → bytes_eq label label ≡ true
 own_label label = (bytes_eq-Decides label label).1 refl

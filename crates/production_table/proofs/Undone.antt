@@ -16,7 +16,7 @@ use Rattle.production_table.specs.Tables.{Rises}
 use Rattle.production_table.proofs.Pairs.{same_parts}
 use Rattle.production_table.proofs.NumberLemmas.{put_behind}
 use Rattle.production_table.proofs.NumberSound.{number_below, IsSoundList}
-use Rattle.fractions.proofs.Signs.{not_negative, positive_not_zero, zero_not_negative, zero_of}
+use Rattle.fractions.proofs.SignLemmas.{not_negative, positive_not_zero, zero_not_negative, zero_of}
 use Rattle.table_rows.proofs.Parts.{first_branch, second_branch}
 
 -- ---- one good against another

@@ -12,7 +12,7 @@ use Rattle.prototype_fields.specs.declared.fault.FieldCode.{FieldCode}
 use Rattle.prototype_fields.specs.declared.fault.FieldCode.TheVariants.{Missing, Limit}
 use Rattle.prototype_fields.specs.Objects.{Object, field}
 use Rattle.fractions.specs.Signs.{is_positive}
-use Rattle.fractions.proofs.Signs.{positive_is}
+use Rattle.fractions.proofs.SignLemmas.{positive_is}
 use Rattle.prototype_fields.specs.Numbers.{up_to_65535, small_whole}
 use Rattle.prototype_fields.specs.Values.{Reading, ◌▸◌, Names, with_names, wrong, in_range, or_wrong, optional, required, or_default, number_in, positive_in, positive, required_positive, positive_or, whole_or, object_in, object_at}
 
