@@ -3,7 +3,7 @@ use Rattle.std.proofs.Common.{◌≡◌, ◌∙◌, ℕ, List, refl, sym, subst,
 use Rattle.std.specs.Prelude.{Result, Ok, Err, MatchResult, Some}
 use Rattle.serde_json.specs.Data.{Data, number, unsigned}
 use Rattle.serde_json.specs.Find.{get}
-use Rattle.certificate_file.specs.Reading.{Gives}
+use Rattle.certificate_file.specs.Reading.{ReadsBy}
 use Rattle.certificate_file.specs.Said.{Has, IsCertificate, IsCertFault, IsJson, SaysCertificate, SaysEntry, SaysList}
 use Rattle.certificate_file.specs.declared.CertEntry.{CertEntry}
 use Rattle.certificate_file.specs.declared.CertFault.{CertFault}
@@ -14,11 +14,11 @@ of_member Says key d m x is (n, is_too, says) =
     let same : n ≡ m = let both = sym is_too ∙ is in cc in
     subst (λ (e : Data). Says e x) same says
 
-pub member_gives : {A : Type 0} (Says : Data → A → Type 0) (key : List ℕ) (d m : Data) (r : Result A CertFault) → get key d ≡ Some m → Gives (Says m) r → Gives (λ x. Has key d (λ n. Says n x)) r
+pub member_gives : {A : Type 0} (Says : Data → A → Type 0) (key : List ℕ) (d m : Data) (r : Result A CertFault) → get key d ≡ Some m → ReadsBy (Says m) r → ReadsBy (λ x. Has key d (λ n. Says n x)) r
 member_gives Says key d m (Ok x) is given = (m, is, given)
 member_gives Says key d m (Err fault) is given = (λ bad x has. given.0 bad x (of_member Says key d m x is has), given.1)
 
-pub certificate_gives : (d m : Data) (r : Result (List CertEntry) CertFault) → get (codes "version") d ≡ Some (number (unsigned 1)) → get (codes "answers") d ≡ Some m → Gives (SaysList SaysEntry m) r → Gives (SaysCertificate d) r
+pub certificate_gives : (d m : Data) (r : Result (List CertEntry) CertFault) → get (codes "version") d ≡ Some (number (unsigned 1)) → get (codes "answers") d ≡ Some m → ReadsBy (SaysList SaysEntry m) r → ReadsBy (SaysCertificate d) r
 certificate_gives d m (Ok es) version is given = record { version = version; answers = (m, is, given) }
 certificate_gives d m (Err fault) version is given = (λ bad es says. given.0 bad es (of_member (SaysList SaysEntry) (codes "answers") d m es is says.answers), given.1)
 
@@ -27,11 +27,11 @@ of_json bytes d es json says =
     let same : says.data_ ≡ d = let both = sym says.json.value ∙ json.value in cc in
     subst (λ (e : Data). SaysCertificate e es) same says.says
 
-fault_given : (bytes : List ℕ) (d : Data) (fault : CertFault) → IsJson bytes d → Gives (SaysCertificate d) (Err fault) → IsCertFault bytes fault
+fault_given : (bytes : List ℕ) (d : Data) (fault : CertFault) → IsJson bytes d → ReadsBy (SaysCertificate d) (Err fault) → IsCertFault bytes fault
 fault_given bytes d NoMemory json given = tt
 fault_given bytes d NotJson json given = absurd (given.1 refl)
 fault_given bytes d BadForm json given = ((d, json), λ es says. given.0 refl es (of_json bytes d es json says))
 
-pub certificate_read : (bytes : List ℕ) (d : Data) (r : Result (List CertEntry) CertFault) → IsJson bytes d → Gives (SaysCertificate d) r → MatchResult r (IsCertificate bytes) (IsCertFault bytes)
+pub certificate_read : (bytes : List ℕ) (d : Data) (r : Result (List CertEntry) CertFault) → IsJson bytes d → ReadsBy (SaysCertificate d) r → MatchResult r (IsCertificate bytes) (IsCertFault bytes)
 certificate_read bytes d (Ok es) json given = record { data_ = d; json = json; says = given }
 certificate_read bytes d (Err fault) json given = fault_given bytes d fault json given

@@ -4,7 +4,7 @@ ghost use Rattle.fractions.specs.Fraction.{Fraction};
 ghost use Rattle.serde_json.specs.Data.{Data, array, boolean, number, unsigned};
 ghost use Rattle.serde_json.specs.Find.{get};
 ghost use Rattle.serde_json.specs.View.{items_view, view};
-ghost use Rattle.certificate_file.specs.Reading.{Gives};
+ghost use Rattle.certificate_file.specs.Reading.{ReadsBy};
 ghost use Rattle.certificate_file.specs.Said.{EachSays, Has, IsCertificate, IsCertFault, SaysCertificate, SaysClaim, SaysEntry, SaysFraction, SaysList, SaysPlan, IsLineOf, IsJson};
 
 use crate::{CertEntry, CertFault, Claim, LAST_LINE};
@@ -44,7 +44,7 @@ fn fraction_in(value: &Value) -> Option<Ratio>
 }
 
 fn fractions_of(alloc: Global, values: &[Value]) -> Result<Items<Ratio>, CertFault>
-    ensures { Gives (EachSays SaysFraction (items_view values.now)) result }
+    ensures { ReadsBy (EachSays SaysFraction (items_view values.now)) result }
 {
     let mut found = Vec::new(alloc);
     for value in values {
@@ -59,7 +59,7 @@ fn fractions_of(alloc: Global, values: &[Value]) -> Result<Items<Ratio>, CertFau
 }
 
 fn fractions_in(alloc: Global, value: &Value) -> Result<Items<Ratio>, CertFault>
-    ensures { Gives (SaysList SaysFraction (view value.now)) result }
+    ensures { ReadsBy (SaysList SaysFraction (view value.now)) result }
 {
     match value.as_array() {
         Some(values) => fractions_of(alloc, values),
@@ -75,7 +75,7 @@ fn number_at(value: &Value, key: &str) -> Option<u64>
 }
 
 fn fraction_at(value: &Value, key: &str) -> Result<Ratio, CertFault>
-    ensures { Gives (λ x. Has key.now (view value.now) (λ m. SaysFraction m x)) result }
+    ensures { ReadsBy (λ x. Has key.now (view value.now) (λ m. SaysFraction m x)) result }
 {
     let Some(member) = value.get(key) else {
         return Err(CertFault::BadForm);
@@ -84,7 +84,7 @@ fn fraction_at(value: &Value, key: &str) -> Result<Ratio, CertFault>
 }
 
 fn fractions_at(alloc: Global, value: &Value, key: &str) -> Result<Items<Ratio>, CertFault>
-    ensures { Gives (λ xs. Has key.now (view value.now) (λ m. SaysList SaysFraction m xs)) result }
+    ensures { ReadsBy (λ xs. Has key.now (view value.now) (λ m. SaysList SaysFraction m xs)) result }
 {
     match value.get(key) {
         Some(member) => fractions_in(alloc, member),
@@ -93,7 +93,7 @@ fn fractions_at(alloc: Global, value: &Value, key: &str) -> Result<Items<Ratio>,
 }
 
 fn plan_in(alloc: Global, value: &Value) -> Result<Plan, CertFault>
-    ensures { Gives (SaysPlan (view value.now)) result }
+    ensures { ReadsBy (SaysPlan (view value.now)) result }
 {
     let rates = match fractions_at(alloc, value, "rates") {
         Ok(rates) => rates,
@@ -115,7 +115,7 @@ fn plan_in(alloc: Global, value: &Value) -> Result<Plan, CertFault>
 }
 
 fn plan_claim(alloc: Global, plan: &Value) -> Result<Claim, CertFault>
-    ensures { Gives (SaysClaim (Some (view plan.now)) None None) result }
+    ensures { ReadsBy (SaysClaim (Some (view plan.now)) None None) result }
 {
     match plan_in(alloc, plan) {
         Ok(plan) => Ok(Claim::Planned(plan)),
@@ -124,7 +124,7 @@ fn plan_claim(alloc: Global, plan: &Value) -> Result<Claim, CertFault>
 }
 
 fn infeasible_claim(alloc: Global, prices: &Value) -> Result<Claim, CertFault>
-    ensures { Gives (SaysClaim None (Some (view prices.now)) None) result }
+    ensures { ReadsBy (SaysClaim None (Some (view prices.now)) None) result }
 {
     match fractions_in(alloc, prices) {
         Ok(prices) => Ok(Claim::Infeasible(prices)),
@@ -133,7 +133,7 @@ fn infeasible_claim(alloc: Global, prices: &Value) -> Result<Claim, CertFault>
 }
 
 fn open_claim(mark: &Value) -> Result<Claim, CertFault>
-    ensures { Gives (SaysClaim None None (Some (view mark.now))) result }
+    ensures { ReadsBy (SaysClaim None None (Some (view mark.now))) result }
 {
     match mark.as_bool() {
         Some(true) => Ok(Claim::Unsettled),
@@ -149,7 +149,7 @@ fn has(value: &Value, key: &str) -> bool
 
 // A plan, where nothing else is claimed.
 fn only_plan(alloc: Global, entry: &Value, plan: &Value) -> Result<Claim, CertFault>
-    ensures { Gives (SaysClaim (Some (view plan.now)) (get (codes "infeasible") (view entry.now)) (get (codes "open") (view entry.now))) result }
+    ensures { ReadsBy (SaysClaim (Some (view plan.now)) (get (codes "infeasible") (view entry.now)) (get (codes "open") (view entry.now))) result }
 {
     if has(entry, "infeasible") || has(entry, "open") {
         return Err(CertFault::BadForm);
@@ -159,7 +159,7 @@ fn only_plan(alloc: Global, entry: &Value, plan: &Value) -> Result<Claim, CertFa
 
 // Prices that show that there is no plan, where nothing else is claimed.
 fn only_prices(alloc: Global, entry: &Value, prices: &Value) -> Result<Claim, CertFault>
-    ensures { Gives (SaysClaim None (Some (view prices.now)) (get (codes "open") (view entry.now))) result }
+    ensures { ReadsBy (SaysClaim None (Some (view prices.now)) (get (codes "open") (view entry.now))) result }
 {
     if has(entry, "open") {
         return Err(CertFault::BadForm);
@@ -168,7 +168,7 @@ fn only_prices(alloc: Global, entry: &Value, prices: &Value) -> Result<Claim, Ce
 }
 
 fn other_claim(alloc: Global, entry: &Value) -> Result<Claim, CertFault>
-    ensures { Gives (SaysClaim None (get (codes "infeasible") (view entry.now)) (get (codes "open") (view entry.now))) result }
+    ensures { ReadsBy (SaysClaim None (get (codes "infeasible") (view entry.now)) (get (codes "open") (view entry.now))) result }
 {
     if let Some(prices) = entry.get("infeasible") {
         return only_prices(alloc, entry, prices);
@@ -180,7 +180,7 @@ fn other_claim(alloc: Global, entry: &Value) -> Result<Claim, CertFault>
 }
 
 fn claim_in(alloc: Global, entry: &Value) -> Result<Claim, CertFault>
-    ensures { Gives (SaysClaim (get (codes "plan") (view entry.now)) (get (codes "infeasible") (view entry.now)) (get (codes "open") (view entry.now))) result }
+    ensures { ReadsBy (SaysClaim (get (codes "plan") (view entry.now)) (get (codes "infeasible") (view entry.now)) (get (codes "open") (view entry.now))) result }
 {
     match entry.get("plan") {
         Some(plan) => only_plan(alloc, entry, plan),
@@ -190,7 +190,7 @@ fn claim_in(alloc: Global, entry: &Value) -> Result<Claim, CertFault>
 
 // The line that a value says.
 fn line_in(entry: &Value) -> Result<u32, CertFault>
-    ensures { Gives (IsLineOf (view entry.now)) result }
+    ensures { ReadsBy (IsLineOf (view entry.now)) result }
 {
     match number_at(entry, "line") {
         Some(line) if 1 <= line && line <= LAST_LINE => Ok(line as u32),
@@ -199,7 +199,7 @@ fn line_in(entry: &Value) -> Result<u32, CertFault>
 }
 
 fn entry_in(alloc: Global, entry: &Value) -> Result<CertEntry, CertFault>
-    ensures { Gives (SaysEntry (view entry.now)) result }
+    ensures { ReadsBy (SaysEntry (view entry.now)) result }
 {
     let line = match line_in(entry) {
         Ok(line) => line,
@@ -212,7 +212,7 @@ fn entry_in(alloc: Global, entry: &Value) -> Result<CertEntry, CertFault>
 }
 
 fn entries_of(alloc: Global, values: &[Value]) -> Result<Items<CertEntry>, CertFault>
-    ensures { Gives (EachSays SaysEntry (items_view values.now)) result }
+    ensures { ReadsBy (EachSays SaysEntry (items_view values.now)) result }
 {
     let mut found = Vec::new(alloc);
     for value in values {
@@ -228,7 +228,7 @@ fn entries_of(alloc: Global, values: &[Value]) -> Result<Items<CertEntry>, CertF
 }
 
 fn answers_in(alloc: Global, value: &Value) -> Result<Items<CertEntry>, CertFault>
-    ensures { Gives (SaysList SaysEntry (view value.now)) result }
+    ensures { ReadsBy (SaysList SaysEntry (view value.now)) result }
 {
     match value.as_array() {
         Some(values) => entries_of(alloc, values),
@@ -246,7 +246,7 @@ fn is_version(value: &Value) -> bool
 }
 
 fn certificate_in(alloc: Global, value: &Value) -> Result<Items<CertEntry>, CertFault>
-    ensures { Gives (SaysCertificate (view value.now)) result }
+    ensures { ReadsBy (SaysCertificate (view value.now)) result }
 {
     if !is_version(value) {
         return Err(CertFault::BadForm);

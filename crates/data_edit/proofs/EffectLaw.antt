@@ -24,7 +24,8 @@ use Rattle.data_edit.specs.declared.parts.Inverse.TheVariants.{Recipe as OfRecip
 use Rattle.data_edit.specs.declared.parts.RecipePart.TheVariants.{Ingredients, Products, Time, Enabled}
 use Rattle.data_edit.specs.Lists.{is_fraction, is_part, is_product, is_unlock, part_key, plain_part, plain_product, product_key, same_lists, with_entry, without}
 use Rattle.data_edit.specs.Faults.{Outcome, ◌▸◌, changed_flag, changed_list, changed_time, known, known_below, positive}
-use Rattle.data_edit.specs.Edits.{changed_at, effect, enabled_set, good_in, ingredients_dropped, ingredients_set, mark_set, products_dropped, products_set, recipe_in, restored, tech_in, time_set, unlocks_set, unlocks_switched, with_at, with_mark, with_recipe_part, with_unlocks}
+use Rattle.data_edit.specs.Edits.{effect, enabled_set, good_in, ingredients_dropped, ingredients_set, mark_set, products_dropped, products_set, recipe_in, restored, tech_in, time_set, unlocks_set, unlocks_switched, with_mark, with_recipe_part, with_unlocks}
+use Rattle.plan_base.specs.Places.{changed_at, with_at}
 use Rattle.data_edit.specs.CarriedOut.{Accepts, RefusesNoChange, carried_out}
 use Rattle.data_edit.proofs.Sameness.{Decides-fraction, Decides-lists, Decides-part, Decides-product, Decides-unlock}
 

@@ -11,8 +11,9 @@ use Rattle.data_edit.specs.declared.parts.Inverse.TheVariants.{Recipe as OfRecip
 use Rattle.data_edit.specs.declared.parts.RecipePart.{RecipePart}
 use Rattle.data_edit.specs.declared.parts.RecipePart.TheVariants.{Ingredients, Products, Time, Enabled}
 use Rattle.data_edit.specs.Names.{KeepsGame}
-use Rattle.data_edit.specs.Edits.{changed_at, effect, replacement, restored, with_at, with_recipe_part, with_unlocks}
-use Rattle.data_edit.proofs.Places.{with_at-past}
+use Rattle.data_edit.specs.Edits.{effect, replacement, restored, with_recipe_part, with_unlocks}
+use Rattle.plan_base.specs.Places.{changed_at, with_at}
+use Rattle.plan_base.proofs.Places.{with_at-past}
 use Rattle.data_edit.proofs.Soundness.{bind_ok, length-with_at}
 
 changed-suc : {A : Type 0} (f : A → A) (p : ℕ) (x : A) (xs : List A) (o : Option A) → changed_at f (suc p) (x ∷ xs) o ≡ x ∷ changed_at f p xs o

@@ -1,5 +1,4 @@
 pub mod EntryLoops
-pub mod Places
 pub mod Soundness
 pub mod Sameness
 pub mod EffectLaw

@@ -39,7 +39,8 @@ use Rattle.data_edit.specs.declared.parts.Inverse.{Inverse}
 use Rattle.data_edit.specs.declared.parts.Inverse.TheVariants.{Recipe as OfRecipe, Unlocks, Barred, Granted}
 use Rattle.data_edit.specs.Lists.{part_key, product_key, unlock_key, is_part, is_product, is_unlock, names_recipe, plain_part, plain_product, same_lists, with_entry, with_unlock, without}
 use Rattle.data_edit.specs.Faults.{Outcome, ◌▸◌, known, known_below, positive, changed_list}
-use Rattle.data_edit.specs.Edits.{changed_at, with_at, with_recipe_part, with_unlocks, with_mark, restored, recipe_in, tech_in, good_in, ingredients_set, ingredients_dropped, products_set, products_dropped, unlocks_switched, unlocks_set, time_set, enabled_set, mark_set, replacement}
+use Rattle.data_edit.specs.Edits.{with_recipe_part, with_unlocks, with_mark, restored, recipe_in, tech_in, good_in, ingredients_set, ingredients_dropped, products_set, products_dropped, unlocks_switched, unlocks_set, time_set, enabled_set, mark_set, replacement}
+use Rattle.plan_base.specs.Places.{changed_at, with_at}
 
 -- ---- another list of recipes and of technologies, each as long as before
 abbrev pub changed_game : Game → List Recipe → List Tech → Game

@@ -11,7 +11,8 @@ use Rattle.data_edit.specs.declared.edits.Edit.TheVariants.{SetIngredient, DropI
 use Rattle.data_edit.specs.declared.edits.EditFault.TheVariants.{NoChange}
 use Rattle.data_edit.specs.Lists.{part_key, plain_part, plain_product, product_key, with_entry, without}
 use Rattle.data_edit.specs.Faults.{Outcome}
-use Rattle.data_edit.specs.Edits.{effect, unlocks_switched, with_at}
+use Rattle.data_edit.specs.Edits.{effect, unlocks_switched}
+use Rattle.plan_base.specs.Places.{with_at}
 
 -- the book with a recipe, a technology changed
 abbrev pub with_recipe : (Recipe → Recipe) → RecipeId → Book → Book

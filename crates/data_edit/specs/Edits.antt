@@ -1,5 +1,6 @@
 -- What each edit does to a book. An edit changes one part of it, and every other part stays.
-use Rattle.std.specs.Prelude.{◌≡◌, ℕ, ◌+◌, Bool, true, false, List, length, Option, Some, None, Result, Ok, Err, slice_get, slice_set}
+use Rattle.std.specs.Prelude.{◌≡◌, ℕ, ◌+◌, Bool, true, false, List, length, Option, Some, None, Result, Ok, Err, slice_get}
+use Rattle.plan_base.specs.Places.{with_at}
 use Rattle.fractions.specs.Fraction.{Fraction}
 use Rattle.plan_base.specs.declared.GoodId.{GoodId}
 use Rattle.plan_base.specs.declared.NodeId.{NodeId}
@@ -22,14 +23,6 @@ use Rattle.data_edit.specs.Lists.{part_key, product_key, unlock_key, is_part, is
 use Rattle.data_edit.specs.Faults.{Outcome, ◌▸◌, known, known_below, positive, changed_list, changed_time, changed_flag, Gives}
 
 -- ---- a part in place of another
--- the list with its element at a place changed, where there is one
-abbrev pub changed_at : {A : Type 0} → (A → A) → ℕ → List A → Option A → List A
-changed_at change place list None = list
-changed_at change place list (Some old) = slice_set list place (change old)
-
-unfoldable pub with_at : {A : Type 0} → (A → A) → ℕ → List A → List A
-with_at change place list = changed_at change place list (slice_get list place)
-
 abbrev pub with_recipe_part : RecipePart → Recipe → Recipe
 with_recipe_part (Ingredients list) recipe = record recipe { ingredients = list }
 with_recipe_part (Products list) recipe = record recipe { products = list }

@@ -1,6 +1,7 @@
 //! Parts of a book put in the place of others. Nothing here takes memory.
 ghost use Rattle.std.specs.Prelude.{◌≡◌, ℕ, length};
-ghost use Rattle.data_edit.specs.Edits.{restored, with_at, with_mark, with_recipe_part, with_unlocks};
+ghost use Rattle.data_edit.specs.Edits.{restored, with_mark, with_recipe_part, with_unlocks};
+ghost use Rattle.plan_base.specs.Places.{with_at};
 
 use crate::{Book, Inverse, RecipePart};
 use game_types::{Recipe, Tech};

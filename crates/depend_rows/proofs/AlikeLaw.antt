@@ -8,7 +8,8 @@ use Rattle.game_types.specs.declared.recipes.Product.{Product}
 use Rattle.game_types.specs.declared.recipes.Recipe.{Recipe}
 use Rattle.game_types.specs.declared.research.Tech.{Tech}
 use Rattle.data_edit.specs.CarriedOut.{carried_out}
-use Rattle.data_edit.specs.Edits.{effect, unlocks_switched, with_at}
+use Rattle.data_edit.specs.Edits.{effect, unlocks_switched}
+use Rattle.plan_base.specs.Places.{with_at}
 use Rattle.data_edit.specs.Lists.{part_key, plain_part, plain_product, product_key, with_entry, without}
 use Rattle.data_edit.specs.declared.books.Book.{Book}
 use Rattle.data_edit.specs.declared.edits.Edit.{Edit}

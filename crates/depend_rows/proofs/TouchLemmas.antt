@@ -30,13 +30,14 @@ use Rattle.game_types.specs.declared.recipes.Source.{Source}
 use Rattle.game_types.specs.declared.machinery.Machine.{Machine}
 use Rattle.game_types.specs.declared.research.Tech.{Tech}
 use Rattle.data_edit.specs.CarriedOut.{carried_out, with_recipe, with_tech}
-use Rattle.data_edit.specs.Edits.{changed_at, unlocks_switched, with_at}
+use Rattle.data_edit.specs.Edits.{unlocks_switched}
+use Rattle.plan_base.specs.Places.{changed_at, with_at}
 use Rattle.data_edit.specs.Lists.{part_key, plain_part, plain_product, product_key, unlock_key, with_entry, without, names_recipe}
 use Rattle.data_edit.specs.declared.books.Book.{Book}
 use Rattle.data_edit.specs.declared.edits.Edit.{Edit}
 use Rattle.data_edit.specs.declared.edits.Edit.TheVariants.{SetIngredient, DropIngredient, SetProduct, DropProduct, SetUnlock, SetTime, SetEnabled, Forbid, Permit, Grant, Revoke}
 use Rattle.data_edit.proofs.EffectLaw.{effect_law}
-use Rattle.data_edit.proofs.Places.{with_at-past}
+use Rattle.plan_base.proofs.Places.{with_at-past}
 use Rattle.depend_rows.proofs.OrderLemmas.{those_same}
 use Rattle.depend_rows.specs.Members.{node, those}
 use Rattle.depend_rows.specs.Goods.{first_recipe, first_source, first_machine, first_tech, bounded_groups, crafters_by, fits, givers, good_row, ingredients, leavers, makers, putters, variants, crafters, unlockers, recipe_row, miners, source_row}

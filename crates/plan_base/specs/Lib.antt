@@ -1,3 +1,4 @@
 pub mod Binds
 pub mod Shape
 pub mod formers
+pub mod Places

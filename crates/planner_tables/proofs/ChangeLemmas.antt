@@ -30,7 +30,7 @@ use Rattle.planner_tables.specs.Names.{good_named, setup_named}
 use Rattle.planner_tables.specs.Refusals.{Outcome}
 use Rattle.planner_tables.specs.Steps.{MakesTable, MakesTables, is_step, step_effect, step_named, step_table}
 use Rattle.planner_tables.specs.Undoing.{has_room, part_restored, spliced, tables_restored}
-use Rattle.planner_tables.proofs.Places.{put_back}
+use Rattle.plan_base.proofs.Places.{put_back}
 use Rattle.planner_tables.proofs.SpliceLemmas.{goes_again, insert-end}
 
 -- ---- steps

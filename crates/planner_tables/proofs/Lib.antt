@@ -1,4 +1,3 @@
-pub mod Places
 pub mod SpliceLemmas
 pub mod NameLemmas
 pub mod StepLemmas

@@ -30,7 +30,7 @@ use Rattle.planner_tables.specs.Effects.{AreGoods, IsSoundOn, table_after}
 use Rattle.planner_tables.specs.Refusals.{Outcome, cause}
 use Rattle.planner_tables.specs.Steps.{MakesTable}
 use Rattle.planner_tables.specs.Undoing.{spliced, with_price_at, with_row_price, with_rows}
-use Rattle.planner_tables.proofs.Places.{put_back}
+use Rattle.plan_base.proofs.Places.{put_back}
 use Rattle.planner_tables.proofs.SpliceLemmas.{goes_again, comes_again, insert-end}
 
 abbrev Fits : Game → TableRow → Type 0

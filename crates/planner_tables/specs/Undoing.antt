@@ -1,5 +1,6 @@
 -- What undoes a change of tables: a part of them that is put in the place of another.
-use Rattle.std.specs.Prelude.{ℕ, ◌+◌, ◌-◌, ◌==◌, ◌&&◌, Bool, nat_lt, nat_le, List, length, insert, remove, slice_get, slice_set, Option, Some, None, if◌then◌else◌, vec_capacity, vec_len, Vec}
+use Rattle.std.specs.Prelude.{ℕ, ◌+◌, ◌-◌, ◌==◌, ◌&&◌, Bool, nat_lt, nat_le, List, length, insert, remove, Option, Some, None, if◌then◌else◌, vec_capacity, vec_len, Vec}
+use Rattle.plan_base.specs.Places.{with_at}
 use Rattle.std.specs.Global.{Global}
 use Rattle.fractions.specs.Fraction.{Fraction}
 use Rattle.plan_base.specs.declared.ids.GoodId.{GoodId}
@@ -26,14 +27,6 @@ spliced (Remove place room) list = if nat_lt place (length list) && has_room roo
 spliced (Insert place item room) list = if nat_le place (length list) && has_room room (length list + 1) then insert list place item else list
 
 -- ---- parts of tables
-abbrev pub changed_at : {A : Type 0} → (A → A) → ℕ → List A → Option A → List A
-changed_at change place list None = list
-changed_at change place list (Some old) = slice_set list place (change old)
-
--- the list with its element at a place changed, where there is one
-unfoldable pub with_at : {A : Type 0} → (A → A) → ℕ → List A → List A
-with_at change place list = changed_at change place list (slice_get list place)
-
 -- other numbers of goods
 abbrev pub with_numbers : Numbers → List (GoodId × Fraction) → Table → Table
 with_numbers Wants numbers t = record t { wants = numbers }

@@ -2,7 +2,8 @@
 ghost use Rattle.std.specs.Prelude.{◌≡◌, IfOk, List};
 ghost use Rattle.production_table.specs.declared.tables.Table.{Table as TableOf};
 ghost use Rattle.production_table.specs.declared.tables.TableRow.{TableRow as RowOf};
-ghost use Rattle.planner_tables.specs.Undoing.{part_restored, spliced, tables_restored, with_at, with_numbers, with_power, with_price_at, with_row_price, with_rows};
+ghost use Rattle.planner_tables.specs.Undoing.{part_restored, spliced, tables_restored, with_numbers, with_power, with_price_at, with_row_price, with_rows};
+ghost use Rattle.plan_base.specs.Places.{with_at};
 
 use crate::splices::{Splice, copied_insertion, copied_removal, exchange_element};
 use fractions::Ratio;

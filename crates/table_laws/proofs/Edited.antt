@@ -25,7 +25,8 @@ use Rattle.data_edit.specs.declared.parts.Inverse.{Inverse}
 use Rattle.data_edit.specs.declared.parts.Inverse.TheVariants.{Recipe as OfRecipe, Unlocks, Barred, Granted}
 use Rattle.data_edit.specs.declared.parts.RecipePart.{RecipePart}
 use Rattle.data_edit.specs.declared.parts.RecipePart.TheVariants.{Ingredients, Products, Time, Enabled}
-use Rattle.data_edit.specs.Edits.{changed_at, effect, enabled_set, good_in, ingredients_dropped, ingredients_set, mark_set, products_dropped, products_set, recipe_in, replacement, restored, time_set, unlocks_set, with_at, with_recipe_part, with_unlocks}
+use Rattle.data_edit.specs.Edits.{effect, enabled_set, good_in, ingredients_dropped, ingredients_set, mark_set, products_dropped, products_set, recipe_in, replacement, restored, time_set, unlocks_set, with_recipe_part, with_unlocks}
+use Rattle.plan_base.specs.Places.{changed_at, with_at}
 use Rattle.data_edit.specs.Faults.{Outcome, ◌▸◌, changed_list, known, positive}
 use Rattle.data_edit.specs.Lists.{is_part, part_key, plain_part, same_lists, with_entry, without}
 use Rattle.table_laws.proofs.Fits.{always_fits}

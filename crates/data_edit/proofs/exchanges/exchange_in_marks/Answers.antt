@@ -1,6 +1,6 @@
 use Rattle.std.proofs.Common.{sym, refl, get_or, false}
 use Rattle.data_edit.specs.Edits.{with_mark}
-use Rattle.data_edit.proofs.Places.{put_at, put_back, with_at-past}
+use Rattle.plan_base.proofs.Places.{put_at, put_back, with_at-past}
 use Rattle.data_edit.proofs.exchanges.exchange_in_marks.Goals as goal
 
 pub returns-then-place-marks-clause-after : goal.returns-then-place-marks-clause-after

@@ -1,6 +1,6 @@
 use Rattle.std.proofs.Common.{sym}
 use Rattle.planner_tables.specs.Undoing.{part_restored}
-use Rattle.planner_tables.proofs.Places.{put_at, put_back, with_at-past}
+use Rattle.plan_base.proofs.Places.{put_at, put_back, with_at-past}
 use Rattle.planner_tables.proofs.undos.exchange_part_at.Goals as goal
 
 pub returns-then-place-tables-clause-after : goal.returns-then-place-tables-clause-after

@@ -2,7 +2,7 @@
 use Rattle.std.proofs.Common.{◌≡◌, ℕ, ◌<◌, ◌≤◌, List, Some, None, length, get_or, set, refl, sym, ap, ◌∙◌}
 use Rattle.std.proofs.lemmas.List.{get_or-set_same, set-get_or, set-set, length-set}
 use Rattle.std.proofs.lemmas.Option.{slice_get-get_or, slice_get_past}
-use Rattle.data_edit.specs.Edits.{changed_at, with_at}
+use Rattle.plan_base.specs.Places.{changed_at, with_at}
 
 pub with_at-within : {A : Type 0} (f : A → A) (place : ℕ) (xs : List A) (d : A) → place < length xs → with_at f place xs ≡ set xs place (f (get_or xs place d))
 unfolding with_at
