@@ -55,7 +55,7 @@ fn put_found<T: Drop>(list: &mut Vec<T>, found: Option<T>) -> Result<(), NoMemor
 
 // The goods of the ingredients without a bound.
 #[tactic(auto, using(crate::proofs::FoundLemmas::found_next, crate::proofs::FoundLemmas::found_end))]
-fn goods_of_parts(alloc: Global, parts: &[Part]) -> Result<Vec<u32>, NoMemory>
+fn free_goods(alloc: Global, parts: &[Part]) -> Result<Vec<u32>, NoMemory>
     ensures { IfOk result (λ goods. goods.items ≡ filter_map free_good parts.now) }
 {
     let mut goods = Vec::new(alloc);
@@ -71,7 +71,7 @@ fn ingredients(alloc: Global, game: &Game, recipe: &Recipe) -> Result<Vec<NodeId
     requires recipe { IsSoundRecipe game.now recipe.now }
     ensures { IfOk result (λ nodes. nodes.items ≡ ingredients game.now recipe.now) }
 {
-    let goods = goods_of_parts(alloc, recipe.ingredients.as_slice())?;
+    let goods = free_goods(alloc, recipe.ingredients.as_slice())?;
     named(alloc, 3, good_count(game), goods)
 }
 
