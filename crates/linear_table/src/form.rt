@@ -1,6 +1,6 @@
 //! Whether a linear form is well formed.
 
-ghost use Rattle.std.specs.Prelude.{◌≡◌, ℕ, suc, ◌+◌, ◌<◌, ◌≤◌, ◌↔◌, length, IsTrue, Some, slice_get, slice_index_or};
+ghost use Rattle.std.specs.Prelude.{◌≡◌, ◌≢◌, ℕ, suc, ◌+◌, ◌<◌, ◌≤◌, ◌↔◌, length, IsTrue, Some, slice_get, slice_index_or};
 ghost use Rattle.std.specs.Bool.{OnTrue, OnFalse};
 ghost use Rattle.fractions.specs.Fraction.{zero_fraction, ◌≤ʳ◌};
 ghost use Rattle.linear_table.specs.Plans.{good_count, column_count, number_at, Rises, HasOnePart, FitsName, IsSoundColumn, IsWellFormed, kind_rank};
@@ -10,6 +10,7 @@ ghost use Rattle.linear_table.specs.Form.{IsSoundAt, HasSoundColumns, HasRisingK
 use crate::{Column, Linear, LinearColumn};
 use fractions::Ratio;
 use plan_base::GoodId;
+use std::cmp::Ordering;
 
 // Whether places rise and lie below the number of goods.
 fn places_rise(parts: &[(u32, Ratio)], goods: usize) -> bool
@@ -29,6 +30,14 @@ fn places_rise(parts: &[(u32, Ratio)], goods: usize) -> bool
     true
 }
 
+// Whether two fractions are equal.
+fn same(left: &Ratio, right: &Ratio) -> bool
+    ensures yes { OnTrue result (left.now ≡ right.now) }
+    ensures not { OnFalse result (left.now ≢ right.now) }
+{
+    left.cmp(right) == Ordering::Equal
+}
+
 // Whether a fraction isn't below 0.
 fn is_nonnegative(number: &Ratio) -> bool
     ensures yes { OnTrue result (zero_fraction ≤ʳ number.now) }
@@ -46,7 +55,7 @@ fn has_one_part(linear: &Linear, good: GoodId, amount: &Ratio, parts: &[(u32, Ra
         return false;
     };
     let place = *place as usize;
-    place < linear.goods.len() && linear.good(place) == good && part == amount
+    place < linear.goods.len() && linear.good(place) == good && same(part, amount)
 }
 
 // Whether a column's name has its place, or its good as the only part.
