@@ -2,7 +2,6 @@
 ghost use Rattle.std.specs.Prelude.{◌≡◌, ℕ, ◌+◌, ◌<◌, ◌^◌, ◌==◌, Bool, IfOk, length, true};
 ghost use Rattle.std.specs.List.{list_any};
 ghost use Rattle.game_types.specs.Making.{expected_amount, gives};
-ghost use Rattle.fractions.specs.Signs.{is_positive};
 ghost use Rattle.game_types.specs.Sound.{IsSound};
 ghost use Rattle.depend_rows.specs.Indexed.{IsIndex};
 ghost use Rattle.depend_rows.specs.Lists.{Rise, has_node, list_at};

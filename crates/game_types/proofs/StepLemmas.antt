@@ -16,8 +16,6 @@ use Rattle.fractions.specs.Fraction.{whole_fraction}
 use Rattle.fractions.proofs.Order.{positive_frac}
 use Rattle.std.specs.Prelude.{ℤ, negsuc, ◌<ℤ◌}
 use Rattle.std.proofs.lemmas.Int.{ints}
-use Rattle.fractions.specs.Signs.{is_positive, is_above_zero}
-use Rattle.fractions.proofs.Order.{positive_of_num}
 
 both : (a b : Bool) → (a && b) ≡ true → (a ≡ true) × (b ≡ true)
 both true b h = (refl, h)
