@@ -7,14 +7,14 @@ use Rattle.std.proofs.lemmas.Int.{ints, to_z_pos}
 use Rattle.std.proofs.Math.Nat.{div-mul_cancel, mul-div_cancel'}
 use borrow.Author.Differences.{below_in, lt-true}
 use Rattle.fractions.specs.Fraction.{Fraction, frac, zero_fraction, int_div-mul, lower_pos, ◌/ʳ◌, ◌-ʳ◌, ◌*ʳ◌}
-use Rattle.fractions.specs.Fracs.{frac_scale, zero-frac}
+use Rattle.fractions.specs.Fracs.{frac_scale, zero-frac, pos_product}
 use Rattle.fractions.specs.Ring.{int, nat, neg, ◌⊗◌, same_value}
 use Rattle.fractions.specs.Limits.{IsNarrow}
 use Rattle.linear_table.specs.Plans.{number_at}
 use Rattle.linear_table.specs.Wide.{LessFits}
 use Rattle.number_rows.specs.Changed.{Numbers, IsDividedRow, IsReducedRow}
 use Rattle.number_rows.specs.Row.{kept, IsKept}
-use Rattle.number_rows.specs.Tops.{top_at, AreWithin, IsDividedBy, IsTurned, IsCombined, AreOver}
+use Rattle.number_rows.specs.Tops.{top_at, AreWithin, IsDividedBy, IsTurned, IsCombined, IsCombinedOver, AreOver}
 use Rattle.number_rows.proofs.Kept.{short_at, length_shown, same_numbers, kept_at, kept_length, shown_over}
 use Rattle.number_rows.proofs.Lists.{wrap, back}
 use Rattle.number_rows.proofs.Short.{less_fits, less_is, narrow_over, quotient_is}
@@ -51,7 +51,7 @@ size_some (pos zero) h = absurd (h refl)
 size_some (pos (suc n)) h = omega arith
 size_some (negsuc n) h = omega arith
 
-pub divided_row : (s : Bool) (b m bound : ℕ) (ts us : List ℤ) (ns : List Fraction) (xs ys : Numbers) (k : ℕ) (z : Bool) → record { items = kept s b ts ns } ≡ xs → s ≡ true → IsKept b bound ts ns → k < length ts → number_at xs.items k ≢ zero_fraction → z ≡ lt_z (top_at ts k) (pos 0) → m ≡ unsigned_abs (top_at ts k) → IsTurned ts z us → ys ≡ record { items = kept s m us ns } →
+pub divided_row : {room : ℕ} (s : Bool) (b m bound : ℕ) (ts us : List ℤ) (ns : List Fraction) (xs ys : Numbers) (k : ℕ) (z : Bool) → record { items = kept s b ts ns } ≡ xs → s ≡ true → IsKept b bound ts ns room → k < length ts → number_at xs.items k ≢ zero_fraction → z ≡ lt_z (top_at ts k) (pos 0) → m ≡ unsigned_abs (top_at ts k) → IsTurned ts z us → ys ≡ record { items = kept s m us ns } →
     IsDividedRow xs.items (number_at xs.items k) ys.items
 divided_row s b m bound ts us ns xs ys k z ex ms h lt apart ez em t ey =
     let p : ℤ = top_at ts k in
@@ -74,15 +74,32 @@ divided_row s b m bound ts us ns xs ys k z ex ms h lt apart ez em t ey =
     }
 
 -- ---- taking the pivot's row from a row
-pub reduced_row : (s s' : Bool) (b b' bound bound' a g : ℕ) (f : ℤ) (ts us vs : List ℤ) (ns ms : List Fraction) (xs ys ps : Numbers) (k : ℕ) → record { items = kept s b ts ns } ≡ xs → s ≡ true → IsKept b bound ts ns → record { items = kept s' b' vs ms } ≡ ps → s' ≡ true → IsKept b' bound' vs ms → length xs.items ≡ length ps.items → k < length ts → 0 < g → g ∣ b' → a ≡ b' / g → f *ℤ pos g ≡ top_at ts k → IsCombined ts (pos a) vs f us → ys ≡ record { items = kept s (b * a) us ns } →
+-- the new whole numbers stand over a denominator for what is computed over the old one
+pub record AreReducedTops (b a m : ℕ) (f : ℤ) (ts vs us : List ℤ) : Type 0 where
+  pub length_is : length us ≡ length ts
+  pub numbers : (j : ℕ) → j < length ts → frac (top_at us j) m ≡ frac (top_at ts j *ℤ pos a -ℤ top_at vs j *ℤ f) (b * a)
+
+pub combined_tops : (b a : ℕ) (f : ℤ) (ts vs us : List ℤ) → IsCombined ts (pos a) vs f us → AreReducedTops b a (b * a) f ts vs us
+combined_tops b a f ts vs us t = record { length_is = t.length_is; numbers = λ j q. ap (λ x. frac x (b * a)) (t.numbers j q) }
+
+over_same : (t u : ℤ) (b c a : ℕ) → 0 < b → 0 < c → c ∣ b → 0 < a → u *ℤ pos c ≡ t → frac u (b / c * a) ≡ frac t (b * a)
+over_same t u b c a pb pc h pa e =
+    let arranged : b / c * a * c ≡ b * a = let q : b / c * a * c ≡ b / c * c * a = omega arith in q ∙ ap (λ k. k * a) (div-mul_cancel c h) in
+    sym (frac_scale u (b / c * a) c (pos_product (b / c) a (lower_pos b c pb h) pa) pc) ∙ (ap (λ k. frac k (b / c * a * c)) e ∙ ap (frac t) arranged)
+
+pub divided_tops : (b c a : ℕ) (f : ℤ) (ts vs us : List ℤ) → 0 < b → 0 < c → c ∣ b → 0 < a → IsCombinedOver ts (pos a) vs f c us → AreReducedTops b a (b / c * a) f ts vs us
+divided_tops b c a f ts vs us pb pc h pa t =
+    record { length_is = t.length_is; numbers = λ j q. over_same (top_at ts j *ℤ pos a -ℤ top_at vs j *ℤ f) (top_at us j) b c a pb pc h pa (t.numbers j q) }
+
+pub reduced_row : {room room' : ℕ} (s s' : Bool) (b b' bound bound' a g m : ℕ) (f : ℤ) (ts us vs : List ℤ) (ns ms : List Fraction) (xs ys ps : Numbers) (k : ℕ) → record { items = kept s b ts ns } ≡ xs → s ≡ true → IsKept b bound ts ns room → record { items = kept s' b' vs ms } ≡ ps → s' ≡ true → IsKept b' bound' vs ms room' → length xs.items ≡ length ps.items → k < length ts → 0 < g → g ∣ b' → a ≡ b' / g → f *ℤ pos g ≡ top_at ts k → AreReducedTops b a m f ts vs us → ys ≡ record { items = kept s m us ns } →
     IsReducedRow xs.items (number_at xs.items k) ps.items ys.items
-reduced_row s s' b b' bound bound' a g f ts us vs ns ms xs ys ps k ex es h ep es' h' width lt pg gb ea ef t ey =
+reduced_row s s' b b' bound bound' a g m f ts us vs ns ms xs ys ps k ex es h ep es' h' width lt pg gb ea ef t ey =
     let at : (j : ℕ) → j < length ts → number_at xs.items j ≡ frac (top_at ts j) b = λ j q. short_at s b ts ns xs j ex es q in
     let len : length xs.items ≡ length ts = length_shown s b ts ns xs ex h.same_length in
     let len' : length ps.items ≡ length vs = length_shown s' b' vs ms ps ep h'.same_length in
     let both : length ts ≡ length vs = sym len ∙ (width ∙ len') in
     let other : (j : ℕ) → j < length ts → number_at ps.items j ≡ frac (top_at vs j) b' = λ j q. short_at s' b' vs ms ps j ep es' (omega (arith, q, both)) in
-    let new : (j : ℕ) → j < length ts → number_at ys.items j ≡ frac (top_at us j) (b * a) = λ j q. short_at s (b * a) us ns ys j (sym ey) es (omega (arith, q, t.length_is)) in
+    let new : (j : ℕ) → j < length ts → number_at ys.items j ≡ frac (top_at us j) m = λ j q. short_at s m us ns ys j (sym ey) es (omega (arith, q, t.length_is)) in
     let pa : 0 < a = subst (λ (n : ℕ). 0 < n) (sym ea) (lower_pos b' g h'.positive gb) in
     let ag : a * g ≡ b' = ap (λ n. n * g) ea ∙ div-mul_cancel g gb in
     let fits : (j : ℕ) → j < length ts → LessFits (number_at xs.items j) (number_at xs.items k) (number_at ps.items j) =
@@ -90,13 +107,13 @@ reduced_row s s' b b' bound bound' a g f ts us vs ns ms xs ys ps k ex es h ep es
     (subst (λ (x : Fraction). LessFits (frac (top_at ts j) b) x (number_at ps.items j)) (sym (at k lt))
     (subst (λ (x : Fraction). LessFits (frac (top_at ts j) b) (frac (top_at ts k) b) x) (sym (other j q))
     (less_fits (top_at ts j) (top_at ts k) (top_at vs j) b b' h.positive h'.positive h.bottom_small h'.bottom_small (omega (arith, h.within j q, h.bound_small)) (omega (arith, h.within k lt, h.bound_small)) (omega (arith, h'.within j (omega (arith, q, both)), h'.bound_small))))) in
-    let is : (j : ℕ) → j < length ts → frac (top_at us j) (b * a) ≡ number_at xs.items j -ʳ number_at xs.items k *ʳ number_at ps.items j =
-    λ j q. ap (λ x. frac x (b * a)) (t.numbers j q)
+    let is : (j : ℕ) → j < length ts → frac (top_at us j) m ≡ number_at xs.items j -ʳ number_at xs.items k *ʳ number_at ps.items j =
+    λ j q. t.numbers j q
     ∙ (less_is (top_at ts j) (top_at ts k) (top_at vs j) f b b' a g h.positive pa pg ef ag
     ∙ sym (ap (λ x. x -ʳ number_at xs.items k *ʳ number_at ps.items j) (at j q)
     ∙ (ap (λ x. frac (top_at ts j) b -ʳ x *ʳ number_at ps.items j) (at k lt) ∙ ap (λ x. frac (top_at ts j) b -ʳ frac (top_at ts k) b *ʳ x) (other j q)))) in
     record {
-      length_is = length_shown s (b * a) us ns ys (sym ey) (t.length_is ∙ h.same_length) ∙ (t.length_is ∙ sym len);
+      length_is = length_shown s m us ns ys (sym ey) (t.length_is ∙ h.same_length) ∙ (t.length_is ∙ sym len);
       narrow = λ j q. fits j (omega (arith, q, len));
       numbers = λ j q. let lj : j < length ts = omega (arith, q, len) in new j lj ∙ is j lj;
     }
@@ -132,3 +149,9 @@ zero_append [] h zero = refl
 zero_append [] h (suc j) = refl
 zero_append (x ∷ xs) h zero = h 0
 zero_append (x ∷ xs) h (suc j) = zero_append xs (λ k. h (suc k)) j
+
+pub combined_over_plain : (cur ts vs ws us : List ℤ) (a f : ℤ) (m d : ℕ) → cur ≡ ts → ws ≡ vs → a ≡ pos m → wrap f ≡ f → IsCombinedOver cur a ws (wrap f) d us → IsCombinedOver ts (pos m) vs f d us
+combined_over_plain cur ts vs ws us a f m d ec ew ea ef h =
+    subst (λ (k : ℤ). IsCombinedOver ts (pos m) vs k d us) ef
+    (subst (λ (k : ℤ). IsCombinedOver ts k vs (wrap f) d us) ea
+    (subst (λ (l : List ℤ). IsCombinedOver ts a l (wrap f) d us) ew (subst (λ (l : List ℤ). IsCombinedOver l a ws (wrap f) d us) ec h)))

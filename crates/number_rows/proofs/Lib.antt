@@ -6,3 +6,4 @@ pub mod Slim
 pub mod Steps
 pub mod Signs
 pub mod Exchanged
+pub mod Wider

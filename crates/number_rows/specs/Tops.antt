@@ -26,6 +26,11 @@ pub record IsCombined (old : List ℤ) (scale : ℤ) (other : List ℤ) (factor 
   pub length_is : length new ≡ length old
   pub numbers : (k : ℕ) → k < length old → top_at new k ≡ top_at old k *ℤ scale -ℤ top_at other k *ℤ factor
 
+-- each number times the divisor is the old one times the scale less the other row's times the factor
+pub record IsCombinedOver (old : List ℤ) (scale : ℤ) (other : List ℤ) (factor : ℤ) (d : ℕ) (new : List ℤ) : Type 0 where
+  pub length_is : length new ≡ length old
+  pub numbers : (k : ℕ) → k < length old → top_at new k *ℤ pos d ≡ top_at old k *ℤ scale -ℤ top_at other k *ℤ factor
+
 -- each number is the old one, or its opposite
 pub record IsTurned (old : List ℤ) (turned : Bool) (new : List ℤ) : Type 0 where
   pub length_is : length new ≡ length old

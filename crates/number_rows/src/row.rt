@@ -13,14 +13,16 @@ ghost use Rattle.number_rows.specs.Tops.{top_at};
 
 use crate::long::{divide_numbers, reduce_numbers};
 use crate::tops::{
-    LIMIT, combine, common_bottom, common_divisor, content, divide_all, keeps_within, long_product,
-    quotient, turn_all, write_numbers, write_tops,
+    LIMIT, combine, combine_over, common_bottom, common_divisor, content, divide_all, keeps_within,
+    likely_divisor, long_product, product_keeps_within, quotient, turn_all, write_numbers,
+    write_tops,
 };
 use fractions::Ratio;
 use plan_base::NoMemory;
 use std::alloc::Global;
 use std::cmp::Ordering;
 use std::marker::Model;
+use std::mem;
 
 /// A row of fractions. It is kept as whole numbers over one denominator, which take few steps to add and multiply, wherever
 /// these are below 2^62, else each as a fraction.
@@ -30,12 +32,14 @@ pub struct Row {
     bottom: u64,
     bound: u64,
     tops: Vec<i64>,
+    spare: Vec<i64>,
     numbers: Vec<Ratio>,
 }
 
 impl Model for Row {
     ghost use Rattle.number_rows.specs.Changed.{Numbers, numbers_code};
     ghost use Rattle.number_rows.specs.Row.{kept, IsKept};
+    ghost use Rattle.std.specs.Prelude.{length};
 
     ghost Value = { Numbers };
 
@@ -43,7 +47,7 @@ impl Model for Row {
 
     ghost view = { λ r. record { items = kept r.short r.bottom r.tops.items r.numbers.items } };
 
-    ghost invariant = { λ r. IsKept r.bottom r.bound r.tops.items r.numbers.items };
+    ghost invariant = { λ r. IsKept r.bottom r.bound r.tops.items r.numbers.items (length r.spare.items) };
 }
 
 // So many zeros.
@@ -80,6 +84,7 @@ impl Row {
             bottom: 1,
             bound: 0,
             tops: Vec::new(alloc),
+            spare: Vec::new(alloc),
             numbers: Vec::new(alloc),
         }
     }
@@ -93,11 +98,13 @@ impl Row {
         ensures { IfOk result (λ row. row.items ≡ numbers.items) }
     {
         let tops = zeros(alloc, numbers.len())?;
+        let spare = zeros(alloc, numbers.len())?;
         let mut row = Row {
             short: false,
             bottom: 1,
             bound: 0,
             tops,
+            spare,
             numbers,
         };
         row.shorten();
@@ -262,6 +269,50 @@ impl Row {
         true
     }
 
+    // The same where what all numbers that this makes have in common brings them within the limits.
+    fn reduce_over(&mut self, enter: usize, pivot_row: &Row) -> bool
+        requires inside { enter < length self.old.items }
+        requires width { length self.old.items ≡ length pivot_row.now.items }
+        ensures done { OnTrue result (IsReducedRow self.old.items (number_at self.old.items enter) pivot_row.now.items self.new.items) }
+        ensures not { OnFalse result (self.new ≡ self.old) }
+    {
+        if !self.short {
+            return false;
+        }
+        if !pivot_row.short {
+            return false;
+        }
+        let top = self.tops[enter];
+        let common = common_divisor(top.unsigned_abs(), pivot_row.bottom);
+        let scale = pivot_row.bottom / common;
+        let factor = quotient(top, common);
+        let divisor = likely_divisor(
+            self.bottom,
+            &self.tops,
+            scale as i64,
+            &pivot_row.tops,
+            factor,
+        );
+        let bottom = self.bottom / divisor;
+        if !product_keeps_within(bottom, scale) {
+            return false;
+        }
+        let Some(bound) = combine_over(
+            &mut self.spare,
+            &self.tops,
+            scale as i64,
+            &pivot_row.tops,
+            factor,
+            divisor,
+        ) else {
+            return false;
+        };
+        mem::swap(&mut self.tops, &mut self.spare);
+        self.bound = bound;
+        self.bottom = bottom * scale;
+        true
+    }
+
     // The same for any row, or which number that makes wide.
     fn reduce_long(&mut self, enter: usize, pivot_row: &Row) -> Result<(), usize>
         requires inside { enter < length self.old.items }
@@ -290,8 +341,7 @@ impl Row {
         if self.reduce_short(enter, pivot_row) {
             return Ok(());
         }
-        self.cancel();
-        if self.reduce_short(enter, pivot_row) {
+        if self.reduce_over(enter, pivot_row) {
             return Ok(());
         }
         match self.reduce_long(enter, pivot_row) {

@@ -5,7 +5,7 @@ ghost use Rattle.std.specs.Bool.{OnTrue};
 ghost use Rattle.std.specs.Int.{◌∣◌};
 ghost use Rattle.fractions.specs.Fraction.{frac};
 ghost use Rattle.fractions.specs.Gcd.{gcd};
-ghost use Rattle.number_rows.specs.Tops.{top_at, AreWithin, DividesAll, IsDividedBy, IsCombined, IsTurned, AreOver, DividesInto};
+ghost use Rattle.number_rows.specs.Tops.{top_at, AreWithin, DividesAll, IsDividedBy, IsCombined, IsCombinedOver, IsTurned, AreOver, DividesInto};
 
 use fractions::Ratio;
 
@@ -166,6 +166,123 @@ pub fn keeps_within(bound: u64, scale: u64, other_bound: u64, factor: u64, botto
     let second = other_bound as u128 * factor as u128;
     let bottom = bottom as u128 * scale as u128;
     first + second < LIMIT as u128 && bottom < LIMIT as u128
+}
+
+// One number times a scale, less another times a factor, of any numbers below the limit.
+fn long_combined(top: i64, scale: i64, other: i64, factor: i64) -> i128
+    requires top { unsigned_abs top < 2 ^ 62 }
+    requires scale { unsigned_abs scale < 2 ^ 62 }
+    requires other { unsigned_abs other < 2 ^ 62 }
+    requires factor { unsigned_abs factor < 2 ^ 62 }
+    ensures value { result ≡ top *ℤ scale -ℤ other *ℤ factor }
+    ensures small { unsigned_abs result < 2 ^ 125 }
+{
+    let first = long_product(top, scale);
+    let second = long_product(other, factor);
+    first - second
+}
+
+// A number divided by a divisor. To the caller it is a guess, which it multiplies back.
+fn likely_quotient(number: i128, divisor: u64) -> i128
+    requires positive { 0 < divisor }
+    requires small { unsigned_abs number < 2 ^ 125 }
+    requires small_divisor { divisor < 2 ^ 62 }
+{
+    if number == 0 {
+        0
+    } else {
+        number / divisor as i128
+    }
+}
+
+// What a division of a number's magnitude leaves.
+fn rest_by(number: i128, divisor: u64) -> u64
+    requires { 0 < divisor }
+    ensures { result < divisor }
+{
+    if number == 0 {
+        return 0;
+    }
+    let rest = number.unsigned_abs() % divisor as u128;
+    rest as u64
+}
+
+// The quotient by a divisor, where that leaves no rest and the quotient is below the limit.
+fn exact_quotient(number: i128, divisor: u64) -> Option<i64>
+    requires positive { 0 < divisor }
+    requires small { unsigned_abs number < 2 ^ 125 }
+    requires small_divisor { divisor < 2 ^ 62 }
+    ensures { IfSome result (λ q. (q *ℤ pos divisor ≡ number) × (unsigned_abs q < 2 ^ 62)) }
+{
+    let quotient = likely_quotient(number, divisor);
+    if quotient.unsigned_abs() >= LIMIT as u128 {
+        return None;
+    }
+    let quotient = quotient as i64;
+    if long_product(quotient, divisor as i64) == number {
+        Some(quotient)
+    } else {
+        None
+    }
+}
+
+/// A divisor of a denominator that all of the numbers that `combine` makes most often have.
+pub fn likely_divisor(bottom: u64, tops: &[i64], scale: i64, others: &[i64], factor: i64) -> u64
+    requires positive { 0 < bottom }
+    requires lengths { length tops.now ≡ length others.now }
+    requires tops { (k : ℕ) → k < length tops.now → unsigned_abs (top_at tops.now k) < 2 ^ 62 }
+    requires others { (k : ℕ) → k < length others.now → unsigned_abs (top_at others.now k) < 2 ^ 62 }
+    requires scale { unsigned_abs scale < 2 ^ 62 }
+    requires factor { unsigned_abs factor < 2 ^ 62 }
+    ensures positive { 0 < result }
+    ensures bottom { result ∣ bottom }
+{
+    let mut common = bottom;
+    for k in 0..tops.len() {
+        let number = long_combined(tops[k], scale, others[k], factor);
+        common = common_divisor(rest_by(number, common), common);
+    }
+    common
+}
+
+/// Writes what `combine` makes of each number, divided by a divisor, where nothing is left and all are below the limit. Says
+/// how great their magnitudes are at most.
+pub fn combine_over(
+    quotients: &mut [i64],
+    tops: &[i64],
+    scale: i64,
+    others: &[i64],
+    factor: i64,
+    divisor: u64,
+) -> Option<u64>
+    requires quotients { length quotients.old ≡ length tops.now }
+    requires lengths { length tops.now ≡ length others.now }
+    requires tops { (k : ℕ) → k < length tops.now → unsigned_abs (top_at tops.now k) < 2 ^ 62 }
+    requires others { (k : ℕ) → k < length others.now → unsigned_abs (top_at others.now k) < 2 ^ 62 }
+    requires scale { unsigned_abs scale < 2 ^ 62 }
+    requires factor { unsigned_abs factor < 2 ^ 62 }
+    requires positive { 0 < divisor }
+    requires small_divisor { divisor < 2 ^ 62 }
+    ensures length_is { length quotients.new ≡ length tops.now }
+    ensures combined { IfSome result (λ bound. IsCombinedOver tops.now scale others.now factor divisor quotients.new × AreWithin quotients.new bound × (bound < 2 ^ 62)) }
+{
+    let mut most = 0;
+    for k in 0..tops.len() {
+        let number = long_combined(tops[k], scale, others[k], factor);
+        let Some(quotient) = exact_quotient(number, divisor) else {
+            return None;
+        };
+        most = greater(most, quotient.unsigned_abs());
+        quotients[k] = quotient;
+    }
+    Some(most)
+}
+
+/// Whether the product of two numbers is below the limit.
+pub fn product_keeps_within(first: u64, second: u64) -> bool
+    ensures { OnTrue result (first * second < 2 ^ 62) }
+{
+    (first as u128 * second as u128) < LIMIT as u128
 }
 
 /// Writes each number as a fraction.

@@ -15,7 +15,7 @@ use Rattle.std.proofs.Math.Nat.{div-le_self}
 use Rattle.fractions.specs.Fraction.{lower_pos}
 use Rattle.fractions.specs.Fracs.{pos_product}
 use Rattle.number_rows.proofs.Lists.{back}
-use Rattle.number_rows.proofs.Exchanged.{reduced_row, factor_is, scale_back, combined_plain}
+use Rattle.number_rows.proofs.Exchanged.{reduced_row, combined_tops, factor_is, scale_back, combined_plain}
 use Rattle.number_rows.proofs.row.Row.reduce_short.Goals.{After-quotient-factor}
 use Rattle.number_rows.proofs.row.Row.reduce_short.Goals as goal
 
@@ -43,9 +43,10 @@ invariant_of-self c =
     let d = c.combine-self-inside in
     let a = p.bottom / c.common_divisor-common.result in
     let len : length d.new.tops ≡ length r.tops.items = d.ensures.combined.length_is ∙ ap (λ (ts : List ℤ). length ts) c.deref_mut.ensures.value in
-    subst (λ (ts : List ℤ). IsKept (r.bottom * a) d.result ts r.numbers.items) (sym (with_items_is r.tops d.new.tops (len ∙ sym r.tops.ok.0)))
+    subst (λ (ts : List ℤ). IsKept (r.bottom * a) d.result ts r.numbers.items (length r.spare.items)) (sym (with_items_is r.tops d.new.tops (len ∙ sym r.tops.ok.0)))
     (record {
       same_length = len ∙ c.self.invariant.same_length;
+      room_is = c.self.invariant.room_is ∙ sym len;
       positive = pos_product r.bottom a c.self.invariant.positive (lower_pos p.bottom c.common_divisor-common.result c.pivot_row.invariant.positive c.common_divisor-common.ensures.second);
       bottom_small = (OnTrue_at c.if-not-keeps_within.false c.keeps_within.ensures).1;
       bound_small = d.ensures.small;
@@ -65,8 +66,8 @@ returns-clause-done c =
     let t : IsCombined r.tops.items (pos a) p.tops.items c.quotient-factor.result d.new.tops =
     combined_plain c.deref_mut.result.now r.tops.items p.tops.items c.deref.result.now d.new.tops _ c.quotient-factor.result a c.deref_mut.ensures.value c.deref.ensures.value
     (scale_back a (omega (arith, div-le_self p.bottom g, c.pivot_row.invariant.bottom_small))) (back c.quotient-factor.result (omega (arith, f.1))) d.ensures.combined in
-    reduced_row r.short p.short r.bottom p.bottom r.bound p.bound a g c.quotient-factor.result r.tops.items d.new.tops p.tops.items r.numbers.items p.numbers.items c.args.self.now _ c.args.pivot_row.now c.args.enter
-    c.self.view_is c.if-not-self.false c.self.invariant c.pivot_row.view_is c.if-not-pivot_row.false c.pivot_row.invariant c.requires.width inside (c.common_divisor-common.ensures.positive c.pivot_row.invariant.positive) c.common_divisor-common.ensures.second (λ i. a) f.0 t
+    reduced_row r.short p.short r.bottom p.bottom r.bound p.bound a g (r.bottom * a) c.quotient-factor.result r.tops.items d.new.tops p.tops.items r.numbers.items p.numbers.items c.args.self.now _ c.args.pivot_row.now c.args.enter
+    c.self.view_is c.if-not-self.false c.self.invariant c.pivot_row.view_is c.if-not-pivot_row.false c.pivot_row.invariant c.requires.width inside (c.common_divisor-common.ensures.positive c.pivot_row.invariant.positive) c.common_divisor-common.ensures.second (λ i. a) f.0 (combined_tops r.bottom a c.quotient-factor.result r.tops.items p.tops.items d.new.tops t)
     (ap (λ ts. shown r.short (r.bottom * a) ts r.numbers.items) (with_items_is r.tops d.new.tops (len ∙ sym r.tops.ok.0)))
   where
     shown : Bool → ℕ → List ℤ → List Fraction → Numbers

@@ -1,0 +1,64 @@
+-- Numbers of 128 bits that are made of numbers of 64.
+use Rattle.std.specs.Prelude.{◌≡◌, ℕ, ◌*◌, ◌+◌, ◌<◌, ◌≤◌, ◌^◌, ℤ, pos, ◌*ℤ◌, ◌-ℤ◌, unsigned_abs, List, length}
+use Rattle.std.proofs.Common.{refl, sym, ap, subst, ◌∙◌, arith, set, below_more}
+use Rattle.std.proofs.lemmas.Int.{ints}
+use Rattle.fractions.proofs.Parts.{whole_back}
+use Rattle.std.proofs.lemmas.List.{get_or-set_same, get_or-set_other}
+use Rattle.number_rows.specs.Tops.{top_at}
+use Rattle.number_rows.proofs.Lists.{wrap, back}
+use Rattle.number_rows.proofs.Over.{wrap128}
+
+abs_apart : (a b : ℤ) → unsigned_abs a < 2 ^ 124 → unsigned_abs b < 2 ^ 124 → unsigned_abs (a -ℤ b) < 2 ^ 125
+abs_apart a b ha hb = omega (arith, ints)
+
+-- the difference that the code computes
+pub record IsApart (r a b : ℤ) : Type 0 where
+  pub value : r ≡ a -ℤ b
+  pub small : unsigned_abs r < 2 ^ 125
+
+pub apart_is : (first second a b : ℤ) → first ≡ a → second ≡ b → unsigned_abs first < 2 ^ 124 → unsigned_abs second < 2 ^ 124 → IsApart (wrap128 (wrap128 first -ℤ wrap128 second)) a b
+apart_is first second a b ea eb ha hb =
+    let f : wrap128 first ≡ a = whole_back first (omega (arith, ha)) ∙ ea in
+    let s : wrap128 second ≡ b = whole_back second (omega (arith, hb)) ∙ eb in
+    let size : unsigned_abs (a -ℤ b) < 2 ^ 125 = abs_apart a b (subst (λ (x : ℤ). unsigned_abs x < 2 ^ 124) ea ha) (subst (λ (x : ℤ). unsigned_abs x < 2 ^ 124) eb hb) in
+    let e : wrap128 (wrap128 first -ℤ wrap128 second) ≡ a -ℤ b = ap (λ x. wrap128 (x -ℤ wrap128 second)) f ∙ (ap (λ x. wrap128 (a -ℤ x)) s ∙ whole_back (a -ℤ b) (omega (arith, size))) in
+    record { value = e; small = subst (λ (x : ℤ). unsigned_abs x < 2 ^ 125) (sym e) size }
+
+-- a product of numbers below the limit, as a call has it
+pub product_plain : (t s : ℤ) → unsigned_abs t < 2 ^ 62 → unsigned_abs s < 2 ^ 62 → wrap t *ℤ wrap s ≡ t *ℤ s
+product_plain t s ht hs = ap (λ a. a *ℤ wrap s) (back t (omega (arith, ht))) ∙ ap (λ a. t *ℤ a) (back s (omega (arith, hs)))
+
+-- a number below the limit, as a call has it
+pub small_at : (t : ℤ) → unsigned_abs t < 2 ^ 62 → unsigned_abs (wrap t) < 2 ^ 62
+small_at t h = subst (λ (x : ℤ). unsigned_abs x < 2 ^ 62) (sym (back t (omega (arith, h)))) h
+
+-- ---- one quotient more
+pub record IsOverBelow (old : List ℤ) (scale : ℤ) (other : List ℤ) (factor : ℤ) (d : ℕ) (quotients : List ℤ) (k : ℕ) : Type 0 where
+  pub done : (j : ℕ) → j < k → top_at quotients j *ℤ pos d ≡ top_at old j *ℤ scale -ℤ top_at other j *ℤ factor
+
+pub over_none : (old : List ℤ) (s : ℤ) (other : List ℤ) (f : ℤ) (d : ℕ) (quotients : List ℤ) → IsOverBelow old s other f d quotients 0
+over_none old s other f d quotients = record { done = λ j h. absurd (omega arith) }
+
+pub over_more : (old : List ℤ) (s : ℤ) (other : List ℤ) (f : ℤ) (d : ℕ) (quotients : List ℤ) (k : ℕ) (q : ℤ) → k < length quotients → q *ℤ pos d ≡ top_at old k *ℤ s -ℤ top_at other k *ℤ f → IsOverBelow old s other f d quotients k → IsOverBelow old s other f d (set quotients k q) (k + 1)
+over_more old s other f d quotients k q lt e h =
+    record {
+      done = below_more (λ j. top_at (set quotients k q) j *ℤ pos d ≡ top_at old j *ℤ s -ℤ top_at other j *ℤ f) k
+          (λ j p. ap (λ x. x *ℤ pos d) (get_or-set_other quotients k j q (pos 0) (λ e. omega arith)) ∙ h.done j p)
+          (ap (λ x. x *ℤ pos d) (get_or-set_same quotients k q (pos 0) lt) ∙ e);
+    }
+
+-- what the code makes of a place, where a quotient was found
+pub record IsQuotientAt (q n : ℤ) (d : ℕ) : Type 0 where
+  pub value : q *ℤ pos d ≡ n
+  pub small : unsigned_abs q < 2 ^ 62
+
+pub quotient_at : (t o s f n q : ℤ) (d : ℕ) → unsigned_abs t < 2 ^ 62 → unsigned_abs o < 2 ^ 62 → n ≡ wrap t *ℤ s -ℤ wrap o *ℤ f → unsigned_abs n < 2 ^ 125 → q *ℤ pos d ≡ wrap128 n → unsigned_abs q < 2 ^ 62 → IsQuotientAt (wrap q) (t *ℤ s -ℤ o *ℤ f) d
+quotient_at t o s f n q d ht ho en hn eq hq =
+    let t' : wrap t ≡ t = back t (omega (arith, ht)) in
+    let o' : wrap o ≡ o = back o (omega (arith, ho)) in
+    let q' : wrap q ≡ q = back q (omega (arith, hq)) in
+    let m : n ≡ t *ℤ s -ℤ o *ℤ f = en ∙ (ap (λ a. a *ℤ s -ℤ wrap o *ℤ f) t' ∙ ap (λ a. t *ℤ s -ℤ a *ℤ f) o') in
+    record {
+      value = ap (λ x. x *ℤ pos d) q' ∙ (eq ∙ (whole_back n (omega (arith, hn)) ∙ m));
+      small = subst (λ (x : ℤ). unsigned_abs x < 2 ^ 62) (sym q') hq;
+    }
