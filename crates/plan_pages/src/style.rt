@@ -4,7 +4,7 @@
 pub const HEAD: &str = "<!DOCTYPE html>
 <html lang=\"en\">
 <head><meta charset=\"utf-8\"><meta name=\"viewport\" content=\"width=device-width, initial-scale=1\">
-<meta http-equiv=\"Content-Security-Policy\" content=\"default-src 'none'; style-src 'unsafe-inline'; script-src 'sha256-3rZv6TW4kkoxp2ISigqHlh0FqU+ZAgxFUANq5ZfTd8I='\">
+<meta http-equiv=\"Content-Security-Policy\" content=\"default-src 'none'; style-src 'unsafe-inline'; script-src 'sha256-CG2jRZ7Lb5nrWgAeZz3zpzTZxKYyW25bAlxO2c7Wsg8='\">
 <title>Plans</title>
 ";
 
@@ -61,14 +61,21 @@ svg circle.item{fill:var(--item)}svg circle.fluid{fill:var(--fluid)}svg circle.s
 @media print{header input,nav{display:none}header{position:static}}
 ";
 
-/// The search: it hides the entries without the word, and opens the folds of the others.
+/// The search: it shows the entries with the word, and those under a heading with the word, and opens their folds.
 pub const SCRIPT: &str = "
 const find = document.getElementById('find');
 const opened = new Set();
 find.addEventListener('input', () => {
   const word = find.value.trim().toLowerCase();
+  const has = (part) => part.textContent.toLowerCase().includes(word);
+  const isHeaded = (entry) => {
+    for (let fold = entry.closest('details'); fold; fold = fold.parentElement.closest('details')) {
+      if (has(fold.firstElementChild)) return true;
+    }
+    return false;
+  };
   for (const entry of document.querySelectorAll('[data-f]')) {
-    entry.hidden = word !== '' && !entry.textContent.toLowerCase().includes(word);
+    entry.hidden = !has(entry) && !isHeaded(entry);
   }
   for (const fold of document.querySelectorAll('details')) {
     if (word !== '' && !fold.open && fold.querySelector('[data-f]:not([hidden])')) {
@@ -77,7 +84,7 @@ find.addEventListener('input', () => {
     }
   }
   for (const plan of document.querySelectorAll('.plan')) {
-    plan.hidden = word !== '' && !plan.querySelector('[data-f]:not([hidden])');
+    plan.hidden = !plan.querySelector('[data-f]:not([hidden])');
   }
   if (word === '') {
     for (const fold of opened) fold.open = false;
