@@ -27,7 +27,7 @@ summary{cursor:pointer;overflow-wrap:anywhere}
 small,i{color:var(--soft);font-size:.8em;font-style:normal}
 .bad{color:var(--bad)}
 .wide{overflow-x:auto;margin:.8rem 0}
-table{border-collapse:collapse;font-size:.88rem;font-variant-numeric:tabular-nums}
+table{border-collapse:separate;border-spacing:0;font-size:.88rem;font-variant-numeric:tabular-nums}
 th,td{padding:.22rem .7rem;border-bottom:1px solid var(--line);text-align:right;white-space:nowrap;vertical-align:baseline}
 th:first-child,.rows td:nth-child(2),.rows td:nth-child(3),.rows th:nth-child(2),.rows th:nth-child(3){text-align:left}
 th{font-weight:600}
@@ -35,7 +35,7 @@ thead th{color:var(--soft);font-weight:500}
 tbody tr:hover{background:var(--mark)}
 tfoot th,tfoot td{font-weight:600;border-bottom:0}
 .idle{opacity:.5}
-td i{display:block;max-width:13em;margin-left:auto;white-space:normal;overflow-wrap:anywhere}
+td i{display:block;max-width:9em;margin-left:auto;white-space:normal;overflow-wrap:break-word}
 th:first-child{position:sticky;left:0;background:var(--card)}
 .item{color:var(--item)}.fluid{color:var(--fluid)}.special{color:var(--special)}.tech{color:var(--tech)}.recipe{color:var(--recipe)}.source{color:var(--source)}.machine{color:var(--machine)}
 .part p,.part details{margin:.25rem 0;overflow-wrap:anywhere}
