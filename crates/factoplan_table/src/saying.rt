@@ -3,7 +3,9 @@ ghost use Rattle.game_types.specs.Sound.{IsSound};
 
 use game_types::Game;
 use plan_base::{GoodId, NoMemory, Text};
+use program_runs::{End, Names, end_by};
 use std::alloc::{AllocError, AllocFailed, Global};
+use std::rt::Files;
 use wish_tables::good_text;
 
 /// How the program ends where it prints no lines.
@@ -12,11 +14,6 @@ pub enum Status {
     /// A line of the script is refused, or it leaves a batch open.
     Refused,
     BadWords,
-    BadDump,
-    ReadFault,
-    WriteFault,
-    NoMemory,
-    TooLong,
     /// Nothing that is reached gives the good, or what it is made of.
     Lacking,
     /// There would be more than 512 rows or goods.
@@ -29,11 +26,6 @@ impl Status {
         match self {
             Status::Refused => 1,
             Status::BadWords => 2,
-            Status::BadDump => 3,
-            Status::ReadFault => 4,
-            Status::WriteFault => 5,
-            Status::NoMemory => 6,
-            Status::TooLong => 7,
             Status::Lacking => 8,
             Status::Full => 9,
         }
@@ -45,6 +37,8 @@ impl Status {
 pub enum Failure {
     /// What is said, in one line or more.
     Said(Status, Text),
+    /// The dump or the script isn't read, as in a run over them.
+    Ended(planner_cli::Status),
     NoMemory,
 }
 
@@ -83,6 +77,21 @@ impl Failure {
     /// A failure of which this is said.
     pub fn of(status: Status, text: String) -> Failure {
         Failure::Said(status, Text::from_string(text))
+    }
+
+    /// The end by a failure of a run over these files.
+    pub fn end<R: Files>(&self, rt: &R, alloc: Global, names: Names<'_>) -> End {
+        match self {
+            Failure::Said(status, text) => {
+                let text = text.as_str();
+                match format!(in alloc; "factoplan_table: {text}\n") {
+                    Ok(said) => End::saying(alloc, said.as_str(), status.exit()),
+                    Err(_) => End::quiet(status.exit()),
+                }
+            }
+            Failure::Ended(status) => end_by(rt, alloc, status, names),
+            Failure::NoMemory => end_by(rt, alloc, &planner_cli::Status::NoMemory, names),
+        }
     }
 
     /// The good can't be had without these.

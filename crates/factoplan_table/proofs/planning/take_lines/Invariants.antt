@@ -1,6 +1,10 @@
+use Rattle.std.proofs.Common.{length}
 use Rattle.planning_state.specs.States.{State}
 use Rattle.planner_core.specs.Lines.{IsSessionOf}
 use Rattle.factoplan_table.proofs.planning.take_lines.Given as goal
 
-abbrev pub invariant-loop-end : goal.invariant-loop-end
-invariant-loop-end g l = (base : State) × IsSessionOf base l.planner
+abbrev pub invariant-loop-rest : goal.invariant-loop-rest
+invariant-loop-rest g l = (base : State) × IsSessionOf base l.planner
+
+abbrev pub decreases-loop-rest : goal.decreases-loop-rest
+decreases-loop-rest g l = length l.rest

@@ -1,0 +1,11 @@
+//! From the words of the program to a page, or to the graph of a table.
+#![tactic(auto)]
+
+mod asked;
+mod fault;
+mod flow;
+mod running;
+mod session;
+
+pub use fault::{NO_PLAN, PageFault};
+pub use running::run_program;

@@ -1,0 +1,58 @@
+//! Text that stands for itself on a page, between the quotes of an attribute, in a drawing and in a graph.
+ghost use Rattle.std.specs.Prelude.{◌≡◌, ◌++◌, true, IfOk, OnOk, encode_utf8, string_bytes};
+ghost use Rattle.std.specs.List.{flat_map, list_all};
+ghost use Rattle.plan_pages.specs.Escape.{escaped, is_harmless, reference};
+
+use plan_base::NoMemory;
+use std::alloc::{AllocError, Global};
+
+fn push_escaped(text: &mut String, letter: char) -> Result<(), AllocError>
+    ensures { OnOk result (string_bytes text.new ≡ string_bytes text.old ++ flat_map reference (encode_utf8 letter)) }
+{
+    match letter {
+        '&' => text.push_str("&amp;"),
+        '<' => text.push_str("&lt;"),
+        '>' => text.push_str("&gt;"),
+        '"' => text.push_str("&quot;"),
+        '\'' => text.push_str("&#39;"),
+        '\\' => text.push_str("&#92;"),
+        _ => text.push(letter),
+    }
+}
+
+// The text with references in place of letters.
+fn references(alloc: Global, plain: &str) -> Result<String, NoMemory>
+    ensures { IfOk result (λ text. string_bytes text ≡ escaped plain.now) }
+{
+    let mut text = String::new(alloc);
+    for letter in plain.chars() {
+        push_escaped(&mut text, letter)?;
+    }
+    Ok(text)
+}
+
+/// The text with a character reference in place of each letter that could end it or mean something else. No `<`, `>`, quote or
+/// backslash is left.
+#[tactic(auto, using(crate::proofs::EscapeLemmas::harmless_text))]
+pub fn escaped(alloc: Global, plain: &str) -> Result<String, NoMemory>
+    ensures text { IfOk result (λ text. string_bytes text ≡ escaped plain.now) }
+    ensures harmless { IfOk result (λ text. list_all is_harmless (string_bytes text) ≡ true) }
+{
+    let text = references(alloc, plain)?;
+    Ok(text)
+}
+
+/// The first letters of a text, and dots where some are left out.
+pub fn cut(alloc: Global, plain: &str, most: usize) -> Result<String, NoMemory> {
+    let mut text = String::new(alloc);
+    let mut count = 0;
+    for letter in plain.chars() {
+        if count >= most {
+            text.push_str("…")?;
+            return Ok(text);
+        }
+        text.push(letter)?;
+        count += 1;
+    }
+    Ok(text)
+}
