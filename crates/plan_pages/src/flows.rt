@@ -3,8 +3,7 @@ ghost use Rattle.std.specs.Prelude.{◌≡◌, IfOk};
 ghost use Rattle.plan_pages.specs.Flows.{flows_of, product};
 
 use crate::amounts::{Amount, Flow};
-use fractions::Ratio;
-use game_types::is_positive;
+use fractions::{Ratio, is_positive};
 use plan_base::NoMemory;
 use std::alloc::Global;
 
