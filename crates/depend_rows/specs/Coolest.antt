@@ -7,6 +7,7 @@ use Rattle.game_types.specs.Temperatures.{is_cooler}
 use Rattle.game_types.specs.declared.goods.Fluid.{Fluid}
 use Rattle.depend_rows.specs.Lists.{has_node, list_at, number_at}
 
+-- the temperature of a fluid; 0 where there is none
 abbrev pub temperature_in : Option Fluid → Fraction
 temperature_in None = zero_fraction
 temperature_in (Some fluid) = fluid.at

@@ -115,27 +115,27 @@ places_room g lists items are is few =
 pub as_many_lists : (g : Game) (lists : List (Vec Fraction Global)) → contents lists ≡ temperature_lists g → length g.fluids ≡ length (contents lists)
 as_many_lists g lists are = sym (length_lists g) ∙ sym (ap length are)
 
-pub split_is : {E : Type 0} (g : Game) (places : Listed) (items : ℕ) (lists : List (List Fraction)) (fluids : List Fluid) (names : List (List ℕ)) (answer : Result Game E) → places ≡ record { items = items; lists = lists } → items ≡ length g.items → lists ≡ temperature_lists g
+pub split_is : (g after new : Game) (places : Listed) (items : ℕ) (lists : List (List Fraction)) (fluids : List Fluid) (names : List (List ℕ)) → places ≡ record { items = items; lists = lists } → items ≡ length g.items → lists ≡ temperature_lists g
     → fluids ≡ all_records places.items g.fluids places.lists → names ≡ all_names g.fluid_names (temperature_lists g)
-    → IfOk answer (λ new. new ≡ numbered_by g (numbering_of places.items places.lists) (record g { fluids = fluids; fluid_names = names })) → IfOk answer (λ new. new ≡ split g)
+    → after ≡ numbered_by g (numbering_of places.items places.lists) g → new ≡ record after { fluids = fluids; fluid_names = names } → new ≡ split g
 unfolding split
-split_is g places items lists fluids names (Err fault) place item list are named is = tt
-split_is g places items lists fluids names (Ok new) place item list are named is =
+split_is g after new places items lists fluids names place item list are named after_is is =
     let same : places ≡ record { items = length g.items; lists = temperature_lists g } = place ∙ ap (λ (n : ℕ). let l : Listed = record { items = n; lists = lists } in l) item ∙ ap (λ ls. let l : Listed = record { items = length g.items; lists = ls } in l) list in
     is
+    ∙ ap (λ (h : Game). record h { fluids = fluids; fluid_names = names }) after_is
     ∙ ap (λ fs. numbered_by g (numbering_of places.items places.lists) (record g { fluids = fs; fluid_names = names })) are
     ∙ ap (λ ns. numbered_by g (numbering_of places.items places.lists) (record g { fluids = all_records places.items g.fluids places.lists; fluid_names = ns })) named
     ∙ ap (λ (p : Listed). numbered_by g (numbering_of p.items p.lists) (record g { fluids = all_records p.items g.fluids p.lists; fluid_names = all_names g.fluid_names (temperature_lists g) })) same
 
-pub together : (g apart new : Game) (numbering : Numbering) (fluids : List Fluid) (names : List (List ℕ)) (recipes : List Recipe) (sources : List Source) (machines made : List Machine) → apart ≡ record g { machines = [] } → machines ≡ g.machines
+pub together : (g apart new : Game) (numbering : Numbering) (recipes : List Recipe) (sources : List Source) (machines made : List Machine) → apart ≡ record g { machines = [] } → machines ≡ g.machines
     → recipes ≡ map (new_recipe g numbering) g.recipes → sources ≡ map (new_source g numbering) g.sources → made ≡ map (new_machine apart numbering) machines
-    → new ≡ record apart { fluids = fluids; fluid_names = names; recipes = recipes; sources = sources; machines = made }
-    → new ≡ numbered_by g numbering (record g { fluids = fluids; fluid_names = names })
-together g apart new numbering fluids names recipes sources machines made apart_is machines_are recipes_are sources_are made_are is =
+    → new ≡ record apart { recipes = recipes; sources = sources; machines = made }
+    → new ≡ numbered_by g numbering g
+together g apart new numbering recipes sources machines made apart_is machines_are recipes_are sources_are made_are is =
     let made_of_g : made ≡ map (new_machine g numbering) g.machines =
     made_are ∙ ap (λ (h : Game). map (new_machine h numbering) machines) apart_is ∙ machines_apart g numbering machines ∙ ap (map (new_machine g numbering)) machines_are in
     is
-    ∙ ap (λ (h : Game). record h { fluids = fluids; fluid_names = names; recipes = recipes; sources = sources; machines = made }) apart_is
-    ∙ ap (λ (rs : List Recipe). record g { fluids = fluids; fluid_names = names; recipes = rs; sources = sources; machines = made }) recipes_are
-    ∙ ap (λ (ss : List Source). record g { fluids = fluids; fluid_names = names; recipes = map (new_recipe g numbering) g.recipes; sources = ss; machines = made }) sources_are
-    ∙ ap (λ (ms : List Machine). record g { fluids = fluids; fluid_names = names; recipes = map (new_recipe g numbering) g.recipes; sources = map (new_source g numbering) g.sources; machines = ms }) made_of_g
+    ∙ ap (λ (h : Game). record h { recipes = recipes; sources = sources; machines = made }) apart_is
+    ∙ ap (λ (rs : List Recipe). record g { recipes = rs; sources = sources; machines = made }) recipes_are
+    ∙ ap (λ (ss : List Source). record g { recipes = map (new_recipe g numbering) g.recipes; sources = ss; machines = made }) sources_are
+    ∙ ap (λ (ms : List Machine). record g { recipes = map (new_recipe g numbering) g.recipes; sources = map (new_source g numbering) g.sources; machines = ms }) made_of_g

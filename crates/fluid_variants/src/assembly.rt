@@ -15,6 +15,7 @@ use game_types::{Fluid, Game, Machine, NODE_LIMIT, Recipe, Source};
 use name_table::Names;
 use plan_base::{Items, NoMemory};
 use std::alloc::Global;
+use std::mem;
 
 // Whether there are no more records than so many.
 #[tactic(auto, using(crate::proofs::AssemblyLemmas::room_first, crate::proofs::AssemblyLemmas::room_next, crate::proofs::AssemblyLemmas::room_gone, crate::proofs::AssemblyLemmas::room_left))]
@@ -51,119 +52,60 @@ pub fn are_few(game: &Game, lists: &[Vec<Ratio>]) -> bool
     has_room(lists, fluid_room(game))
 }
 
-// A game and its machines, apart.
-fn without_machines(alloc: Global, game: Game) -> (Game, Vec<Machine>)
-    ensures game { result.0 ≡ record game { machines = [] } }
-    ensures machines { result.1.items ≡ game.machines }
+// Takes the machines out of a game.
+fn take_machines(alloc: Global, game: &mut Game) -> Vec<Machine>
+    ensures game { game.new ≡ record game.old { machines = [] } }
+    ensures machines { result.items ≡ game.old.machines }
 {
-    let Game {
-        items,
-        fluids,
-        recipes,
-        sources,
-        machines,
-        techs,
-        character,
-        item_names,
-        fluid_names,
-        recipe_names,
-        source_names,
-        machine_names,
-        tech_names,
-        categories,
-    } = game;
-    let game = Game {
-        items,
-        fluids,
-        recipes,
-        sources,
-        machines: Items::from_vec(Vec::new(alloc)),
-        techs,
-        character,
-        item_names,
-        fluid_names,
-        recipe_names,
-        source_names,
-        machine_names,
-        tech_names,
-        categories,
-    };
-    (game, machines.into_vec())
+    mem::replace(&mut game.machines, Items::from_vec(Vec::new(alloc))).into_vec()
 }
 
-// A game with other fluids, recipes, sources and machines.
-fn put_together(
-    game: Game,
-    fluids: Vec<Fluid>,
-    fluid_names: Names,
-    recipes: Vec<Recipe>,
-    sources: Vec<Source>,
-    machines: Vec<Machine>,
-) -> Game
-    ensures { result ≡ record game { fluids = fluids.items; fluid_names = fluid_names; recipes = recipes.items; sources = sources.items; machines = machines.items } }
+// Puts other recipes, sources and machines into a game.
+fn put_lists(game: &mut Game, recipes: Vec<Recipe>, sources: Vec<Source>, machines: Vec<Machine>)
+    ensures { game.new ≡ record game.old { recipes = recipes.items; sources = sources.items; machines = machines.items } }
 {
-    let Game {
-        items,
-        techs,
-        character,
-        item_names,
-        recipe_names,
-        source_names,
-        machine_names,
-        tech_names,
-        categories,
-        ..
-    } = game;
-    Game {
-        items,
-        fluids: Items::from_vec(fluids),
-        recipes: Items::from_vec(recipes),
-        sources: Items::from_vec(sources),
-        machines: Items::from_vec(machines),
-        techs,
-        character,
-        item_names,
-        fluid_names,
-        recipe_names,
-        source_names,
-        machine_names,
-        tech_names,
-        categories,
-    }
+    game.recipes = Items::from_vec(recipes);
+    game.sources = Items::from_vec(sources);
+    game.machines = Items::from_vec(machines);
 }
 
-// A game whose goods are numbered anew, with these fluids.
-fn renumbered(
-    alloc: Global,
-    game: Game,
-    places: &Places,
-    fluids: Vec<Fluid>,
-    fluid_names: Names,
-) -> Result<Game, NoMemory>
-    ensures { IfOk result (λ new. new ≡ numbered_by game (numbering_of places.now.items places.now.lists) (record game { fluids = fluids.items; fluid_names = fluid_names })) }
+// Numbers the goods of a game anew. After an error the game may be without its machines.
+fn renumber(alloc: Global, game: &mut Game, places: &Places) -> Result<(), NoMemory>
+    ensures { IfOk result (λ done. game.new ≡ numbered_by game.old (numbering_of places.now.items places.now.lists) game.old) }
 {
-    let recipes = new_recipes(alloc, &game, places)?;
-    let sources = new_sources(alloc, &game, places)?;
-    let (game, machines) = without_machines(alloc, game);
-    let machines = new_machines(alloc, &game, places, machines)?;
-    Ok(put_together(game, fluids, fluid_names, recipes, sources, machines))
+    let recipes = new_recipes(alloc, game, places)?;
+    let sources = new_sources(alloc, game, places)?;
+    let machines = take_machines(alloc, game);
+    let machines = new_machines(alloc, game, places, machines)?;
+    put_lists(game, recipes, sources, machines);
+    Ok(())
 }
 
-/// The game with the records of its fluids, which have these names.
+// Puts other fluids into a game.
+fn put_fluids(game: &mut Game, fluids: Vec<Fluid>, fluid_names: Names)
+    ensures { game.new ≡ record game.old { fluids = fluids.items; fluid_names = fluid_names } }
+{
+    game.fluids = Items::from_vec(fluids);
+    game.fluid_names = fluid_names;
+}
+
+/// Puts the records of its fluids, which have these names, into a game. After an error the game may be without its machines.
 pub fn split(
     alloc: Global,
-    game: Game,
+    game: &mut Game,
     lists: Vec<Vec<Ratio>>,
     fluid_names: Names,
-) -> Result<Game, NoMemory>
-    requires sound { IsSound game }
-    requires lists { contents lists.items ≡ temperature_lists game }
-    requires names { fluid_names ≡ all_names game.fluid_names (temperature_lists game) }
-    requires few { node_count (shape_of (split game)) ≤ node_limit }
-    ensures { IfOk result (λ new. new ≡ split game) }
+) -> Result<(), NoMemory>
+    requires sound { IsSound game.old }
+    requires lists { contents lists.items ≡ temperature_lists game.old }
+    requires names { fluid_names ≡ all_names game.old.fluid_names (temperature_lists game.old) }
+    requires few { node_count (shape_of (split game.old)) ≤ node_limit }
+    ensures { IfOk result (λ done. game.new ≡ split game.old) }
 {
     let items = game.items.len() as u32;
     let places = Places::make(alloc, items, lists)?;
     let fluids = places.records(alloc, game.fluids.as_slice())?;
-    renumbered(alloc, game, &places, fluids, fluid_names)
+    renumber(alloc, game, &places)?;
+    put_fluids(game, fluids, fluid_names);
+    Ok(())
 }

@@ -1,9 +1,13 @@
 //! A game with its fluids by temperature.
-ghost use Rattle.std.specs.Prelude.{◌≡◌, ◌≢◌, ◌<◌, [], IfOk, None, length, slice_index_or};
+ghost use Rattle.std.specs.Prelude.{◌≡◌, ◌≢◌, ◌<◌, [], Err, IfErr, IfOk, None, Ok, length, nat_lt, not, slice_index_or, true};
+ghost use Rattle.plan_base.specs.Shape.{node_count};
 ghost use Rattle.craft_reader.specs.Faults.{GivesDump};
+ghost use Rattle.game_types.specs.Nodes.{node_limit, shape_of};
 ghost use Rattle.game_types.specs.Sound.{ArePlain, IsSound};
 ghost use Rattle.fluid_temperatures.specs.Contents.{contents};
 ghost use Rattle.fluid_temperatures.specs.Temperatures.{temperature_lists};
+ghost use Rattle.fluid_variants.specs.Records.{all_names};
+ghost use Rattle.fluid_variants.specs.Split.{split};
 ghost use Rattle.fluid_variants.specs.Variants.{first_variant_name, name_fault, too_many_variants, with_variants};
 
 use crate::assembly::{are_few, split};
@@ -51,23 +55,24 @@ fn name_at(names: &[Text], place: usize) -> &str
     names[place].as_str()
 }
 
-// The game with the records of its fluids, none of which has the name of a variant.
-fn with_records(alloc: Global, game: Game, lists: Vec<Vec<Ratio>>) -> Result<Game, DumpFault>
-    requires sound { IsSound game }
-    requires lists { contents lists.items ≡ temperature_lists game }
-    requires free { first_variant_name game ≡ None }
-    ensures { GivesDump (with_variants game) result }
+// Puts the records of its fluids, which have these names, into a game.
+fn put_named(
+    alloc: Global,
+    game: &mut Game,
+    lists: Vec<Vec<Ratio>>,
+    names: &[Text],
+) -> Result<(), DumpFault>
+    requires sound { IsSound game.old }
+    requires lists { contents lists.items ≡ temperature_lists game.old }
+    requires free { first_variant_name game.old ≡ None }
+    requires few { true ≡ not (nat_lt node_limit (node_count (shape_of (split game.old)))) }
+    requires names { names.now ≡ all_names game.old.fluid_names (contents lists.items) }
+    ensures game { IfOk result (λ done. with_variants game.old ≡ Ok game.new) }
+    ensures fault { IfErr result (λ fault. fault.code ≢ DumpCode.NoMemory → with_variants game.old ≡ Err fault) }
 {
-    if !are_few(&game, lists.as_slice()) {
-        return Err(too_many_variants(alloc));
-    }
-    let Ok(names) = all_names(alloc, &game.fluid_names, lists.as_slice()) else {
-        return Err(DumpFault::of_code(alloc, DumpCode::NoMemory));
-    };
-    let names = names.as_slice();
     match table_of(alloc, names) {
         Named::All(table) => match split(alloc, game, lists, table) {
-            Ok(game) => Ok(game),
+            Ok(()) => Ok(()),
             Err(NoMemory) => Err(DumpFault::of_code(alloc, DumpCode::NoMemory)),
         },
         Named::Twice(place) => {
@@ -78,21 +83,51 @@ fn with_records(alloc: Global, game: Game, lists: Vec<Vec<Ratio>>) -> Result<Gam
     }
 }
 
-// The game with the records of its fluids.
-fn with_variants(alloc: Global, game: Game) -> Result<Game, DumpFault>
-    requires { IsSound game }
-    ensures { GivesDump (with_variants game) result }
+// Puts the records of its fluids, none of which has the name of a variant, into a game.
+fn put_records(alloc: Global, game: &mut Game, lists: Vec<Vec<Ratio>>) -> Result<(), DumpFault>
+    requires sound { IsSound game.old }
+    requires lists { contents lists.items ≡ temperature_lists game.old }
+    requires free { first_variant_name game.old ≡ None }
+    ensures game { IfOk result (λ done. with_variants game.old ≡ Ok game.new) }
+    ensures fault { IfErr result (λ fault. fault.code ≢ DumpCode.NoMemory → with_variants game.old ≡ Err fault) }
 {
-    let Ok(lists) = temperature_lists(alloc, &game) else {
+    if !are_few(game, lists.as_slice()) {
+        return Err(too_many_variants(alloc));
+    }
+    match all_names(alloc, &game.fluid_names, lists.as_slice()) {
+        Ok(names) => put_named(alloc, game, lists, names.as_slice()),
+        Err(NoMemory) => Err(DumpFault::of_code(alloc, DumpCode::NoMemory)),
+    }
+}
+
+// Puts the records of its fluids into a game.
+fn put_variants(alloc: Global, game: &mut Game) -> Result<(), DumpFault>
+    requires { IsSound game.old }
+    ensures game { IfOk result (λ done. with_variants game.old ≡ Ok game.new) }
+    ensures fault { IfErr result (λ fault. fault.code ≢ DumpCode.NoMemory → with_variants game.old ≡ Err fault) }
+{
+    let Ok(lists) = temperature_lists(alloc, game) else {
         return Err(DumpFault::of_code(alloc, DumpCode::NoMemory));
     };
     match first_variant_name(alloc, &game.fluid_names, lists.as_slice()) {
-        Ok(None) => with_records(alloc, game, lists),
+        Ok(None) => put_records(alloc, game, lists),
         Ok(Some(place)) => {
             let name = game.fluid_names.name_of(place);
             Err(name_fault(alloc, name))
         }
         Err(NoMemory) => Err(DumpFault::of_code(alloc, DumpCode::NoMemory)),
+    }
+}
+
+// The game with the records of its fluids.
+fn with_variants(alloc: Global, game: Game) -> Result<Game, DumpFault>
+    requires { IsSound game }
+    ensures { GivesDump (with_variants game) result }
+{
+    let mut game = game;
+    match put_variants(alloc, &mut game) {
+        Ok(()) => Ok(game),
+        Err(fault) => Err(fault),
     }
 }
 
