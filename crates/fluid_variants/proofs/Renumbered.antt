@@ -1,9 +1,8 @@
 -- A sound game whose goods are numbered anew is sound: one lemma for each record.
-use Rattle.std.proofs.Common.{◌≡◌, ◌∙◌, ◌<◌, ◌≤◌, ◌+◌, ◌-◌, ◌++◌, ℕ, Bool, true, false, List, [], ◌∷◌, Option, Some, None, length, map, get_or, refl, sym, ap, subst, arith}
+use Rattle.std.proofs.Common.{◌≡◌, ◌∙◌, ◌<◌, ◌≤◌, ◌-◌, ◌++◌, ℕ, Bool, true, false, List, [], ◌∷◌, Option, Some, None, length, map, get_or, refl, sym, ap, subst, arith}
 use Rattle.std.specs.Prelude.{All, IfSome, IsSomeAnd, option_map, slice_get, nat_lt, if◌then◌else◌}
 use Rattle.std.specs.List.{cons_option, filter_map, flat_map}
 use Rattle.std.proofs.lemmas.Bool.Decides.{nat_tests}
-use Rattle.std.proofs.lemmas.Grind.{common_steps}
 use Rattle.std.proofs.lemmas.List.{length-map}
 use Rattle.std.proofs.lemmas.List.Elements.{All-nil, All-cons, All-head, All-tail, All-map, All-weaker}
 use Rattle.std.proofs.lemmas.Option.{slice_get-get_or, slice_get-map}
@@ -14,7 +13,7 @@ use Rattle.plan_base.specs.declared.ids.GoodId.{GoodId}
 use Rattle.plan_base.specs.declared.ids.RecipeId.{RecipeId}
 use Rattle.plan_base.specs.declared.ids.TechId.{TechId}
 use Rattle.game_types.specs.Nodes.{node_limit, shape_of}
-use Rattle.game_types.specs.Sound.{AreApart, IsCrafter, IsCrafterKind, IsFluid, IsGood, IsItem, IsSound, IsSoundEnergy, IsSoundFluid, IsSoundItem, IsSoundKind, IsSoundBurning, IsSoundMachine, IsSoundModule, IsSoundRecipe, IsSoundSource, IsSoundTech, IsBurner}
+use Rattle.game_types.specs.Sound.{AreApart, IsCrafter, IsCrafterKind, IsFluid, IsGood, IsItem, IsSound, IsSoundEnergy, IsSoundFluid, IsSoundItem, IsSoundKind, IsSoundBurning, IsSoundMachine, IsSoundModule, IsSoundRecipe, IsSoundSource, IsSoundTech}
 use Rattle.game_types.specs.Temperatures.{fluid_at}
 use Rattle.game_types.specs.declared.games.Game.{Game}
 use Rattle.game_types.specs.declared.goods.Fluid.{Fluid}
@@ -33,7 +32,6 @@ use Rattle.game_types.specs.declared.recipes.Source.{Source}
 use Rattle.fluid_temperatures.specs.declared.made.Made.{Made}
 use Rattle.fluid_temperatures.specs.Temperatures.{all_made, machine_made, made, or_default, product_made}
 use Rattle.fluid_variants.specs.Records.{Numbering, given_or, new_energy, new_kind, new_machine, new_part, new_product, new_recipe, new_source}
-use Rattle.fluid_variants.specs.Split.{numbered_by}
 
 -- ---- what holds of all that is made holds of what each thing makes
 all_left : {A : Type 0} (P : A → Type 0) (xs ys : List A) → All P (xs ++ ys) → All P xs

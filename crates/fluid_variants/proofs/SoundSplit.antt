@@ -1,17 +1,16 @@
 -- A sound game of plain fluids is sound with the records of its fluids.
-use Rattle.std.proofs.Common.{◌≡◌, ◌∙◌, ◌<◌, ◌≤◌, ◌+◌, ◌-◌, ◌⊎◌, ◌++◌, ℕ, zero, suc, Bool, true, false, List, [], ◌∷◌, Option, Some, None, Result, Ok, Err, length, map, get_or, refl, sym, ap, subst, append_assoc, arith, inl, inr}
-use Rattle.std.specs.Prelude.{All, IfOk, IfSome, IsSomeAnd, if◌then◌else◌, nat_lt, option_map, slice_get}
-use Rattle.std.specs.List.{prefix_len}
+use Rattle.std.proofs.Common.{◌≡◌, ◌∙◌, ◌<◌, ◌≤◌, ◌+◌, ◌-◌, ◌++◌, ℕ, zero, suc, Bool, true, false, List, [], ◌∷◌, Option, Some, None, length, map, get_or, refl, sym, ap, subst, append_assoc, arith}
+use Rattle.std.specs.Prelude.{All, IfSome, IsSomeAnd, nat_lt, option_map, slice_get}
 use Rattle.std.proofs.lemmas.Bool.Decides.{nat_tests}
 use Rattle.std.proofs.lemmas.Grind.{common_steps}
 use Rattle.std.proofs.lemmas.List.{length-append, length-map}
-use Rattle.std.proofs.lemmas.List.Elements.{All-nil, All-cons, All-append, All-head, All-map, All-weaker}
-use Rattle.std.proofs.lemmas.Option.{slice_get-map, slice_get_within, gets, get_or_from_slice_get}
+use Rattle.std.proofs.lemmas.List.Elements.{All-nil, All-cons, All-append, All-head, All-map}
+use Rattle.std.proofs.lemmas.Option.{slice_get-map, slice_get_within, get_or_from_slice_get}
 use Rattle.fractions.specs.Fraction.{Fraction}
 use Rattle.plan_base.specs.Shape.{node_count}
 use Rattle.plan_base.specs.declared.ids.GoodId.{GoodId}
 use Rattle.game_types.specs.Nodes.{node_limit, shape_of}
-use Rattle.game_types.specs.Sound.{AreApart, ArePlain, IsBase, IsFluid, IsGood, IsSound, IsSoundFluid}
+use Rattle.game_types.specs.Sound.{AreApart, IsFluid, IsGood, IsSound, IsSoundFluid}
 use Rattle.game_types.specs.declared.games.Game.{Game}
 use Rattle.game_types.specs.declared.goods.Fluid.{Fluid}
 use Rattle.fluid_temperatures.specs.declared.made.Made.{Made}

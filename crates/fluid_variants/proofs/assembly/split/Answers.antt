@@ -1,4 +1,4 @@
-use Rattle.std.proofs.Common.{◌∙◌, ap, length, subst, sym, arith}
+use Rattle.std.proofs.Common.{◌∙◌, ap, length, subst, sym}
 use Rattle.std.specs.Prelude.{All}
 use Rattle.fluid_temperatures.specs.Temperatures.{IsRising}
 use Rattle.fluid_temperatures.proofs.Rising.{all_rise}

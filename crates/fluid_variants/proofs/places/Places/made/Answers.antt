@@ -1,11 +1,10 @@
-use Rattle.std.proofs.Common.{◌≡◌, ◌∙◌, ◌+◌, ◌≤◌, List, ap, subst, sym, arith}
+use Rattle.std.proofs.Common.{◌∙◌, List, ap, subst, sym, arith}
 use Rattle.std.specs.Prelude.{All, Vec}
 use Rattle.std.specs.Global.{Global}
 use Rattle.fractions.specs.Fraction.{Fraction}
 use Rattle.fluid_temperatures.specs.Temperatures.{IsRising}
-use Rattle.plan_base.specs.declared.ids.GoodId.{GoodId}
 use Rattle.fluid_temperatures.specs.Contents.{contents}
-use Rattle.fluid_variants.specs.Records.{list_at, record_of, variant_offset}
+use Rattle.fluid_variants.specs.Records.{list_at, variant_offset}
 use Rattle.fluid_variants.proofs.PlaceLemmas.{made_of}
 use Rattle.fluid_variants.proofs.places.Places.made.Goals as goal
 
