@@ -5,7 +5,7 @@ use Rattle.std.proofs.Math.ListN.{length-set}
 use Rattle.fractions.specs.Fraction.{Fraction, ◌/ʳ◌}
 use Rattle.linear_table.specs.Plans.{number_at}
 use Rattle.linear_table.specs.Wide.{LessFits}
-use Rattle.pivot_solver.specs.Rows.{Numbers, IsDividedRow, IsReducedRow, AreReducedRows, row_at}
+use Rattle.pivot_solver.specs.Rows.{Numbers, AreNarrow, IsDividedRow, IsReducedRow, AreReducedRows, row_at}
 use Rattle.pivot_solver.specs.Tableau.{IsPivoted}
 use Rattle.pivot_solver.specs.WideAt.{quotient, IsWideInRow, IsWideInCost}
 use Rattle.pivot_solver.proofs.ManyRows.{row_at-set_same, row_at-set_other}
@@ -36,6 +36,16 @@ divided_length rows row enter v p ev d = d.length_is ∙ ap (λ (x : List Fracti
 
 pub divided_width : (rows : List Numbers) (cost : List Fraction) (row enter : ℕ) (v p : Numbers) → v.items ≡ row_at rows row → IsDividedRow v.items (number_at v.items enter) p.items → length cost ≡ length (row_at rows row) → length cost ≡ length p.items
 divided_width rows cost row enter v p ev d w = w ∙ sym (divided_length rows row enter v p ev d)
+
+-- the other rows, where another one stands in the place of the row that is taken out
+pub others_width : (rows : List Numbers) (row enter : ℕ) (v e p : Numbers) → v.items ≡ row_at rows row → IsDividedRow v.items (number_at v.items enter) p.items
+    → ((i : ℕ) → i < length rows → length (row_at rows i) ≡ length (row_at rows row)) → (i : ℕ) → i < length (set rows row e) → i ≢ row → length (row_at (set rows row e) i) ≡ length p.items
+others_width rows row enter v e p ev d widths i lt ne =
+    ap (λ (x : List Fraction). length x) (row_at-set_other rows row i e ne) ∙ widths i (omega (arith, lt, length-set rows row e)) ∙ sym (divided_length rows row enter v p ev d)
+
+pub others_narrow : (rows : List Numbers) (row : ℕ) (e : Numbers) → ((i : ℕ) → i < length rows → AreNarrow (row_at rows i)) → (i : ℕ) → i < length (set rows row e) → i ≢ row → AreNarrow (row_at (set rows row e) i)
+others_narrow rows row e narrow i lt ne =
+    subst (λ (x : List Fraction). AreNarrow x) (sym (row_at-set_other rows row i e ne)) (narrow i (omega (arith, lt, length-set rows row e)))
 
 pub wide_row : (rows : List Numbers) (row enter i k : ℕ) (v e p : Numbers) → v.items ≡ row_at rows row → IsDividedRow v.items (number_at v.items enter) p.items → i < length (set rows row e) → i ≢ row → k < length p.items → ¬ LessFits (number_at (row_at (set rows row e) i) k) (number_at (row_at (set rows row e) i) enter) (number_at p.items k) →
     IsWideInRow rows row enter i k

@@ -1,13 +1,21 @@
 use Rattle.std.proofs.Common.{◌∙◌, sym, ap, ◌≡◌}
 use Rattle.pivot_solver.specs.Rows.{Numbers, row_at}
 use Rattle.pivot_solver.proofs.ManyRows.{row_at-get_or}
-use Rattle.pivot_solver.proofs.Pivoted.{pivoted_rows, divided_width, wide_row, wide_cost}
+use Rattle.pivot_solver.proofs.Pivoted.{pivoted_rows, divided_width, others_width, others_narrow, wide_row, wide_cost}
 use Rattle.pivot_solver.proofs.pivot.Goals.{After-replace-pivot_row}
 use Rattle.pivot_solver.proofs.pivot.Goals as goal
 
 -- the row that is taken out
 taken : (c : After-replace-pivot_row) → c.replace-pivot_row.result.items ≡ row_at c.args.rows.now c.args.row
 taken c = ap (λ (x : Numbers). x.items) c.replace-pivot_row.ensures.value ∙ sym (row_at-get_or c.args.rows.now c.args.row c.index-rows-row.result c.requires.inside)
+
+pub reduce_rows-requires-clause-widths : goal.reduce_rows-requires-clause-widths
+reduce_rows-requires-clause-widths c =
+    others_width c.args.rows.now c.args.row c.args.enter c.replace-pivot_row.result c.replace-pivot_row.new.dest c.divide.new.self
+    (taken (goal.at.reduce_rows-requires-clause-widths c).After-replace-pivot_row) c.in_default.ensures.ok c.requires.widths
+
+pub reduce_rows-requires-clause-narrow : goal.reduce_rows-requires-clause-narrow
+reduce_rows-requires-clause-narrow c = others_narrow c.args.rows.now c.args.row c.replace-pivot_row.new.dest c.requires.narrow
 
 pub returns-in-Err-reduce_rows-clause-err : goal.returns-in-Err-reduce_rows-clause-err
 returns-in-Err-reduce_rows-clause-err c =
