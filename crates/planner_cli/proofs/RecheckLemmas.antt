@@ -20,7 +20,7 @@ use Rattle.script_runner.specs.Lines.{lines_of}
 use Rattle.script_runner.specs.Rechecks.{IsNeverWide, IsProof}
 use Rattle.script_runner.specs.Scripts.{IsTooLong}
 use Rattle.script_runner.specs.Sessions.{IsSession}
-use Rattle.script_runner.specs.declared.run.ScriptEnd.TheVariants as script
+use Rattle.script_runner.specs.declared.run.ScriptEnd.TheVariants as script_end
 use Rattle.script_runner.proofs.RecheckLemmas.{ends_done}
 use Rattle.planner_cli.specs.declared.status.Status.{Status}
 use Rattle.planner_cli.specs.declared.status.Status.TheVariants.{Done, SomeRefused, BadWords, BadDump, ReadFault, WriteFault, NoMemory, TooLong, BadCert}
@@ -48,7 +48,7 @@ pub record Proves (side : Side) (certificate : List ℕ) : Type 0 where
   pub script_is : IsInput side.shelf side.names.script 16_777_216 script
   pub solved : List SolveAnswer
   pub steps : ℕ
-  pub ends : EndsProof (first_planned game) script solved script.Done certificate steps
+  pub ends : EndsProof (first_planned game) script solved script_end.Done certificate steps
 
 proves : (side : Side) (certificate : List ℕ) → IsProved side certificate → Proves side certificate
 unfolding EndsRun
@@ -63,17 +63,17 @@ proves side certificate is =
       script_is = all.script_is;
       solved = is.solved;
       steps = all.line_work;
-      ends = subst (λ (t : List ℕ). EndsProof (first_planned all.game) all.script is.solved script.Done t all.line_work) (sym is.ends.whole) all.ends;
+      ends = subst (λ (t : List ℕ). EndsProof (first_planned all.game) all.script is.solved script_end.Done t all.line_work) (sym is.ends.whole) all.ends;
     }
 
 first_grown : (game : Game) → IsSessionOf (first_state game) (first_planned game)
 first_grown game = record { past = refl; future = tt }
 
-few_lines : (first : Planned) (bytes : List ℕ) (solved : List SolveAnswer) (certificate : List ℕ) (steps : ℕ) → EndsProof first bytes solved script.Done certificate steps → length (lines_of bytes) ≤ 100_000
+few_lines : (first : Planned) (bytes : List ℕ) (solved : List SolveAnswer) (certificate : List ℕ) (steps : ℕ) → EndsProof first bytes solved script_end.Done certificate steps → length (lines_of bytes) ≤ 100_000
 unfolding EndsProof
 few_lines first bytes solved certificate steps ends = ends.tells.few
 
-certified : (first : Planned) (bytes : List ℕ) (solved : List SolveAnswer) (certificate : List ℕ) (steps : ℕ) → EndsProof first bytes solved script.Done certificate steps → (entries : List CertEntry) × IsCertificate certificate entries
+certified : (first : Planned) (bytes : List ℕ) (solved : List SolveAnswer) (certificate : List ℕ) (steps : ℕ) → EndsProof first bytes solved script_end.Done certificate steps → (entries : List CertEntry) × IsCertificate certificate entries
 unfolding EndsProof
 certified first bytes solved certificate steps ends = (_, ends.says)
 
@@ -160,17 +160,17 @@ proof_there games first second cert certificate bytes game entries is files base
       grown = first_grown game;
       solved = is.solved;
       steps = is.steps;
-      ends = subst (λ (b : List ℕ). EndsProof (first_planned game) b is.solved script.Done certificate is.steps) (sym same_script)
-          (subst (λ (g : Game). EndsProof (first_planned g) is.script is.solved script.Done certificate is.steps) same_game is.ends);
+      ends = subst (λ (b : List ℕ). EndsProof (first_planned game) b is.solved script_end.Done certificate is.steps) (sym same_script)
+          (subst (λ (g : Game). EndsProof (first_planned g) is.script is.solved script_end.Done certificate is.steps) same_game is.ends);
       says = subst (λ (b : List ℕ). IsCertificate b entries) same_text read.says;
     }
 
 none_refused : OneGame → (first second : Side) (cert certificate : List ℕ) (game : Game) (bytes : List ℕ) (solved : List SolveAnswer) (text : List ℕ) (work : ℕ) → Proves first certificate → HasSameFiles first second cert certificate → ChecksNoWide second cert
-    → IsBase second.shelf (Some (Files (Check cert) second.names)) game → IsScript second.shelf (Some (Files (Check cert) second.names)) bytes → ChecksCert second.shelf cert (first_planned game) bytes solved script.SomeRefused text work → ⊥
+    → IsBase second.shelf (Some (Files (Check cert) second.names)) game → IsScript second.shelf (Some (Files (Check cert) second.names)) bytes → ChecksCert second.shelf cert (first_planned game) bytes solved script_end.SomeRefused text work → ⊥
 none_refused games first second cert certificate game bytes solved text work is files narrow base given checks =
     let proof = proof_there games first second cert certificate bytes game checks.entries is files base given checks.given in
-    let never : script.SomeRefused ≡ script.Done =
-    ends_done (first_planned game) bytes certificate checks.entries script.SomeRefused text work proof (narrow game bytes checks.entries base given checks.given) checks.ends (λ same. cc) (λ same. cc) in
+    let never : script_end.SomeRefused ≡ script_end.Done =
+    ends_done (first_planned game) bytes certificate checks.entries script_end.SomeRefused text work proof (narrow game bytes checks.entries base given checks.given) checks.ends (λ same. cc) (λ same. cc) in
     cc
 
 ends_as : OneGame → (first second : Side) (cert certificate : List ℕ) (taken : ℕ) (solved : List SolveAnswer) (status : Status) (text : List ℕ) (work : ℕ) → Proves first certificate → HasSameFiles first second cert certificate → ChecksNoWide second cert
