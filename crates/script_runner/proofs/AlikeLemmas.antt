@@ -1,6 +1,6 @@
 -- A line leads to one planner, but for what takes its entries back.
-use Rattle.std.proofs.Common.{◌≡◌, ◌∷◌, ◌++◌, [], ℕ, List, Bool, true, false, ap, sym, subst, refl, ◌∙◌}
-use Rattle.std.specs.Prelude.{Option, Some, None, Result, Ok, Err}
+use Rattle.std.proofs.Common.{◌≡◌, ℕ, List, Bool, false, ap, sym, subst, refl, ◌∙◌}
+use Rattle.std.specs.Prelude.{Option, Some, None, Ok}
 use Rattle.edit_undo.specs.Edits.{apply_edits}
 use Rattle.edit_undo.specs.Session.{Session, active_edits}
 use Rattle.edit_undo.specs.Kept.{session_of, nothing}
@@ -14,7 +14,7 @@ use Rattle.planning_state.specs.States.{State}
 use Rattle.planner_core.specs.Lines.{Held, IsSessionOf, IsStep, IsStepIn, Planned, planned}
 use Rattle.planner_core.specs.Posing.{form_asked, form_in}
 use Rattle.script_runner.specs.Alike.{AreAlike}
-use Rattle.script_runner.proofs.LeftLemmas.{Left, Leaves, Settles, form_settled, left_by, line_leaves, line_left}
+use Rattle.script_runner.proofs.LeftLemmas.{Left, Settles, form_settled, left_by, line_leaves, line_left}
 use Rattle.script_runner.proofs.SessionLemmas.{afresh}
 
 -- the state is that of the active edits

@@ -1,5 +1,5 @@
 -- The certificate of a session: the lines of its entries, and what its text says.
-use Rattle.std.proofs.Common.{◌≡◌, ◌≤◌, ◌+◌, ◌++◌, ◌∷◌, [], ℕ, List, length, arith, rules, sym, subst, ◌∙◌}
+use Rattle.std.proofs.Common.{◌≤◌, ◌+◌, ◌++◌, ◌∷◌, [], ℕ, List, length, arith, rules, sym, subst, ◌∙◌}
 use Rattle.std.specs.Prelude.{Option, Some, None, codes, option_map}
 use Rattle.std.specs.List.{cons_option}
 use Rattle.std.specs.Str.{IsUtf8}

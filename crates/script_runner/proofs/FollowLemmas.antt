@@ -1,6 +1,6 @@
 -- Sessions, line by line.
 use Rattle.std.proofs.Common.{◌≡◌, ◌+◌, ◌∷◌, ◌++◌, [], ℕ, suc, List, length, map, arith, sym, subst, ◌∙◌}
-use Rattle.std.specs.Prelude.{All, Option, Some, None, Ok, Err}
+use Rattle.std.specs.Prelude.{All, Some, None, Ok, Err}
 use Rattle.std.specs.List.{range_with_len}
 use Rattle.script_reader.specs.Lines.{command_of_line}
 use Rattle.script_reader.proofs.One.{one_line}

@@ -1,5 +1,5 @@
 -- What a line makes of a planner, whatever the solver answers and whatever set supports a node.
-use Rattle.std.proofs.Common.{◌≡◌, ◌∷◌, ◌++◌, [], ℕ, List, Bool, true, false, ap, sym, subst, refl, ◌∙◌, length}
+use Rattle.std.proofs.Common.{◌≡◌, ◌∷◌, ◌++◌, [], ℕ, List, Bool, true, false, ap, subst, refl, ◌∙◌, length}
 use Rattle.std.specs.Prelude.{Option, Some, None, Result, Ok, Err, find, nat_lt}
 use Rattle.plan_base.specs.declared.ids.NodeId.{NodeId}
 use Rattle.edit_undo.specs.Edits.{apply_edits}
@@ -23,7 +23,6 @@ use Rattle.production_table.specs.Tables.{is_label}
 use Rattle.table_rows.specs.Columns.{figures_of}
 use Rattle.plan_report.specs.declared.reply.RefusalCode.{RefusalCode}
 use Rattle.plan_report.specs.declared.reply.Reply.{Reply}
-use Rattle.plan_report.specs.declared.reply.Reply.TheVariants as reply
 use Rattle.planner_tables.specs.Effects.{named, table_at, table_named}
 use Rattle.planner_tables.specs.Questions.{IsSolveReply, IsSolveReplyAt, IsSolved, IsSolvedWhere, answered, linear_named, linear_outcome, rate_outcome, rate_reply, rates_outcome, row_rates_outcome, solved}
 use Rattle.planner_tables.specs.Refusals as tables

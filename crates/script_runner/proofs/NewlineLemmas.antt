@@ -1,5 +1,5 @@
 -- A newline behind a JSON text says nothing.
-use Rattle.std.proofs.Common.{◌≡◌, ◌≤◌, ◌-◌, ◌+◌, ◌*◌, ◌==◌, ℕ, suc, List, [], ◌∷◌, ◌++◌, length, take, drop, Bool, true, false, cond, refl, ap, ap₂, sym, ◌∙◌, arith, length-append}
+use Rattle.std.proofs.Common.{◌≡◌, ◌≤◌, ◌-◌, ◌+◌, ◌*◌, ◌==◌, ℕ, List, [], ◌∷◌, ◌++◌, length, take, drop, Bool, true, false, cond, refl, ap, ap₂, ◌∙◌, arith, length-append}
 use Rattle.std.specs.Prelude.{Option, Some, None, option_map, option_and_then, nat_lt, nat_eq, ◌&&◌, ◌||◌}
 use Rattle.std.specs.List.{prefix_len, starts_with}
 use Rattle.std.specs.Char.{digit_value, encode_utf8, is_ascii_digit, is_digit}
@@ -9,7 +9,7 @@ use Rattle.json.specs.Token.{Token, boolean, null, bad, number}
 use Rattle.json.specs.Ascii as ascii
 use Rattle.json.specs.Text.{Within, plain, after_backslash, after_u, after_high, content, code_unit, is_high_surrogate, is_low_surrogate, prepend, short_escape, surrogate_pair}
 use Rattle.json.specs.Word.{after_digits, after_exponent, after_fraction, after_minus, after_number, after_sign, after_whole, ends_word, literal, number_before, word}
-use Rattle.json.specs.Lex.{Class, Lexeme, Mode, Place, between, class, fresh, in_escape, in_string, in_word, lex, lex_byte, operator, operator_lexeme, other, punctuate, quote, space, backslash, string_token, token, tokens}
+use Rattle.json.specs.Lex.{Class, Lexeme, Mode, between, class, fresh, in_escape, in_string, in_word, lex, lex_byte, operator, operator_lexeme, other, punctuate, quote, space, backslash, string_token, token}
 use Rattle.json.specs.Json as json
 use Rattle.serde_json.specs.Read.{max_depth, of_json, read}
 

@@ -1,8 +1,8 @@
 -- A script that is answered, and is then checked by the entries of its answers.
-use Rattle.std.proofs.Common.{◌≡◌, ◌⊎◌, ◌≤◌, ◌<◌, ◌+◌, ◌∷◌, ◌++◌, [], ℕ, suc, List, length, map, Bool, true, false, ap, sym, subst, refl, ◌∙◌, arith, append_assoc, append-nil, inl, inr}
-use Rattle.std.specs.Prelude.{◌==◌, ◌||◌, cond, Option, Some, None, Result, Ok, Err, All, count_by, find, filter_map, option_map, option_to_list, sum_by, nat_eq}
+use Rattle.std.proofs.Common.{◌≡◌, ◌≤◌, ◌+◌, ◌∷◌, ◌++◌, [], ℕ, List, Bool, true, false, ap, sym, subst, refl, ◌∙◌, arith, append_assoc, append-nil, inl, inr}
+use Rattle.std.specs.Prelude.{◌==◌, ◌||◌, cond, Option, Some, None, Ok, Err, find, option_map, option_to_list}
 use Rattle.std.specs.Option.{option_or}
-use Rattle.std.specs.List.{cons_option, list_any, range_with_len}
+use Rattle.std.specs.List.{cons_option}
 use Rattle.std.proofs.lemmas.List.Sums.{sum_by-cons}
 use Rattle.std.proofs.lemmas.List.Folds.{find-append}
 use Rattle.std.proofs.lemmas.Bool.{or_parts}
@@ -27,18 +27,18 @@ use Rattle.planner_core.specs.declared.posing.Posed.TheVariants as posed
 use Rattle.certificate_file.specs.declared.CertEntry.{CertEntry}
 use Rattle.certificate_file.specs.declared.Claim.{Claim}
 use Rattle.script_runner.specs.Alike.{AreAlike}
-use Rattle.script_runner.specs.Answers.{Answered, IsAnswered, IsReply, Reading, gives_up, is_refusal, is_refusal_reply, solved_in}
+use Rattle.script_runner.specs.Answers.{Answered, IsReply, Reading, gives_up, is_refusal, is_refusal_reply, solved_in}
 use Rattle.script_runner.specs.Certificates.{claim_of, entries_of, entry_for, entry_of}
-use Rattle.script_runner.specs.Rechecks.{AreProvedButWide, is_wide, wide_count}
+use Rattle.script_runner.specs.Rechecks.{AreProvedButWide, is_wide}
 use Rattle.script_runner.specs.Sessions.{IsSession, some_refused}
-use Rattle.script_runner.specs.Trials.{IsJudgedBy, IsSaid, IsTrial, Judged, form_count, is_form, is_said_refused, is_shown, proved_count, some_said_refused}
+use Rattle.script_runner.specs.Trials.{IsJudgedBy, IsSaid, IsTrial, Judged, is_form, is_said_refused, is_shown, some_said_refused}
 use Rattle.script_runner.specs.Verdicts.{IsPlanVerdict, IsVerdict, claim_at, is_of_line, is_proved}
 use Rattle.script_runner.specs.declared.verdict.Verdict.{Verdict}
 use Rattle.script_runner.specs.declared.verdict.Verdict.TheVariants as verdicts
 use Rattle.script_runner.proofs.AlikeLemmas.{alike_as, alike_left, alike_self, form_same, left_same, solves}
 use Rattle.script_runner.proofs.FollowLemmas.{Follows, follows}
 use Rattle.script_runner.proofs.FaultLemmas.{least_fault, none_fault, plan_fault}
-use Rattle.script_runner.proofs.LeftLemmas.{Left, Settles}
+use Rattle.script_runner.proofs.LeftLemmas.{Left}
 
 -- ---- one form
 wide_counted : (fault : CheckFault) → fault ≡ WideSum → cond false 1 0 + cond (is_wide (Some (verdicts.Rejected fault))) 1 0 ≡ 1

@@ -1,6 +1,6 @@
 -- What is so while the lines of a script are answered for their certificate.
-use Rattle.std.proofs.Common.{◌≡◌, ◌<◌, ◌≤◌, ◌+◌, ◌++◌, ◌∷◌, [], ℕ, List, length, take, arith, ap, sym, subst, refl, inl, inr, Bool, true, false, ◌∙◌, append_assoc}
-use Rattle.std.specs.Prelude.{Option, Some, None, Result, Ok, Err, OnErr, ◌||◌, codes, filter_map, option_map, option_to_list}
+use Rattle.std.proofs.Common.{◌≡◌, ◌<◌, ◌≤◌, ◌+◌, ◌++◌, ◌∷◌, [], ℕ, List, length, arith, ap, sym, subst, refl, inl, inr, Bool, true, false, ◌∙◌, append_assoc}
+use Rattle.std.specs.Prelude.{Option, Some, None, Result, Ok, Err, OnErr, ◌||◌, codes, option_map, option_to_list}
 use Rattle.std.specs.List.{cons_option}
 use Rattle.std.specs.Io.KnownBytes.{Appends}
 use Rattle.std.proofs.lemmas.List.Elements.{filter_map-append}
@@ -12,7 +12,7 @@ use Rattle.certificate_file.specs.Said.{HaveLines, IsCertificate}
 use Rattle.certificate_file.specs.Tree.{certificate_tree}
 use Rattle.certificate_file.specs.declared.CertEntry.{CertEntry}
 use Rattle.script_runner.specs.Answers.{Answered, AnswersLine, solved_in}
-use Rattle.script_runner.specs.Certificates.{CertifiesAll, EndsProof, IsEntered, IsEnteredInPart, certificate_line, end_of, entries_of, entry_for, entry_of}
+use Rattle.script_runner.specs.Certificates.{CertifiesAll, EndsProof, IsEntered, IsEnteredInPart, end_of, entries_of, entry_for, entry_of}
 use Rattle.script_runner.specs.Leaves.{Leaves}
 use Rattle.script_runner.specs.Lines.{lines_of}
 use Rattle.script_runner.specs.Scripts.{is_cut}

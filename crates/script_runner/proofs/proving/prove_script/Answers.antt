@@ -1,4 +1,4 @@
-use Rattle.std.proofs.Common.{◌≡◌, List, arith, refl, rules, subst}
+use Rattle.std.proofs.Common.{◌≡◌, List, refl, rules, subst}
 use Rattle.serde_json.specs.Written.{compact_text}
 use Rattle.certificate_file.specs.Said.{HaveLines, IsCertificate}
 use Rattle.certificate_file.specs.Tree.{certificate_tree}
