@@ -1,6 +1,6 @@
 -- A run that checks a script by the certificate that another run told of it.
-use Rattle.std.proofs.Common.{◌≡◌, ◌≢◌, ◌≤◌, ◌<◌, ℕ, List, IsTrue, length, arith, ap, inl, inr, refl, subst, sym, ◌∙◌}
-use Rattle.std.specs.Prelude.{Option, Some, None}
+use Rattle.std.proofs.Common.{◌≡◌, ◌≢◌, ◌≤◌, ℕ, List, IsTrue, length, arith, ap, inl, inr, refl, subst, sym, ◌∙◌}
+use Rattle.std.specs.Prelude.{Some}
 use Rattle.plan_io.specs.Store.{Shelf}
 use Rattle.game_types.specs.declared.games.Game.{Game}
 use Rattle.craft_reader.specs.declared.fault.DumpFault.{DumpFault}
@@ -14,24 +14,22 @@ use Rattle.certificate_file.specs.declared.CertFault.{CertFault}
 use Rattle.certificate_file.specs.declared.CertFault.TheVariants as of_cert
 use Rattle.planning_state.specs.States.{first_state}
 use Rattle.planner_core.specs.Lines.{IsSessionOf, Planned, first_planned}
-use Rattle.script_runner.specs.Certificates.{CertifiesAll, EndsProof}
-use Rattle.script_runner.specs.Checks.{EndsCheck}
+use Rattle.script_runner.specs.Certificates.{EndsProof}
 use Rattle.script_runner.specs.Lines.{lines_of}
-use Rattle.script_runner.specs.Rechecks.{IsNeverWide, IsProof}
+use Rattle.script_runner.specs.Rechecks.{IsProof}
 use Rattle.script_runner.specs.Scripts.{IsTooLong}
-use Rattle.script_runner.specs.Sessions.{IsSession}
 use Rattle.script_runner.specs.declared.run.ScriptEnd.TheVariants as script_end
 use Rattle.script_runner.proofs.RecheckLemmas.{ends_done}
 use Rattle.planner_cli.specs.declared.status.Status.{Status}
 use Rattle.planner_cli.specs.declared.status.Status.TheVariants.{Done, SomeRefused, BadWords, BadDump, ReadFault, WriteFault, NoMemory, TooLong, BadCert}
 use Rattle.planner_cli.specs.declared.status.Long.TheVariants.{DumpBytes, ScriptBytes, ScriptLines, CertBytes}
-use Rattle.planner_cli.specs.Base.{HasBase, HasManyMembers}
+use Rattle.planner_cli.specs.Base.{HasBase}
 use Rattle.planner_cli.specs.Early.{HasBaseFault, Stops}
-use Rattle.planner_cli.specs.Ending.{Answers, ChecksCert, EndsRun, Stopped}
-use Rattle.planner_cli.specs.Inputs.{IsBadCertOf, IsBase, IsCert, IsDump, IsInput, IsLong, IsScript}
+use Rattle.planner_cli.specs.Ending.{ChecksCert, EndsRun}
+use Rattle.planner_cli.specs.Inputs.{IsBase, IsCert, IsInput, IsScript}
 use Rattle.planner_cli.specs.Reading.{IsContent}
 use Rattle.planner_cli.specs.Rechecks.{ChecksNoWide, HasSameFiles, IsProved, Side}
-use Rattle.planner_cli.specs.Words.{Asked, Check, Files, Prove}
+use Rattle.planner_cli.specs.Words.{Check, Files}
 
 -- a dump has one game, and none where it has a fault
 pub record OneGame : Type 0 where
