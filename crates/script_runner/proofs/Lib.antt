@@ -8,3 +8,11 @@ pub mod ProvingLemmas
 pub mod TrialLemmas
 pub mod TrialNotes
 pub mod WritingLemmas
+pub mod LeftLemmas
+pub mod AlikeLemmas
+pub mod FollowLemmas
+pub mod FaultLemmas
+pub mod PairLemmas
+pub mod NewlineLemmas
+pub mod CertificateLemmas
+pub mod RecheckLemmas

@@ -1,6 +1,6 @@
 -- What is so while the lines of a script are answered for their certificate.
-use Rattle.std.proofs.Common.{◌≡◌, ◌<◌, ◌≤◌, ◌+◌, ◌++◌, ◌∷◌, [], ℕ, List, length, take, arith, ap, sym, subst, refl, inl, inr, Bool, true, false, ◌∙◌, append_assoc}
-use Rattle.std.specs.Prelude.{Option, Some, None, Result, Ok, Err, OnErr, ◌||◌, codes, filter_map, option_map, option_to_list}
+use Rattle.std.proofs.Common.{◌≡◌, ◌<◌, ◌≤◌, ◌+◌, ◌++◌, ◌∷◌, [], ℕ, List, length, arith, ap, sym, subst, refl, inl, inr, Bool, true, false, ◌∙◌, append_assoc}
+use Rattle.std.specs.Prelude.{Option, Some, None, Result, Ok, Err, OnErr, ◌||◌, codes, option_map, option_to_list}
 use Rattle.std.specs.List.{cons_option}
 use Rattle.std.specs.Io.KnownBytes.{Appends}
 use Rattle.std.proofs.lemmas.List.Elements.{filter_map-append}
@@ -8,10 +8,11 @@ use Rattle.std.proofs.Math.Seq.{take-length}
 use Rattle.linear_table.specs.declared.SolveAnswer.{SolveAnswer}
 use Rattle.serde_json.specs.Written.{compact_text}
 use Rattle.planner_core.specs.Lines.{Planned}
+use Rattle.certificate_file.specs.Said.{HaveLines, IsCertificate}
 use Rattle.certificate_file.specs.Tree.{certificate_tree}
 use Rattle.certificate_file.specs.declared.CertEntry.{CertEntry}
 use Rattle.script_runner.specs.Answers.{Answered, AnswersLine, solved_in}
-use Rattle.script_runner.specs.Certificates.{CertifiesAll, EndsProof, IsEntered, IsEnteredInPart, certificate_line, end_of, entries_of, entry_for, entry_of}
+use Rattle.script_runner.specs.Certificates.{CertifiesAll, EndsProof, IsEntered, IsEnteredInPart, end_of, entries_of, entry_for, entry_of}
 use Rattle.script_runner.specs.Leaves.{Leaves}
 use Rattle.script_runner.specs.Lines.{lines_of}
 use Rattle.script_runner.specs.Scripts.{is_cut}
@@ -20,6 +21,7 @@ use Rattle.script_runner.specs.TrialLines.{TellsMany}
 use Rattle.script_runner.specs.Writing.{Adds, AppendsFront}
 use Rattle.script_runner.specs.declared.run.ScriptEnd.{ScriptEnd}
 use Rattle.script_runner.specs.declared.run.ScriptEnd.TheVariants.{Done, SomeRefused, TooManyLines, WriteFault, NoMemory}
+use Rattle.script_runner.proofs.CertificateLemmas.{have_lines, newline_says}
 use Rattle.script_runner.proofs.SoFarLemmas.{SoFar, all_taken, line_left, next_answers, so_far_first, so_far_next}
 use Rattle.script_runner.proofs.WritingLemmas.{appends_none, front_after}
 
@@ -99,31 +101,35 @@ not_cut true = refl
 not_cut false = refl
 
 certified : (first : Planned) (script : List ℕ) (solved : List SolveAnswer) (refused : Bool) (entries : List CertEntry) (text : List ℕ) (old new : ℕ) → (entered : IsEntered refused first script solved entries old new) → text ≡ compact_text (certificate_tree entries)
-    → CertifiesAll refused first script solved (text ++ codes "\n") entered.steps
-certified first script solved refused entries text old new entered is = record {
+    → (HaveLines entries → IsCertificate text entries) → CertifiesAll refused first script solved (text ++ codes "\n") entered.steps
+certified first script solved refused entries text old new entered is said = record {
   replies = entered.replies;
   tells = entered.tells;
   told = ap (λ t. t ++ codes "\n") (is ∙ ap (λ (es : List CertEntry). compact_text (certificate_tree es)) entered.entered);
+  says =
+      let answered = entered.tells.tells in
+      let lines = have_lines first (lines_of script) answered.answers answered.last entered.tells.few answered.session in
+      newline_says text (entries_of answered.answers) (subst (λ (es : List CertEntry). IsCertificate text es) entered.entered (said (subst (λ (es : List CertEntry). HaveLines es) (sym entered.entered) lines)));
 }
 
 pub proof_told : (first : Planned) (script : List ℕ) (solved : List SolveAnswer) (refused : Bool) (entries : List CertEntry) (text : List ℕ) (before after : Option (List ℕ)) (old new : ℕ) → IsEntered refused first script solved entries old new
-    → text ≡ compact_text (certificate_tree entries) → old ≤ new → Appends before after (text ++ codes "\n") → Leaves (EndsProof first script solved) is_cut before after old new (end_of refused)
-proof_told first script solved refused entries text before after old new entered is later adds = record {
+    → text ≡ compact_text (certificate_tree entries) → (HaveLines entries → IsCertificate text entries) → old ≤ new → Appends before after (text ++ codes "\n") → Leaves (EndsProof first script solved) is_cut before after old new (end_of refused)
+proof_told first script solved refused entries text before after old new entered is said later adds = record {
   text = text ++ codes "\n";
   work = entered.steps;
-  ends = ends_certified first script solved refused (text ++ codes "\n") entered.steps (certified first script solved refused entries text old new entered is);
+  ends = ends_certified first script solved refused (text ++ codes "\n") entered.steps (certified first script solved refused entries text old new entered is said);
   adds = subst (λ (b : Bool). Adds b before after (text ++ codes "\n")) (sym (not_cut refused)) adds;
   steps = entered.taken;
   later = later;
 }
 
 pub proof_cut : (first : Planned) (script : List ℕ) (solved : List SolveAnswer) (refused : Bool) (entries : List CertEntry) (text : List ℕ) (before after : Option (List ℕ)) (old new : ℕ) → IsEntered refused first script solved entries old new
-    → text ≡ compact_text (certificate_tree entries) → old ≤ new → AppendsFront before after (text ++ codes "\n") → Leaves (EndsProof first script solved) is_cut before after old new WriteFault
+    → text ≡ compact_text (certificate_tree entries) → (HaveLines entries → IsCertificate text entries) → old ≤ new → AppendsFront before after (text ++ codes "\n") → Leaves (EndsProof first script solved) is_cut before after old new WriteFault
 unfolding EndsProof
-proof_cut first script solved refused entries text before after old new entered is later front = record {
+proof_cut first script solved refused entries text before after old new entered is said later front = record {
   text = text ++ codes "\n";
   work = entered.steps;
-  ends = inl (refused, certified first script solved refused entries text old new entered is);
+  ends = inl (refused, certified first script solved refused entries text old new entered is said);
   adds = front;
   steps = entered.taken;
   later = later;

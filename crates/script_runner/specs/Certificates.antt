@@ -4,6 +4,7 @@ use Rattle.linear_table.specs.declared.SolveAnswer.{SolveAnswer}
 use Rattle.linear_table.specs.declared.SolveAnswer.TheVariants.{Planned as Plan, Infeasible}
 use Rattle.serde_json.specs.Written.{compact_text}
 use Rattle.planner_core.specs.Lines.{Planned}
+use Rattle.certificate_file.specs.Said.{IsCertificate}
 use Rattle.certificate_file.specs.Tree.{certificate_tree}
 use Rattle.certificate_file.specs.declared.CertEntry.{CertEntry}
 use Rattle.certificate_file.specs.declared.Claim.{Claim}
@@ -32,11 +33,12 @@ entries_of answers = filter_map entry_of answers
 abbrev pub certificate_line : List CertEntry → List ℕ
 certificate_line entries = compact_text (certificate_tree entries) ++ codes "\n"
 
--- all lines are answered, and the text is their certificate and a newline
+-- all lines are answered, and the text is their certificate and a newline, which says their entries
 pub record CertifiesAll (refused : Bool) (first : Planned) (script : List ℕ) (solved : List SolveAnswer) (text : List ℕ) (steps : ℕ) : Type 0 where
   pub replies : List ℕ
   pub tells : TellsAll refused first script solved replies steps
   pub told : text ≡ certificate_line (entries_of tells.tells.answers)
+  pub says : IsCertificate text (entries_of tells.tells.answers)
 
 -- so many of the first lines are answered, and nothing is told
 pub record CertifiesNone (first : Planned) (script : List ℕ) (solved : List SolveAnswer) (text : List ℕ) : Type 0 where

@@ -10,3 +10,5 @@ pub mod Trials
 pub mod Checks
 pub mod Certificates
 pub mod TrialLines
+pub mod Alike
+pub mod Rechecks

@@ -16,7 +16,10 @@ mod verdict;
 
 pub use answer::{is_refusal, reply_to};
 pub use checking::{check_lines, has_many_lines, tell_many_lines};
-pub use laws::{planners_grow_from_the_base, plans_cost_least};
+pub use laws::{
+    certificates_prove_their_script, lines_lead_to_one_planner, planners_grow_from_the_base,
+    plans_cost_least,
+};
 pub use lines::{split_line, trim_return};
 pub use output::write_all;
 pub use proving::prove_script;
