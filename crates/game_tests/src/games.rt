@@ -188,7 +188,7 @@ fn burner_machines(alloc: Global, given: &Given) -> Option<Items<Machine>>
     machines_with(alloc, given, categories, energy)
 }
 
-#[tactic(auto, using(game_types::proofs::StepLemmas::positive_is))]
+#[tactic(auto, using(fractions::proofs::SignLemmas::positive_is))]
 fn machines(alloc: Global, given: &Given) -> Option<Items<Machine>>
     ensures sound { IfSome result (λ machines. (g : AnyGame) → All (IsSoundMachine g) machines) }
     ensures one { IfSome result (λ machines. length machines ≡ 1) }

@@ -131,7 +131,7 @@ fn given(words: &[&str]) -> Given {
 }
 
 // The rates, where the machine does what it is set to do and has a fuel if it needs one.
-#[tactic(auto, using(game_types::proofs::StepLemmas::positive_is))]
+#[tactic(auto, using(fractions::proofs::SignLemmas::positive_is))]
 fn rates_in(game: &Game, setup: &Setup, effects: &Effects) -> Option<Result<Rates, Wide>>
     requires sound { IsSound game.now }
     requires setup { IsSoundSetup game.now setup.now }
