@@ -1,5 +1,5 @@
 -- Numbers of 128 bits that are made of numbers of 64.
-use Rattle.std.specs.Prelude.{◌≡◌, ℕ, ◌*◌, ◌+◌, ◌<◌, ◌≤◌, ◌^◌, ℤ, pos, ◌*ℤ◌, ◌-ℤ◌, unsigned_abs, List, length}
+use Rattle.std.specs.Prelude.{◌≡◌, ℕ, ◌*◌, ◌+◌, ◌<◌, ◌≤◌, ◌^◌, ℤ, pos, ◌*ℤ◌, ◌-ℤ◌, unsigned_abs, List, length, Option, Some, None, IfSome}
 use Rattle.std.proofs.Common.{refl, sym, ap, subst, ◌∙◌, arith, set, below_more}
 use Rattle.std.proofs.lemmas.Int.{ints}
 use Rattle.fractions.proofs.Parts.{whole_back}
@@ -52,13 +52,21 @@ pub record IsQuotientAt (q n : ℤ) (d : ℕ) : Type 0 where
   pub value : q *ℤ pos d ≡ n
   pub small : unsigned_abs q < 2 ^ 62
 
-pub quotient_at : (t o s f n q : ℤ) (d : ℕ) → unsigned_abs t < 2 ^ 62 → unsigned_abs o < 2 ^ 62 → n ≡ wrap t *ℤ s -ℤ wrap o *ℤ f → unsigned_abs n < 2 ^ 125 → q *ℤ pos d ≡ wrap128 n → unsigned_abs q < 2 ^ 62 → IsQuotientAt (wrap q) (t *ℤ s -ℤ o *ℤ f) d
-quotient_at t o s f n q d ht ho en hn eq hq =
+pub quotient_at : (t o s f q : ℤ) (d : ℕ) → unsigned_abs t < 2 ^ 62 → unsigned_abs o < 2 ^ 62 → q *ℤ pos d ≡ wrap t *ℤ s -ℤ wrap o *ℤ f → unsigned_abs q < 2 ^ 62 → IsQuotientAt (wrap q) (t *ℤ s -ℤ o *ℤ f) d
+quotient_at t o s f q d ht ho eq hq =
     let t' : wrap t ≡ t = back t (omega (arith, ht)) in
     let o' : wrap o ≡ o = back o (omega (arith, ho)) in
     let q' : wrap q ≡ q = back q (omega (arith, hq)) in
-    let m : n ≡ t *ℤ s -ℤ o *ℤ f = en ∙ (ap (λ a. a *ℤ s -ℤ wrap o *ℤ f) t' ∙ ap (λ a. t *ℤ s -ℤ a *ℤ f) o') in
     record {
-      value = ap (λ x. x *ℤ pos d) q' ∙ (eq ∙ (whole_back n (omega (arith, hn)) ∙ m));
+      value = ap (λ x. x *ℤ pos d) q' ∙ (eq ∙ (ap (λ a. a *ℤ s -ℤ wrap o *ℤ f) t' ∙ ap (λ a. t *ℤ s -ℤ a *ℤ f) o'));
       small = subst (λ (x : ℤ). unsigned_abs x < 2 ^ 62) (sym q') hq;
     }
+
+-- the quotient of the number that the code divides
+pub quotient_told : (t s o f n : ℤ) (d : ℕ) (r : Option ℤ) → unsigned_abs t < 2 ^ 62 → unsigned_abs s < 2 ^ 62 → unsigned_abs o < 2 ^ 62 → unsigned_abs f < 2 ^ 62 → n ≡ wrap t *ℤ wrap s -ℤ wrap o *ℤ wrap f → unsigned_abs n < 2 ^ 125 →
+    IfSome r (λ q. (q *ℤ pos d ≡ wrap128 n) × (unsigned_abs q < 2 ^ 62)) → IfSome r (λ q. (q *ℤ pos d ≡ t *ℤ s -ℤ o *ℤ f) × (unsigned_abs q < 2 ^ 62))
+quotient_told t s o f n d None ht hs ho hf en hn h = tt
+quotient_told t s o f n d (Some q) ht hs ho hf en hn h = (
+  h.0 ∙ (whole_back n (omega (arith, hn)) ∙ (en ∙ (ap (λ x. x -ℤ wrap o *ℤ wrap f) (product_plain t s ht hs) ∙ ap (λ x. t *ℤ s -ℤ x) (product_plain o f ho hf)))),
+  h.1,
+)

@@ -31,6 +31,14 @@ pub record IsCombinedOver (old : List ℤ) (scale : ℤ) (other : List ℤ) (fac
   pub length_is : length new ≡ length old
   pub numbers : (k : ℕ) → k < length old → top_at new k *ℤ pos d ≡ top_at old k *ℤ scale -ℤ top_at other k *ℤ factor
 
+-- so divided by a divisor of the denominator, and no magnitude is greater than the bound
+pub record IsLowered (old : List ℤ) (scale : ℤ) (other : List ℤ) (factor : ℤ) (bottom d bound : ℕ) (new : List ℤ) : Type 0 where
+  pub positive : 0 < d
+  pub divides : d ∣ bottom
+  pub combined : IsCombinedOver old scale other factor d new
+  pub within : AreWithin new bound
+  pub small : bound < 2 ^ 62
+
 -- each number is the old one, or its opposite
 pub record IsTurned (old : List ℤ) (turned : Bool) (new : List ℤ) : Type 0 where
   pub length_is : length new ≡ length old

@@ -13,8 +13,8 @@ ghost use Rattle.number_rows.specs.Tops.{top_at};
 
 use crate::long::{divide_numbers, reduce_numbers};
 use crate::tops::{
-    LIMIT, combine, combine_over, common_bottom, common_divisor, content, divide_all, keeps_within,
-    likely_divisor, long_product, product_keeps_within, quotient, turn_all, write_numbers,
+    LIMIT, combine, combine_lowered, common_bottom, common_divisor, content, divide_all,
+    keeps_within, long_product, product_keeps_within, quotient, turn_all, write_numbers,
     write_tops,
 };
 use fractions::Ratio;
@@ -286,29 +286,22 @@ impl Row {
         let common = common_divisor(top.unsigned_abs(), pivot_row.bottom);
         let scale = pivot_row.bottom / common;
         let factor = quotient(top, common);
-        let divisor = likely_divisor(
-            self.bottom,
-            &self.tops,
-            scale as i64,
-            &pivot_row.tops,
-            factor,
-        );
-        let bottom = self.bottom / divisor;
-        if !product_keeps_within(bottom, scale) {
-            return false;
-        }
-        let Some(bound) = combine_over(
+        let Some(lowered) = combine_lowered(
             &mut self.spare,
             &self.tops,
             scale as i64,
             &pivot_row.tops,
             factor,
-            divisor,
+            self.bottom,
         ) else {
             return false;
         };
+        let bottom = self.bottom / lowered.divisor;
+        if !product_keeps_within(bottom, scale) {
+            return false;
+        }
         mem::swap(&mut self.tops, &mut self.spare);
-        self.bound = bound;
+        self.bound = lowered.bound;
         self.bottom = bottom * scale;
         true
     }

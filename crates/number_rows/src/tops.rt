@@ -1,11 +1,11 @@
 //! Whole numbers of 64 bits that stand over one denominator.
 
-ghost use Rattle.std.specs.Prelude.{◌≡◌, ℕ, ◌<◌, ◌≤◌, ◌+◌, ◌*◌, ◌^◌, ℤ, pos, ◌*ℤ◌, ◌-ℤ◌, neg_ℤ, int_div, unsigned_abs, length, IfSome};
+ghost use Rattle.std.specs.Prelude.{◌≡◌, ℕ, ◌<◌, ◌≤◌, ◌+◌, ◌*◌, ◌^◌, ℤ, pos, ◌*ℤ◌, ◌-ℤ◌, neg_ℤ, int_div, unsigned_abs, length, IfSome, IfErr, IfOk};
 ghost use Rattle.std.specs.Bool.{OnTrue};
 ghost use Rattle.std.specs.Int.{◌∣◌};
 ghost use Rattle.fractions.specs.Fraction.{frac};
 ghost use Rattle.fractions.specs.Gcd.{gcd};
-ghost use Rattle.number_rows.specs.Tops.{top_at, AreWithin, DividesAll, IsDividedBy, IsCombined, IsCombinedOver, IsTurned, AreOver, DividesInto};
+ghost use Rattle.number_rows.specs.Tops.{top_at, AreWithin, DividesAll, IsDividedBy, IsCombined, IsCombinedOver, IsTurned, IsLowered, AreOver, DividesInto};
 
 use fractions::Ratio;
 
@@ -182,16 +182,28 @@ fn long_combined(top: i64, scale: i64, other: i64, factor: i64) -> i128
     first - second
 }
 
-// A number divided by a divisor. To the caller it is a guess, which it multiplies back.
-fn likely_quotient(number: i128, divisor: u64) -> i128
-    requires positive { 0 < divisor }
-    requires small { unsigned_abs number < 2 ^ 125 }
-    requires small_divisor { divisor < 2 ^ 62 }
+// The inverse of an odd number modulo 2^64. To the caller it is a guess, like all that is computed by it: each step brings
+// twice as many bits right.
+fn likely_inverse(odd: u64) -> u64 {
+    let mut inverse = odd;
+    for _step in 0..5 {
+        inverse = inverse.wrapping_mul(2u64.wrapping_sub(odd.wrapping_mul(inverse)));
+    }
+    inverse
+}
+
+// A number divided by a divisor whose even part is that of the shift, and whose odd part has the inverse. To the caller it is
+// a guess, which it multiplies back.
+fn likely_quotient(number: i128, shift: u32, inverse: u64) -> i64
+    requires { shift < 64 }
+    ensures { unsigned_abs result < 2 ^ 62 }
 {
-    if number == 0 {
-        0
+    let part = (number.unsigned_abs() >> shift) % (1 << 64);
+    let magnitude = (part as u64).wrapping_mul(inverse) % LIMIT;
+    if number < 0 {
+        -(magnitude as i64)
     } else {
-        number / divisor as i128
+        magnitude as i64
     }
 }
 
@@ -200,25 +212,17 @@ fn rest_by(number: i128, divisor: u64) -> u64
     requires { 0 < divisor }
     ensures { result < divisor }
 {
-    if number == 0 {
-        return 0;
-    }
     let rest = number.unsigned_abs() % divisor as u128;
     rest as u64
 }
 
 // The quotient by a divisor, where that leaves no rest and the quotient is below the limit.
-fn exact_quotient(number: i128, divisor: u64) -> Option<i64>
-    requires positive { 0 < divisor }
-    requires small { unsigned_abs number < 2 ^ 125 }
+fn exact_quotient(number: i128, divisor: u64, shift: u32, inverse: u64) -> Option<i64>
     requires small_divisor { divisor < 2 ^ 62 }
+    requires shift { shift < 64 }
     ensures { IfSome result (λ q. (q *ℤ pos divisor ≡ number) × (unsigned_abs q < 2 ^ 62)) }
 {
-    let quotient = likely_quotient(number, divisor);
-    if quotient.unsigned_abs() >= LIMIT as u128 {
-        return None;
-    }
-    let quotient = quotient as i64;
+    let quotient = likely_quotient(number, shift, inverse);
     if long_product(quotient, divisor as i64) == number {
         Some(quotient)
     } else {
@@ -226,56 +230,128 @@ fn exact_quotient(number: i128, divisor: u64) -> Option<i64>
     }
 }
 
-/// A divisor of a denominator that all of the numbers that `combine` makes most often have.
-pub fn likely_divisor(bottom: u64, tops: &[i64], scale: i64, others: &[i64], factor: i64) -> u64
-    requires positive { 0 < bottom }
-    requires lengths { length tops.now ≡ length others.now }
-    requires tops { (k : ℕ) → k < length tops.now → unsigned_abs (top_at tops.now k) < 2 ^ 62 }
-    requires others { (k : ℕ) → k < length others.now → unsigned_abs (top_at others.now k) < 2 ^ 62 }
+// One number times a scale, less another times a factor, divided by a divisor, where that leaves no rest and is below the
+// limit.
+fn combined_over(
+    top: i64,
+    scale: i64,
+    other: i64,
+    factor: i64,
+    divisor: u64,
+    shift: u32,
+    inverse: u64,
+) -> Option<i64>
+    requires top { unsigned_abs top < 2 ^ 62 }
     requires scale { unsigned_abs scale < 2 ^ 62 }
+    requires other { unsigned_abs other < 2 ^ 62 }
     requires factor { unsigned_abs factor < 2 ^ 62 }
-    ensures positive { 0 < result }
-    ensures bottom { result ∣ bottom }
+    requires small_divisor { divisor < 2 ^ 62 }
+    requires shift { shift < 64 }
+    ensures { IfSome result (λ q. (q *ℤ pos divisor ≡ top *ℤ scale -ℤ other *ℤ factor) × (unsigned_abs q < 2 ^ 62)) }
 {
-    let mut common = bottom;
-    for k in 0..tops.len() {
-        let number = long_combined(tops[k], scale, others[k], factor);
-        common = common_divisor(rest_by(number, common), common);
+    if top == 0 && other == 0 {
+        return Some(0);
     }
-    common
+    exact_quotient(
+        long_combined(top, scale, other, factor),
+        divisor,
+        shift,
+        inverse,
+    )
 }
 
-/// Writes what `combine` makes of each number, divided by a divisor, where nothing is left and all are below the limit. Says
-/// how great their magnitudes are at most.
-pub fn combine_over(
+// Writes what `combine` makes of each number, divided by a divisor, where nothing is left and all are below the limit. Says
+// how great their magnitudes are at most, or which number is the first that isn't so.
+fn combine_over(
     quotients: &mut [i64],
     tops: &[i64],
     scale: i64,
     others: &[i64],
     factor: i64,
     divisor: u64,
-) -> Option<u64>
+) -> Result<u64, usize>
     requires quotients { length quotients.old ≡ length tops.now }
     requires lengths { length tops.now ≡ length others.now }
     requires tops { (k : ℕ) → k < length tops.now → unsigned_abs (top_at tops.now k) < 2 ^ 62 }
     requires others { (k : ℕ) → k < length others.now → unsigned_abs (top_at others.now k) < 2 ^ 62 }
     requires scale { unsigned_abs scale < 2 ^ 62 }
     requires factor { unsigned_abs factor < 2 ^ 62 }
-    requires positive { 0 < divisor }
     requires small_divisor { divisor < 2 ^ 62 }
     ensures length_is { length quotients.new ≡ length tops.now }
-    ensures combined { IfSome result (λ bound. IsCombinedOver tops.now scale others.now factor divisor quotients.new × AreWithin quotients.new bound × (bound < 2 ^ 62)) }
+    ensures combined { IfOk result (λ bound. IsCombinedOver tops.now scale others.now factor divisor quotients.new × AreWithin quotients.new bound × (bound < 2 ^ 62)) }
+    ensures inside { IfErr result (λ k. k < length tops.now) }
 {
+    let shift = divisor.trailing_zeros() % 64;
+    let inverse = likely_inverse(divisor >> shift);
     let mut most = 0;
     for k in 0..tops.len() {
-        let number = long_combined(tops[k], scale, others[k], factor);
-        let Some(quotient) = exact_quotient(number, divisor) else {
-            return None;
+        let Some(quotient) = combined_over(
+            tops[k], scale, others[k], factor, divisor, shift, inverse,
+        ) else {
+            return Err(k);
         };
         most = greater(most, quotient.unsigned_abs());
         quotients[k] = quotient;
     }
-    Some(most)
+    Ok(most)
+}
+
+// What a divisor has in common with a number that `combine` makes.
+fn shared_divisor(top: i64, scale: i64, other: i64, factor: i64, divisor: u64) -> u64
+    requires top { unsigned_abs top < 2 ^ 62 }
+    requires scale { unsigned_abs scale < 2 ^ 62 }
+    requires other { unsigned_abs other < 2 ^ 62 }
+    requires factor { unsigned_abs factor < 2 ^ 62 }
+    requires positive { 0 < divisor }
+    ensures positive { 0 < result }
+    ensures divides { result ∣ divisor }
+{
+    let number = long_combined(top, scale, other, factor);
+    common_divisor(rest_by(number, divisor), divisor)
+}
+
+/// Quotients by a divisor: how great their magnitudes are at most.
+#[derive(Clone, Copy)]
+pub struct Lowered {
+    pub divisor: u64,
+    pub bound: u64,
+}
+
+/// Writes what `combine` makes of each number, divided by what all of these and a denominator have in common, where all are
+/// below the limit then. Each number that a divisor leaves a rest of makes it less.
+pub fn combine_lowered(
+    quotients: &mut [i64],
+    tops: &[i64],
+    scale: i64,
+    others: &[i64],
+    factor: i64,
+    bottom: u64,
+) -> Option<Lowered>
+    requires quotients { length quotients.old ≡ length tops.now }
+    requires lengths { length tops.now ≡ length others.now }
+    requires tops { (k : ℕ) → k < length tops.now → unsigned_abs (top_at tops.now k) < 2 ^ 62 }
+    requires others { (k : ℕ) → k < length others.now → unsigned_abs (top_at others.now k) < 2 ^ 62 }
+    requires scale { unsigned_abs scale < 2 ^ 62 }
+    requires factor { unsigned_abs factor < 2 ^ 62 }
+    requires positive { 0 < bottom }
+    requires small { bottom < 2 ^ 62 }
+    ensures length_is { length quotients.new ≡ length tops.now }
+    ensures lowered { IfSome result (λ r. IsLowered tops.now scale others.now factor bottom r.divisor r.bound quotients.new) }
+{
+    let mut divisor = bottom;
+    for _try in 0..64 {
+        match combine_over(quotients, tops, scale, others, factor, divisor) {
+            Ok(bound) => return Some(Lowered { divisor, bound }),
+            Err(place) => {
+                let shared = shared_divisor(tops[place], scale, others[place], factor, divisor);
+                if shared == divisor {
+                    return None;
+                }
+                divisor = shared;
+            }
+        }
+    }
+    None
 }
 
 /// Whether the product of two numbers is below the limit.
