@@ -8,6 +8,11 @@ two productivity modules.
 It prints the rows and goods of the table, the processor time of a whole run with the table and of one that only reads
 the dump, and that of `glpsol --exact` on the same table: the least of fifteen each. The costs have to agree in every
 digit that glpsol prints.
+
+    (cd ../../crates/solve_tables && rt run < stdin > /dev/null)      builds out/solve_tables
+    python3 science.py linear [SOLVE_TABLES]
+
+times the table in its linear form alone, as `solve_tables` reads it, beside `glpsol --exact` in the same way.
 """
 import json
 import os
@@ -18,10 +23,14 @@ import tempfile
 from fractions import Fraction
 from pathlib import Path
 
+from reference import text
+
 HERE = Path(__file__).resolve().parent
 TOP = HERE.parent.parent
 DUMP = TOP / "examples" / "factory.json"
 PROGRAM = TOP / "crates" / "factoplan" / "out" / "factoplan"
+SOLVE_TABLES = TOP / "crates" / "solve_tables" / "out" / "solve_tables"
+ITEMS = ["item", "tool", "module", "ammo", "gun", "armor", "capsule", "repair-tool", "rail-planner"]
 PACKS = ["automation", "logistic", "military", "chemical", "production", "utility"]
 PRICES = {"item:iron-ore": "1", "item:copper-ore": "1", "item:coal": "1/2", "item:stone": "1/3", "item:wood": "2",
           "item:uranium-ore": "5", "fluid:crude-oil": "1/10", "fluid:water": "1/1000"}
@@ -103,6 +112,18 @@ class Science:
         lines += ["want science item:%s-science-pack 3/4" % pack for pack in PACKS]
         return "\n".join(lines + ["solve science", ""])
 
+    def linear_table(self):
+        """The table as `solve_tables` reads it, with goods in the order of the dump, as `factoplan` numbers them."""
+        known = ["item:" + name for section in ITEMS for name in self.game[section]] + ["fluid:" + name for name in self.game["fluid"]]
+        mentioned, free = set(self.goods()), set(self.free())
+        goods = [good for good in known if good in mentioned]
+        place = {good: k for k, good in enumerate(goods)}
+        columns = [("row", Fraction(0), {place[good]: x for good, x in column.items() if x}) for _, column, _ in self.rows]
+        columns += [("import", Fraction(PRICES[good]), {place[good]: Fraction(1)}) for good in goods if good in PRICES]
+        columns += [("surplus", Fraction(0), {place[good]: Fraction(-1)}) for good in goods if good in free]
+        packs = ["item:%s-science-pack" % pack for pack in PACKS]
+        return text((1000000, [Fraction(3, 4) if good in packs else Fraction(0) for good in goods], columns))
+
     def linear_program(self):
         number = lambda x: repr(float(x))
         imports = [good for good in self.goods() if good in PRICES]
@@ -117,11 +138,12 @@ class Science:
         return "\n".join(lines + ["end", ""])
 
 
-def spent(words):
+def spent(words, given=os.devnull):
     """The least processor time of a program in milliseconds, and what it printed."""
     least, printed = None, ""
     for _ in range(ROUNDS):
-        child = subprocess.Popen(words, stdout=subprocess.PIPE, text=True)
+        with open(given) as source:
+            child = subprocess.Popen(words, stdin=source, stdout=subprocess.PIPE, text=True)
         printed = child.stdout.read()
         _, status, usage = os.wait4(child.pid, 0)
         if status != 0:
@@ -136,27 +158,52 @@ def agree(cost, printed):
     return "%.*g" % (digits, Fraction(cost)) == "%.*g" % (digits, Fraction(printed))
 
 
-def main(program):
-    science = Science(json.loads(DUMP.read_text()))
-    with tempfile.TemporaryDirectory() as folder:
-        script, nothing, linear = Path(folder, "science.txt"), Path(folder, "nothing.txt"), Path(folder, "science.lp")
-        script.write_text(science.script())
-        nothing.write_text("")
-        linear.write_text(science.linear_program())
-        ours, report = spent([program, "run", DUMP, script])
-        reading, _ = spent([program, "run", DUMP, nothing])
-        theirs, _ = spent(["glpsol", "--exact", "--lp", linear])
-        result = Path(folder, "result.txt")
-        subprocess.run(["glpsol", "--exact", "--lp", linear, "-o", result], stdout=subprocess.DEVNULL, check=True)
-        printed = re.search(r"Objective:\s+cost = (\S+)", result.read_text()).group(1)
-    cost = re.search(r"^\d+ plan science cost (\S+)", report, re.M)
+def theirs(folder, science):
+    """The time that glpsol takes, and the cost that it prints."""
+    linear, result = Path(folder, "science.lp"), Path(folder, "result.txt")
+    linear.write_text(science.linear_program())
+    time, _ = spent(["glpsol", "--exact", "--lp", linear])
+    subprocess.run(["glpsol", "--exact", "--lp", linear, "-o", result], stdout=subprocess.DEVNULL, check=True)
+    return time, re.search(r"Objective:\s+cost = (\S+)", result.read_text()).group(1)
+
+
+def compare(science, cost, report, printed):
     if not cost:
         sys.exit(report)
     if not agree(cost.group(1), printed):
         sys.exit("the costs differ: %s and %s" % (cost.group(1), printed))
     print("%d rows, %d goods, cost %s" % (len(science.rows), len(science.goods()), cost.group(1)))
-    print("factoplan: %.1f ms, of which reading %.1f; glpsol --exact: %.1f ms" % (ours, reading, theirs))
+
+
+def whole(science, program):
+    with tempfile.TemporaryDirectory() as folder:
+        script, nothing = Path(folder, "science.txt"), Path(folder, "nothing.txt")
+        script.write_text(science.script())
+        nothing.write_text("")
+        ours, report = spent([program, "run", DUMP, script])
+        reading, _ = spent([program, "run", DUMP, nothing])
+        time, printed = theirs(folder, science)
+    compare(science, re.search(r"^\d+ plan science cost (\S+)", report, re.M), report, printed)
+    print("factoplan: %.1f ms, of which reading %.1f; glpsol --exact: %.1f ms" % (ours, reading, time))
+
+
+def linear(science, program):
+    with tempfile.TemporaryDirectory() as folder:
+        table = Path(folder, "science.txt")
+        table.write_text(science.linear_table())
+        ours, report = spent([program], table)
+        time, printed = theirs(folder, science)
+    compare(science, re.search(r"^plan (\S+)", report), report, printed)
+    print("solve_tables: %.1f ms; glpsol --exact: %.1f ms" % (ours, time))
+
+
+def main(words):
+    science = Science(json.loads(DUMP.read_text()))
+    if words[:1] == ["linear"]:
+        linear(science, words[1] if len(words) > 1 else SOLVE_TABLES)
+    else:
+        whole(science, words[0] if words else PROGRAM)
 
 
 if __name__ == "__main__":
-    main(sys.argv[1] if len(sys.argv) > 1 else PROGRAM)
+    main(sys.argv[1:])

@@ -1,10 +1,11 @@
 -- What the methods of a row make of the numbers that it shows.
 use Rattle.std.specs.Prelude.{◌≡◌, ◌≢◌, ℕ, zero, suc, ◌*◌, ◌/◌, ◌<◌, ◌≤◌, ◌^◌, ℤ, pos, negsuc, ◌*ℤ◌, ◌-ℤ◌, neg_ℤ, ◌<ℤ◌, int_div, Bool, true, false, if◌then◌else◌, List, [], ◌∷◌, ◌++◌, length, unsigned_abs}
+use Rattle.std.specs.Bool.{OnTrue, OnFalse}
 use Rattle.std.specs.Int.{◌∣◌, w64}
 use Rattle.std.specs.Int.Signed.{lt_z}
 use Rattle.std.proofs.Common.{refl, sym, ap, subst, ◌∙◌, arith, to_z}
 use Rattle.std.proofs.lemmas.Int.{ints, to_z_pos}
-use Rattle.std.proofs.Math.Nat.{div-mul_cancel, mul-div_cancel'}
+use Rattle.std.proofs.Math.Nat.{div-mul_cancel, mul-div_cancel', mul-le-mul_right}
 use borrow.Author.Differences.{below_in, lt-true}
 use Rattle.fractions.specs.Fraction.{Fraction, frac, zero_fraction, int_div-mul, lower_pos, ◌/ʳ◌, ◌-ʳ◌, ◌*ʳ◌}
 use Rattle.fractions.specs.Fracs.{frac_scale, zero-frac, pos_product}
@@ -13,11 +14,11 @@ use Rattle.fractions.specs.Limits.{IsNarrow}
 use Rattle.linear_table.specs.Plans.{number_at}
 use Rattle.linear_table.specs.Wide.{LessFits}
 use Rattle.number_rows.specs.Changed.{Numbers, IsDividedRow, IsReducedRow}
-use Rattle.number_rows.specs.Row.{kept, IsKept}
-use Rattle.number_rows.specs.Tops.{top_at, AreWithin, IsDividedBy, IsTurned, IsCombined, IsCombinedOver, AreOver}
+use Rattle.number_rows.specs.Row.{kept, IsKept, IsKeptLong}
+use Rattle.number_rows.specs.Tops.{top_at, AreWithin, IsDividedBy, IsTurned, IsCombined, IsCombinedOver, AreOver, AreSame}
 use Rattle.number_rows.proofs.Kept.{short_at, length_shown, same_numbers, kept_at, kept_length, shown_over}
 use Rattle.number_rows.proofs.Lists.{wrap, back}
-use Rattle.number_rows.proofs.Short.{less_fits, less_is, narrow_over, quotient_is}
+use Rattle.number_rows.proofs.Short.{less_fits, less_fits_by, less_is, narrow_over, quotient_is}
 
 -- ---- taking out what all have in common
 same_over : (t u : ℤ) (b c : ℕ) → 0 < b → 0 < c → c ∣ b → u *ℤ pos c ≡ t → frac u (b / c) ≡ frac t b
@@ -155,3 +156,72 @@ combined_over_plain cur ts vs ws us a f m d ec ew ea ef h =
     subst (λ (k : ℤ). IsCombinedOver ts (pos m) vs k d us) ef
     (subst (λ (k : ℤ). IsCombinedOver ts k vs (wrap f) d us) ea
     (subst (λ (l : List ℤ). IsCombinedOver ts a l (wrap f) d us) ew (subst (λ (l : List ℤ). IsCombinedOver l a ws (wrap f) d us) ec h)))
+
+-- ---- numbers past the limit of short rows
+-- the list that the code wrote shows the numbers over the denominator
+pub written : (s : Bool) (b : ℕ) (ts us vs : List ℤ) (ns : List Fraction) (ys : Numbers) → s ≡ true → AreSame ts us → vs ≡ us → ys ≡ record { items = kept s b vs ns } → AreOver ts b ys.items
+written s b ts us vs ns ys es h ev ey =
+    let len : length vs ≡ length ts = ap (λ (l : List ℤ). length l) ev ∙ h.length_is in
+    let shown : ys.items ≡ kept true b vs ns = ap (λ (y : Numbers). y.items) ey ∙ ap (λ k. kept k b vs ns) es in
+    record {
+      length_is = ap (λ (l : List Fraction). length l) shown ∙ (kept_length b vs ns ∙ len);
+      numbers = λ k q.
+          ap (λ (l : List Fraction). number_at l k) shown
+          ∙ (kept_at b vs ns k (omega (arith, q, len)) ∙ ap (λ t. frac t b) (ap (λ (l : List ℤ). top_at l k) ev ∙ h.numbers k q));
+    }
+
+pub same_within : (ts us : List ℤ) (bound : ℕ) → AreSame ts us → AreWithin ts bound → AreWithin us bound
+same_within ts us bound s h = λ k q. subst (λ (t : ℤ). unsigned_abs t ≤ bound) (sym (s.numbers k (omega (arith, q, s.length_is)))) (h k (omega (arith, q, s.length_is)))
+
+-- the numbers that a row shows over a denominator
+pub over_shown : (s : Bool) (b : ℕ) (ts us : List ℤ) (ns : List Fraction) (xs : Numbers) → record { items = kept s b ts ns } ≡ xs → s ≡ true → AreSame ts us → AreOver us b xs.items
+over_shown s b ts us ns xs ex es h =
+    let shown : xs.items ≡ kept true b ts ns = sym (ap (λ (y : Numbers). y.items) ex) ∙ ap (λ k. kept k b ts ns) es in
+    record {
+      length_is = ap (λ (l : List Fraction). length l) shown ∙ (kept_length b ts ns ∙ sym h.length_is);
+      numbers = λ k q. short_at s b ts ns xs k ex es (omega (arith, q, h.length_is)) ∙ ap (λ t. frac t b) (sym (h.numbers k (omega (arith, q, h.length_is))));
+    }
+
+pub reduced_wide : (s : Bool) (b b' bound bound' a g m : ℕ) (f : ℤ) (ts us vs : List ℤ) (ns : List Fraction) (xs ys : Numbers) (k : ℕ) → record { items = kept s b ts ns } ≡ xs → s ≡ true → IsKeptLong b bound ts ns → 0 < b' → b' < 2 ^ 62 → AreWithin vs bound' → length xs.items ≡ length vs → k < length ts → bound * bound' < 2 ^ 124 → bound * b' < 2 ^ 124 → 0 < g → g ∣ b' → a ≡ b' / g → f *ℤ pos g ≡ top_at ts k → AreReducedTops b a m f ts vs us → ys ≡ record { items = kept s m us ns } →
+    IsReducedRow xs.items (number_at xs.items k) (kept true b' vs []) ys.items
+reduced_wide s b b' bound bound' a g m f ts us vs ns xs ys k ex es h pb' hb' hv width lt first second pg gb ea ef t ey =
+    let at : (j : ℕ) → j < length ts → number_at xs.items j ≡ frac (top_at ts j) b = λ j q. short_at s b ts ns xs j ex es q in
+    let len : length xs.items ≡ length ts = length_shown s b ts ns xs ex h.same_length in
+    let both : length ts ≡ length vs = sym len ∙ width in
+    let other : (j : ℕ) → j < length ts → number_at (kept true b' vs []) j ≡ frac (top_at vs j) b' = λ j q. kept_at b' vs [] j (omega (arith, q, both)) in
+    let new : (j : ℕ) → j < length ts → number_at ys.items j ≡ frac (top_at us j) m = λ j q. short_at s m us ns ys j (sym ey) es (omega (arith, q, t.length_is)) in
+    let pa : 0 < a = subst (λ (n : ℕ). 0 < n) (sym ea) (lower_pos b' g pb' gb) in
+    let ag : a * g ≡ b' = ap (λ n. n * g) ea ∙ div-mul_cancel g gb in
+    let fits : (j : ℕ) → j < length ts → LessFits (number_at xs.items j) (number_at xs.items k) (number_at (kept true b' vs []) j) =
+    λ j q. subst (λ (x : Fraction). LessFits x (number_at xs.items k) (number_at (kept true b' vs []) j)) (sym (at j q))
+    (subst (λ (x : Fraction). LessFits (frac (top_at ts j) b) x (number_at (kept true b' vs []) j)) (sym (at k lt))
+    (subst (λ (x : Fraction). LessFits (frac (top_at ts j) b) (frac (top_at ts k) b) x) (sym (other j q))
+    (less_fits_by (top_at ts j) (top_at ts k) (top_at vs j) b b' h.positive pb' h.bottom_small hb'
+    (times_most (unsigned_abs (top_at ts j)) bound b' (h.within j q) second)
+    (times_both (unsigned_abs (top_at ts k)) (unsigned_abs (top_at vs j)) bound bound' (h.within k lt) (hv j (omega (arith, q, both))) first)))) in
+    let is : (j : ℕ) → j < length ts → frac (top_at us j) m ≡ number_at xs.items j -ʳ number_at xs.items k *ʳ number_at (kept true b' vs []) j =
+    λ j q. t.numbers j q
+    ∙ (less_is (top_at ts j) (top_at ts k) (top_at vs j) f b b' a g h.positive pa pg ef ag
+    ∙ sym (ap (λ x. x -ʳ number_at xs.items k *ʳ number_at (kept true b' vs []) j) (at j q)
+    ∙ (ap (λ x. frac (top_at ts j) b -ʳ x *ʳ number_at (kept true b' vs []) j) (at k lt) ∙ ap (λ x. frac (top_at ts j) b -ʳ frac (top_at ts k) b *ʳ x) (other j q)))) in
+    record {
+      length_is = length_shown s m us ns ys (sym ey) (t.length_is ∙ h.same_length) ∙ (t.length_is ∙ sym len);
+      narrow = λ j q. fits j (omega (arith, q, len));
+      numbers = λ j q. let lj : j < length ts = omega (arith, q, len) in new j lj ∙ is j lj;
+    }
+  where
+    times_most : (n m s : ℕ) → n ≤ m → m * s < 2 ^ 124 → n * s < 2 ^ 124
+    times_most n m s h q = omega (arith, mul-le-mul_right s h, q)
+
+    times_both : (n p m q : ℕ) → n ≤ m → p ≤ q → m * q < 2 ^ 124 → n * p < 2 ^ 124
+    times_both n p m q h k l = let e : n * p ≤ n * q = (let x : p * n ≤ q * n = mul-le-mul_right n k in omega (arith, x)) in omega (arith, e, mul-le-mul_right q h, l)
+
+-- what is said of other names of the same lists
+pub reduced_shown : (r : Bool) (xs xs' ps ps' ys : List Fraction) (k : ℕ) → xs' ≡ xs → ps' ≡ ps → OnTrue r (IsReducedRow xs' (number_at xs' k) ps' ys) → OnTrue r (IsReducedRow xs (number_at xs k) ps ys)
+reduced_shown r xs xs' ps ps' ys k ex ep h =
+    subst (λ (l : List Fraction). OnTrue r (IsReducedRow l (number_at l k) ps ys)) ex (subst (λ (l : List Fraction). OnTrue r (IsReducedRow xs' (number_at xs' k) l ys)) ep h)
+
+pub not_reduced : (r : Bool) (a b xs : Numbers) → b.items ≡ xs.items → OnFalse r (a ≡ b) → OnFalse r (record { items = a.items } ≡ xs)
+unfolding numbers_of
+not_reduced true a b xs e h = tt
+not_reduced false a b xs e h = ap numbers_of (ap (λ (x : Numbers). x.items) h ∙ e)

@@ -6,4 +6,5 @@ pub mod Slim
 pub mod Steps
 pub mod Signs
 pub mod Exchanged
+pub mod Broad
 pub mod Wider

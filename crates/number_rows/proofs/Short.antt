@@ -73,18 +73,22 @@ abs_neg a = omega (arith, ints)
 product_small : (a b : ℕ) → a < 2 ^ 62 → b < 2 ^ 62 → a * b < 2 ^ 124
 product_small a b p q = let h : a * b < 2 ^ 62 * 2 ^ 62 = mul-lt _ _ _ _ p q in omega (arith, h)
 
--- ---- t/d - (u/d) * (v/p) fits where all are below 2 ^ 62
-pub less_fits : (t u v : ℤ) (d p : ℕ) → 0 < d → 0 < p → d < 2 ^ 62 → p < 2 ^ 62 → unsigned_abs t < 2 ^ 62 → unsigned_abs u < 2 ^ 62 → unsigned_abs v < 2 ^ 62 → LessFits (frac t d) (frac u d) (frac v p)
-less_fits t u v d p pd pp hd hp ht hu hv =
+-- ---- t/d - (u/d) * (v/p) fits where the products are small
+pub less_fits_by : (t u v : ℤ) (d p : ℕ) → 0 < d → 0 < p → d < 2 ^ 62 → p < 2 ^ 62 → unsigned_abs t * p < 2 ^ 124 → unsigned_abs u * unsigned_abs v < 2 ^ 124 → LessFits (frac t d) (frac u d) (frac v p)
+less_fits_by t u v d p pd pp hd hp htp huv =
     let w : frac u d *ʳ frac v p ≡ frac (u *ℤ v) (d * p) = mul-frac u v d p pd pp in
     let m : d * p < 2 ^ 124 = product_small d p hd hp in
     let pm : 0 < d * p = pos_product d p pd pp in
-    let uv : unsigned_abs (u *ℤ v) < 2 ^ 124 = subst (λ (k : ℕ). k < 2 ^ 124) (sym (unsigned_abs-mul u v)) (product_small _ _ hu hv) in
-    let tp : unsigned_abs (t *ℤ pos p) < 2 ^ 124 = subst (λ (k : ℕ). k < 2 ^ 124) (sym (unsigned_abs-mul t (pos p))) (product_small _ _ ht hp) in
+    let uv : unsigned_abs (u *ℤ v) < 2 ^ 124 = subst (λ (k : ℕ). k < 2 ^ 124) (sym (unsigned_abs-mul u v)) huv in
+    let tp : unsigned_abs (t *ℤ pos p) < 2 ^ 124 = subst (λ (k : ℕ). k < 2 ^ 124) (sym (unsigned_abs-mul t (pos p))) htp in
     let nw : negated (frac u d *ʳ frac v p) ≡ frac (neg_ℤ (u *ℤ v)) (d * p) = ap negated w ∙ negated-frac (u *ℤ v) (d * p) pm in (
       subst IsNarrow (sym w) (narrow_over (u *ℤ v) (d * p) pm m uv),
       sum_fits_over (frac t d) (negated (frac u d *ʳ frac v p)) (t *ℤ pos p) (neg_ℤ (u *ℤ v)) (d * p) pm (sym (frac_scale t d p pd pp)) nw m tp (subst (λ (k : ℕ). k < 2 ^ 124) (sym (abs_neg (u *ℤ v))) uv),
     )
+
+-- as where all are below 2 ^ 62
+pub less_fits : (t u v : ℤ) (d p : ℕ) → 0 < d → 0 < p → d < 2 ^ 62 → p < 2 ^ 62 → unsigned_abs t < 2 ^ 62 → unsigned_abs u < 2 ^ 62 → unsigned_abs v < 2 ^ 62 → LessFits (frac t d) (frac u d) (frac v p)
+less_fits t u v d p pd pp hd hp ht hu hv = less_fits_by t u v d p pd pp hd hp (product_small _ _ ht hp) (product_small _ _ hu hv)
 
 cross_is : (t v b : ℤ) (a g d : ℕ) → (t *ℤ pos a -ℤ v *ℤ b) *ℤ pos (d * (d * (a * g))) ≡ (t *ℤ pos (d * (a * g)) +ℤ neg_ℤ (b *ℤ pos g *ℤ v) *ℤ pos d) *ℤ pos (d * a)
 cross_is t v b a g d =

@@ -1,6 +1,6 @@
 -- The signs of numbers over one denominator, and how their quotients compare.
 use Rattle.std.specs.Prelude.{◌≡◌, ◌≢◌, ℕ, zero, suc, ◌*◌, ◌<◌, ◌≤◌, ◌^◌, ℤ, pos, negsuc, ◌*ℤ◌, neg_ℤ, ◌<ℤ◌, ◌≤ℤ◌, IsTrue, ◌↔◌, nat_eq, unsigned_abs}
-use Rattle.std.specs.Int.{w64}
+use Rattle.std.specs.Int.{w64, w128}
 use Rattle.std.specs.Int.Signed.{lt_z}
 use Rattle.std.specs.Ordering.{MatchOrdering, int_cmp}
 use Rattle.std.specs.declared.cmp.Ordering.{Ordering}
@@ -43,7 +43,7 @@ below_by x t b p h e =
     (subst (λ (y : Fraction). IsTrue (lt_z t (pos 0)) ↔ (y <ʳ zero_fraction)) (sym e)
     (λ k. below_zero t b p (below_in t (pos 0) (lt-true t (pos 0) k)), λ k. sym (true_is_lt t (pos 0) (lt_out t (pos 0) (top_below t b p k)))))
 
-top_none : (t : ℤ) (b : ℕ) → 0 < b → frac t b ≡ zero_fraction → t ≡ pos 0
+pub top_none : (t : ℤ) (b : ℕ) → 0 < b → frac t b ≡ zero_fraction → t ≡ pos 0
 top_none t b p h = sym (times_one t) ∙ (cross_from_same t (pos 0) b 1 p (omega arith) (h ∙ sym (zero-frac 1 (omega arith))) ∙ none_times b)
 
 pub zero_by : (x : Fraction) (t : ℤ) (b : ℕ) → 0 < b → unsigned_abs t < 2 ^ 62 → x ≡ frac t b → IsTrue (nat_eq (of_z w64 t) 0) ↔ (x ≡ zero_fraction)
@@ -51,6 +51,26 @@ zero_by x t b p h e = (
   λ k. e ∙ (ap (λ s. frac s b) (sym (back t (omega (arith, h))) ∙ ap (to_z w64) (eqb-true (of_z w64 t) 0 k)) ∙ zero-frac b p),
   λ k. eq-eqb (of_z w64 t) 0 (ap (of_z w64) (top_none t b p (sym e ∙ k))),
 )
+
+-- the same for a number that comes back in any way
+pub above_at : (x : Fraction) (t w : ℤ) (b : ℕ) → 0 < b → w ≡ t → x ≡ frac t b → IsTrue (lt_z (pos 0) w) ↔ (zero_fraction <ʳ x)
+above_at x t w b p ew e =
+    subst (λ (k : ℤ). IsTrue (lt_z (pos 0) k) ↔ (zero_fraction <ʳ x)) (sym ew)
+    (subst (λ (y : Fraction). IsTrue (lt_z (pos 0) t) ↔ (zero_fraction <ʳ y)) (sym e)
+    (λ k. positive_frac t b p (below_in (pos 0) t (lt-true (pos 0) t k)), λ k. sym (true_is_lt (pos 0) t (lt_out (pos 0) t (positive_of_frac t b p k)))))
+
+pub below_at : (x : Fraction) (t w : ℤ) (b : ℕ) → 0 < b → w ≡ t → x ≡ frac t b → IsTrue (lt_z w (pos 0)) ↔ (x <ʳ zero_fraction)
+below_at x t w b p ew e =
+    subst (λ (k : ℤ). IsTrue (lt_z k (pos 0)) ↔ (x <ʳ zero_fraction)) (sym ew)
+    (subst (λ (y : Fraction). IsTrue (lt_z t (pos 0)) ↔ (y <ʳ zero_fraction)) (sym e)
+    (λ k. below_zero t b p (below_in t (pos 0) (lt-true t (pos 0) k)), λ k. sym (true_is_lt t (pos 0) (lt_out t (pos 0) (top_below t b p k)))))
+
+pub zero_at : (x : Fraction) (t i : ℤ) (b : ℕ) → 0 < b → i ≡ t → unsigned_abs t < 2 ^ 125 → x ≡ frac t b → IsTrue (nat_eq (of_z w128 i) 0) ↔ (x ≡ zero_fraction)
+zero_at x t i b p ei h e =
+    subst (λ (k : ℤ). IsTrue (nat_eq (of_z w128 k) 0) ↔ (x ≡ zero_fraction)) (sym ei) (
+      λ k. e ∙ (ap (λ s. frac s b) (sym (whole_back t (omega (arith, h))) ∙ ap (to_z w128) (eqb-true (of_z w128 t) 0 k)) ∙ zero-frac b p),
+      λ k. eq-eqb (of_z w128 t) 0 (ap (of_z w128) (top_none t b p (sym e ∙ k))),
+    )
 
 -- ---- quotients
 some_top : (p : ℤ) (d : ℕ) → 0 < d → zero_fraction <ʳ frac p d → pos 0 <ℤ p

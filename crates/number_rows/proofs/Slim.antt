@@ -14,7 +14,7 @@ use Rattle.fractions.proofs.Bounds.{num-frac-le, den-frac-le}
 use Rattle.fractions.proofs.Sum.{IsCommon, common_parts}
 use Rattle.linear_table.specs.Wide.{LessFits}
 
-narrow_frac : (n : ℤ) (d : ℕ) → 0 < d → nat_abs n < 2 ^ 127 → d < 2 ^ 127 → IsNarrow (frac n d)
+pub narrow_frac : (n : ℤ) (d : ℕ) → 0 < d → nat_abs n < 2 ^ 127 → d < 2 ^ 127 → IsNarrow (frac n d)
 narrow_frac n d p hn hd = record { narrow_num = omega (arith, num-frac-le n d p); narrow_den = omega (arith, den-frac-le n d p) }
 
 both_z : {a b c d : ℤ} → a ≡ b → c ≡ d → a +ℤ c ≡ b +ℤ d

@@ -15,3 +15,11 @@ pub record IsKept (bottom bound : ℕ) (tops : List ℤ) (numbers : List Fractio
   pub bottom_small : bottom < 2 ^ 62
   pub bound_small : bound < 2 ^ 62
   pub within : AreWithin tops bound
+
+-- numbers past the limit of short rows
+pub record IsKeptLong (bottom bound : ℕ) (tops : List ℤ) (numbers : List Fraction) : Type 0 where
+  pub same_length : length tops ≡ length numbers
+  pub positive : 0 < bottom
+  pub bottom_small : bottom < 2 ^ 62
+  pub bound_small : bound < 2 ^ 125
+  pub within : AreWithin tops bound

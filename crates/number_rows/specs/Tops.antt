@@ -52,3 +52,12 @@ pub record AreOver (tops : List ℤ) (bottom : ℕ) (row : List Fraction) : Type
 -- the denominator of each number divides d
 abbrev pub DividesInto : List Fraction → ℕ → Type 0
 DividesInto numbers d = (k : ℕ) → k < length numbers → (number_at numbers k).den ∣ d
+
+-- the same whole numbers
+pub record AreSame (old new : List ℤ) : Type 0 where
+  pub length_is : length new ≡ length old
+  pub numbers : (k : ℕ) → k < length old → top_at new k ≡ top_at old k
+
+-- the divisor divides each of the numbers that are combined
+abbrev pub DividesCombined : List ℤ → ℤ → List ℤ → ℤ → ℕ → Type 0
+DividesCombined tops scale others factor d = (k : ℕ) → k < length tops → d ∣ unsigned_abs (top_at tops k *ℤ scale -ℤ top_at others k *ℤ factor)

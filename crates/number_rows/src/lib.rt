@@ -4,5 +4,6 @@
 mod long;
 mod row;
 mod tops;
+mod wide;
 
 pub use row::Row;

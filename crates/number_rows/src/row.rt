@@ -9,13 +9,12 @@ ghost use Rattle.linear_table.specs.Plans.{number_at};
 ghost use Rattle.linear_table.specs.Wide.{LessFits};
 ghost use Rattle.number_rows.specs.Changed.{AreNarrow, IsDividedRow, IsReducedRow};
 ghost use Rattle.number_rows.specs.Row.{kept};
-ghost use Rattle.number_rows.specs.Tops.{top_at};
+ghost use Rattle.number_rows.specs.Tops.{top_at, AreWithin};
 
-use crate::long::{divide_numbers, reduce_numbers};
+use crate::long::Long;
 use crate::tops::{
-    LIMIT, combine, combine_lowered, common_bottom, common_divisor, content, divide_all,
-    keeps_within, long_product, product_keeps_within, quotient, turn_all, write_numbers,
-    write_tops,
+    LIMIT, combine, combine_lowered, common_divisor, content, divide_all, keeps_within,
+    long_product, product_keeps_within, quotient, turn_all,
 };
 use fractions::Ratio;
 use plan_base::NoMemory;
@@ -33,7 +32,7 @@ pub struct Row {
     bound: u64,
     tops: Vec<i64>,
     spare: Vec<i64>,
-    numbers: Vec<Ratio>,
+    numbers: Long,
 }
 
 impl Model for Row {
@@ -62,15 +61,17 @@ fn zeros(alloc: Global, count: usize) -> Result<Vec<i64>, NoMemory>
     Ok(tops)
 }
 
-// Writes each number of a short row as a fraction.
-fn write_kept(numbers: &mut [Ratio], tops: &[i64], bottom: u64, short: bool)
-    requires lengths { length numbers.old ≡ length tops.now }
+// Writes each number of a short row where numbers past its limit have room.
+fn write_kept(numbers: &mut Long, tops: &[i64], bottom: u64, bound: u64, short: bool)
+    requires lengths { length tops.now ≡ length numbers.old.items }
     requires positive { 0 < bottom }
     requires small { bottom < 2 ^ 62 }
-    ensures { numbers.new ≡ kept short bottom tops.now numbers.old }
+    requires within { AreWithin tops.now bound }
+    requires bound_small { bound < 2 ^ 62 }
+    ensures { numbers.new.items ≡ kept short bottom tops.now numbers.old.items }
 {
     if short {
-        write_numbers(numbers, tops, bottom);
+        numbers.write(tops, bottom, bound);
     }
 }
 
@@ -85,7 +86,7 @@ impl Row {
             bound: 0,
             tops: Vec::new(alloc),
             spare: Vec::new(alloc),
-            numbers: Vec::new(alloc),
+            numbers: Long::empty(alloc),
         }
     }
 
@@ -99,6 +100,7 @@ impl Row {
     {
         let tops = zeros(alloc, numbers.len())?;
         let spare = zeros(alloc, numbers.len())?;
+        let numbers = Long::from_numbers(alloc, numbers)?;
         let mut row = Row {
             short: false,
             bottom: 1,
@@ -126,7 +128,7 @@ impl Row {
         if self.short {
             Ratio::part(self.tops[k], self.bottom as i64)
         } else {
-            self.numbers[k]
+            self.numbers.number(k)
         }
     }
 
@@ -138,7 +140,7 @@ impl Row {
         if self.short {
             self.tops[k] > 0
         } else {
-            self.numbers[k].is_positive()
+            self.numbers.is_above(k)
         }
     }
 
@@ -150,7 +152,7 @@ impl Row {
         if self.short {
             self.tops[k] < 0
         } else {
-            self.numbers[k].is_neg()
+            self.numbers.is_below(k)
         }
     }
 
@@ -162,7 +164,7 @@ impl Row {
         if self.short {
             self.tops[k] == 0
         } else {
-            self.numbers[k].is_zero()
+            self.numbers.is_zero(k)
         }
     }
 
@@ -202,15 +204,13 @@ impl Row {
         if self.short {
             return;
         }
-        let Some(bottom) = common_bottom(&self.numbers) else {
+        let Some(short) = self.numbers.write_short(&mut self.tops) else {
+            self.bound = LIMIT - 1;
             return;
         };
-        let fits = write_tops(&mut self.tops, &self.numbers, bottom);
-        self.bound = LIMIT - 1;
-        if fits {
-            self.bottom = bottom;
-            self.short = true;
-        }
+        self.bottom = short.bottom;
+        self.bound = short.bound;
+        self.short = true;
     }
 
     /// Divides each number by the one at `enter`, or says which quotient is wide.
@@ -227,8 +227,7 @@ impl Row {
             self.cancel();
             return Ok(());
         }
-        let pivot = self.numbers[enter];
-        divide_numbers(&mut self.numbers, &pivot)
+        self.numbers.divide(enter)
     }
 
     // Takes its number at `enter` times the pivot's row from a row, where both are short and stay within the limits.
@@ -306,6 +305,28 @@ impl Row {
         true
     }
 
+    // The same on 128 bits, of which the row may stay past the limits of short ones.
+    fn reduce_wide(&mut self, enter: usize, pivot_row: &Row) -> bool
+        requires inside { enter < length self.old.items }
+        requires width { length self.old.items ≡ length pivot_row.now.items }
+        ensures done { OnTrue result (IsReducedRow self.old.items (number_at self.old.items enter) pivot_row.now.items self.new.items) }
+        ensures not { OnFalse result (self.new ≡ self.old) }
+    {
+        if !pivot_row.short {
+            return false;
+        }
+        write_kept(
+            &mut self.numbers,
+            &self.tops,
+            self.bottom,
+            self.bound,
+            self.short,
+        );
+        self.short = false;
+        self.numbers
+            .reduce_whole(enter, &pivot_row.tops, pivot_row.bottom, pivot_row.bound)
+    }
+
     // The same for any row, or which number that makes wide.
     fn reduce_long(&mut self, enter: usize, pivot_row: &Row) -> Result<(), usize>
         requires inside { enter < length self.old.items }
@@ -314,10 +335,15 @@ impl Row {
         ensures ok { OnOk result (IsReducedRow self.old.items (number_at self.old.items enter) pivot_row.now.items self.new.items) }
         ensures err { IfErr result (λ k. (k < length self.old.items) × ¬ LessFits (number_at self.old.items k) (number_at self.old.items enter) (number_at pivot_row.now.items k)) }
     {
-        write_kept(&mut self.numbers, &self.tops, self.bottom, self.short);
+        write_kept(
+            &mut self.numbers,
+            &self.tops,
+            self.bottom,
+            self.bound,
+            self.short,
+        );
         self.short = false;
-        let factor = self.numbers[enter];
-        reduce_numbers(&mut self.numbers, &factor, pivot_row)
+        self.numbers.reduce(enter, pivot_row)
     }
 
     /// Takes its number at `enter` times the pivot's row from a row, or says which number that makes wide.
@@ -335,6 +361,10 @@ impl Row {
             return Ok(());
         }
         if self.reduce_over(enter, pivot_row) {
+            return Ok(());
+        }
+        if self.reduce_wide(enter, pivot_row) {
+            self.shorten();
             return Ok(());
         }
         match self.reduce_long(enter, pivot_row) {

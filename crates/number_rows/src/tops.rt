@@ -1,6 +1,6 @@
 //! Whole numbers of 64 bits that stand over one denominator.
 
-ghost use Rattle.std.specs.Prelude.{◌≡◌, ℕ, ◌<◌, ◌≤◌, ◌+◌, ◌*◌, ◌^◌, ℤ, pos, ◌*ℤ◌, ◌-ℤ◌, neg_ℤ, int_div, unsigned_abs, length, IfSome, IfErr, IfOk};
+ghost use Rattle.std.specs.Prelude.{◌≡◌, ℕ, ◌<◌, ◌≤◌, ◌+◌, ◌*◌, ◌%◌, ◌^◌, ℤ, pos, ◌*ℤ◌, ◌-ℤ◌, neg_ℤ, int_div, unsigned_abs, length, IfSome, IfErr, IfOk};
 ghost use Rattle.std.specs.Bool.{OnTrue};
 ghost use Rattle.std.specs.Int.{◌∣◌};
 ghost use Rattle.fractions.specs.Fraction.{frac};
@@ -208,9 +208,10 @@ fn likely_quotient(number: i128, shift: u32, inverse: u64) -> i64
 }
 
 // What a division of a number's magnitude leaves.
-fn rest_by(number: i128, divisor: u64) -> u64
+pub fn rest_by(number: i128, divisor: u64) -> u64
     requires { 0 < divisor }
-    ensures { result < divisor }
+    ensures value { result ≡ unsigned_abs number % divisor }
+    ensures below { result < divisor }
 {
     let rest = number.unsigned_abs() % divisor as u128;
     rest as u64
@@ -359,18 +360,6 @@ pub fn product_keeps_within(first: u64, second: u64) -> bool
     ensures { OnTrue result (first * second < 2 ^ 62) }
 {
     (first as u128 * second as u128) < LIMIT as u128
-}
-
-/// Writes each number as a fraction.
-pub fn write_numbers(numbers: &mut [Ratio], tops: &[i64], bottom: u64)
-    requires lengths { length numbers.old ≡ length tops.now }
-    requires positive { 0 < bottom }
-    requires small { bottom < 2 ^ 62 }
-    ensures { AreOver tops.now bottom numbers.new }
-{
-    for k in 0..numbers.len() {
-        numbers[k] = Ratio::part(tops[k], bottom as i64);
-    }
 }
 
 // The denominator of a fraction and a denominator that it divides, as multiple of another.

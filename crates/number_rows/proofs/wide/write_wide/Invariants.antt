@@ -1,5 +1,5 @@
 use Rattle.number_rows.proofs.Lists.{AreOverBelow}
-use Rattle.number_rows.proofs.tops.write_numbers.Given as goal
+use Rattle.number_rows.proofs.wide.write_wide.Given as goal
 
 abbrev pub invariant-loop-k : goal.invariant-loop-k
 invariant-loop-k l = AreOverBelow l.tops l.bottom l.numbers l.k

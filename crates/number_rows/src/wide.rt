@@ -1,0 +1,205 @@
+//! Whole numbers of 128 bits that stand over one denominator.
+
+ghost use Rattle.std.specs.Prelude.{◌≡◌, ℕ, ◌<◌, ◌≤◌, ◌+◌, ◌*◌, ◌^◌, ℤ, pos, ◌*ℤ◌, ◌-ℤ◌, int_div, unsigned_abs, length, IfOk};
+ghost use Rattle.std.specs.Bool.{OnTrue};
+ghost use Rattle.std.specs.Int.{◌∣◌};
+ghost use Rattle.number_rows.specs.Row.{kept};
+ghost use Rattle.number_rows.specs.Tops.{top_at, AreWithin, AreSame, AreOver, IsCombinedOver, DividesCombined};
+ghost use Rattle.fractions.specs.Fraction.{frac};
+
+use crate::tops::{common_divisor, rest_by};
+use fractions::Ratio;
+use plan_base::NoMemory;
+use std::alloc::Global;
+
+/// Wide numbers are combined as long as their magnitudes are below this.
+const WIDE: u128 = 1 << 66;
+
+/// The magnitudes of products stay below this.
+const PRODUCT: u128 = 1 << 124;
+
+/// So many zeros.
+pub fn wide_zeros(alloc: Global, count: usize) -> Result<Vec<i128>, NoMemory>
+    ensures length_is { IfOk result (λ tops. length tops.items ≡ count) }
+    ensures zero { IfOk result (λ tops. (k : ℕ) → k < count → top_at tops.items k ≡ pos 0) }
+{
+    let mut tops = Vec::with_capacity(alloc, count)?;
+    for _k in 0..count {
+        tops.push(0)?;
+    }
+    Ok(tops)
+}
+
+/// Writes each number where 128 bits are.
+pub fn widen(wides: &mut [i128], tops: &[i64])
+    requires lengths { length wides.old ≡ length tops.now }
+    requires small { (k : ℕ) → k < length tops.now → unsigned_abs (top_at tops.now k) < 2 ^ 62 }
+    ensures { AreSame tops.now wides.new }
+{
+    for k in 0..wides.len() {
+        wides[k] = tops[k] as i128;
+    }
+}
+
+/// Writes each number where 64 bits are.
+pub fn narrow(tops: &mut [i64], wides: &[i128])
+    requires lengths { length tops.old ≡ length wides.now }
+    requires small { (k : ℕ) → k < length wides.now → unsigned_abs (top_at wides.now k) < 2 ^ 62 }
+    ensures { AreSame wides.now tops.new }
+{
+    for k in 0..tops.len() {
+        tops[k] = wides[k] as i64;
+    }
+}
+
+/// A whole number over a denominator as a fraction.
+pub fn fraction(top: i128, bottom: u64) -> Ratio
+    requires small { unsigned_abs top < 2 ^ 125 }
+    requires positive { 0 < bottom }
+    requires small_bottom { bottom < 2 ^ 62 }
+    ensures { result ≡ frac top bottom }
+{
+    match Ratio::whole_number(top).div(&Ratio::whole_number(bottom as i128)) {
+        Ok(number) => number,
+        Err(_) => unreachable!(),
+    }
+}
+
+/// Whether the products of a bound with another, and with a denominator, are below the limit of products.
+pub fn fits_wide(bound: u128, other_bound: u64, other_bottom: u64) -> bool
+    requires other_bound { other_bound < 2 ^ 62 }
+    requires other_bottom { other_bottom < 2 ^ 62 }
+    ensures { OnTrue result ((bound * other_bound < 2 ^ 124) × (bound * other_bottom < 2 ^ 124)) }
+{
+    if bound >= WIDE {
+        return false;
+    }
+    bound * (other_bound as u128) < PRODUCT && bound * (other_bottom as u128) < PRODUCT
+}
+
+/// What a number and a natural have in common.
+pub fn wide_divisor(top: i128, bottom: u64) -> u64
+    requires small { unsigned_abs top < 2 ^ 125 }
+    requires positive { 0 < bottom }
+    ensures positive { 0 < result }
+    ensures top { result ∣ unsigned_abs top }
+    ensures bottom { result ∣ bottom }
+{
+    common_divisor(rest_by(top, bottom), bottom)
+}
+
+/// A number divided by a natural, toward zero.
+pub fn wide_quotient(top: i128, divisor: u64) -> i128
+    requires small { unsigned_abs top < 2 ^ 125 }
+    requires positive { 0 < divisor }
+    requires small_divisor { divisor < 2 ^ 62 }
+    ensures value { result ≡ int_div top (pos divisor) }
+    ensures small { unsigned_abs result ≤ unsigned_abs top }
+{
+    top / divisor as i128
+}
+
+/// One number times a scale, less another times a factor.
+pub fn wide_combined(top: i128, scale: u64, other: i64, factor: i128) -> i128
+    requires top { unsigned_abs top < 2 ^ 125 }
+    requires scale { scale < 2 ^ 62 }
+    requires other { unsigned_abs other < 2 ^ 62 }
+    requires factor { unsigned_abs factor < 2 ^ 125 }
+    requires first { unsigned_abs top * scale < 2 ^ 124 }
+    requires second { unsigned_abs other * unsigned_abs factor < 2 ^ 124 }
+    ensures value { result ≡ top *ℤ pos scale -ℤ other *ℤ factor }
+    ensures small { unsigned_abs result < 2 ^ 125 }
+{
+    top * scale as i128 - other as i128 * factor
+}
+
+/// A divisor of a denominator that divides each number times the scale, less the other times the factor.
+pub fn wide_content(
+    bottom: u64,
+    tops: &[i128],
+    scale: u64,
+    others: &[i64],
+    factor: i128,
+    bound: u128,
+    other_bound: u64,
+) -> u64
+    requires positive { 0 < bottom }
+    requires lengths { length tops.now ≡ length others.now }
+    requires within { AreWithin tops.now bound }
+    requires others_within { AreWithin others.now other_bound }
+    requires bound_small { bound < 2 ^ 125 }
+    requires other_bound_small { other_bound < 2 ^ 62 }
+    requires scale { scale < 2 ^ 62 }
+    requires factor { unsigned_abs factor < 2 ^ 125 }
+    requires first { bound * scale < 2 ^ 124 }
+    requires second { other_bound * unsigned_abs factor < 2 ^ 124 }
+    ensures positive { 0 < result }
+    ensures bottom { result ∣ bottom }
+    ensures divides { DividesCombined tops.now (pos scale) others.now factor result }
+{
+    let mut common = bottom;
+    for k in 0..tops.len() {
+        let number = wide_combined(tops[k], scale, others[k], factor);
+        common = wide_divisor(number, common);
+    }
+    common
+}
+
+// The greater of two numbers.
+fn wide_greater(a: u128, b: u128) -> u128
+    ensures first { a ≤ result }
+    ensures second { b ≤ result }
+    ensures small { a < 2 ^ 125 → b < 2 ^ 125 → result < 2 ^ 125 }
+{
+    if a < b { b } else { a }
+}
+
+/// Makes of each number that number times the scale, less the other times the factor, divided by what divides all. Says how
+/// great their magnitudes are at most.
+pub fn divide_wide(
+    tops: &mut [i128],
+    scale: u64,
+    others: &[i64],
+    factor: i128,
+    divisor: u64,
+    bound: u128,
+    other_bound: u64,
+) -> u128
+    requires lengths { length tops.old ≡ length others.now }
+    requires within { AreWithin tops.old bound }
+    requires others_within { AreWithin others.now other_bound }
+    requires bound_small { bound < 2 ^ 125 }
+    requires other_bound_small { other_bound < 2 ^ 62 }
+    requires scale { scale < 2 ^ 62 }
+    requires factor { unsigned_abs factor < 2 ^ 125 }
+    requires first { bound * scale < 2 ^ 124 }
+    requires second { other_bound * unsigned_abs factor < 2 ^ 124 }
+    requires positive { 0 < divisor }
+    requires small_divisor { divisor < 2 ^ 62 }
+    requires divides { DividesCombined tops.old (pos scale) others.now factor divisor }
+    ensures combined { IsCombinedOver tops.old (pos scale) others.now factor divisor tops.new }
+    ensures within { AreWithin tops.new result }
+    ensures small { result < 2 ^ 125 }
+{
+    let mut most = 0;
+    for k in 0..tops.len() {
+        let number = wide_combined(tops[k], scale, others[k], factor);
+        let quotient = wide_quotient(number, divisor);
+        most = wide_greater(most, quotient.unsigned_abs());
+        tops[k] = quotient;
+    }
+    most
+}
+
+/// Writes each number as a fraction.
+pub fn write_wide(numbers: &mut [Ratio], tops: &[i128], bottom: u64)
+    requires lengths { length numbers.old ≡ length tops.now }
+    requires small { (k : ℕ) → k < length tops.now → unsigned_abs (top_at tops.now k) < 2 ^ 125 }
+    requires positive { 0 < bottom }
+    requires small_bottom { bottom < 2 ^ 62 }
+    ensures { AreOver tops.now bottom numbers.new }
+{
+    for k in 0..numbers.len() {
+        numbers[k] = fraction(tops[k], bottom);
+    }
+}
