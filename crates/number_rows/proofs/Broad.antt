@@ -1,17 +1,16 @@
 -- Whole numbers of 128 bits over one denominator.
-use Rattle.std.specs.Prelude.{◌≡◌, ◌≢◌, ℕ, zero, suc, ◌+◌, ◌*◌, ◌/◌, ◌%◌, ◌<◌, ◌≤◌, ◌^◌, ℤ, pos, ◌*ℤ◌, ◌-ℤ◌, int_div, unsigned_abs, List, length}
+use Rattle.std.specs.Prelude.{◌≡◌, ◌≢◌, ℕ, ◌+◌, ◌*◌, ◌<◌, ◌≤◌, ◌^◌, ℤ, pos, ◌*ℤ◌, ◌-ℤ◌, int_div, unsigned_abs, List, length}
 use Rattle.std.specs.Int.{◌∣◌, w128}
-use Rattle.std.proofs.Common.{refl, sym, ap, subst, ◌∙◌, arith, set, below_more, to_z, of_z}
+use Rattle.std.proofs.Common.{refl, sym, ap, subst, ◌∙◌, arith, set, below_more, to_z}
 use Rattle.std.proofs.lemmas.Int.{ints, unsigned_abs-mul, to_z_pos}
 use Rattle.std.proofs.lemmas.List.{get_or-set_same, get_or-set_other}
 use Rattle.std.proofs.Math.Nat.{mul-le-mul_right}
-use Rattle.fractions.specs.Fraction.{Fraction, frac, whole_fraction, zero_fraction, int_div-mul, ◌/ʳ◌}
-use Rattle.fractions.specs.Limits.{IsNarrow}
+use Rattle.fractions.specs.Fraction.{frac, whole_fraction, zero_fraction, int_div-mul, ◌/ʳ◌}
 use Rattle.fractions.proofs.Parts.{whole_back}
-use Rattle.number_rows.specs.Tops.{top_at, AreSame}
+use Rattle.number_rows.specs.Tops.{top_at}
 use Rattle.number_rows.proofs.Lists.{wrap, back}
 use Rattle.number_rows.proofs.Over.{wrap128}
-use Rattle.number_rows.proofs.Short.{quotient_is, narrow_over}
+use Rattle.number_rows.proofs.Short.{quotient_is}
 use Rattle.number_rows.proofs.Signs.{top_none}
 
 -- ---- one place more

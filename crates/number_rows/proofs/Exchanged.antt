@@ -5,7 +5,7 @@ use Rattle.std.specs.Int.{◌∣◌, w64}
 use Rattle.std.specs.Int.Signed.{lt_z}
 use Rattle.std.proofs.Common.{refl, sym, ap, subst, ◌∙◌, arith, to_z}
 use Rattle.std.proofs.lemmas.Int.{ints, to_z_pos}
-use Rattle.std.proofs.Math.Nat.{div-mul_cancel, mul-div_cancel', mul-le-mul_right}
+use Rattle.std.proofs.Math.Nat.{div-mul_cancel, mul-le-mul_right}
 use borrow.Author.Differences.{below_in, lt-true}
 use Rattle.fractions.specs.Fraction.{Fraction, frac, zero_fraction, int_div-mul, lower_pos, ◌/ʳ◌, ◌-ʳ◌, ◌*ʳ◌}
 use Rattle.fractions.specs.Fracs.{frac_scale, zero-frac, pos_product}

@@ -1,7 +1,7 @@
 -- Lists of whole numbers, changed place by place.
-use Rattle.std.specs.Prelude.{◌≡◌, ℕ, suc, ◌+◌, ◌-◌, ◌*◌, ◌/◌, ◌<◌, ◌≤◌, ◌^◌, ℤ, pos, ◌*ℤ◌, ◌+ℤ◌, ◌-ℤ◌, neg_ℤ, int_div, unsigned_abs, List, length}
+use Rattle.std.specs.Prelude.{◌≡◌, ℕ, ◌+◌, ◌*◌, ◌/◌, ◌<◌, ◌≤◌, ◌^◌, ℤ, pos, ◌*ℤ◌, ◌-ℤ◌, neg_ℤ, int_div, unsigned_abs, List, length}
 use Rattle.std.specs.Int.{◌∣◌, w64}
-use Rattle.std.proofs.Common.{refl, sym, ap, subst, ◌∙◌, arith, set, get_or, below_more, to_z, of_z, FitsSigned}
+use Rattle.std.proofs.Common.{refl, sym, ap, subst, ◌∙◌, arith, set, below_more, to_z, of_z}
 use Rattle.std.proofs.lemmas.Int.{ints, unsigned_abs-mul, to_z-of_z, fits_signed_from_abs}
 use Rattle.std.proofs.lemmas.List.{get_or-set_same, get_or-set_other}
 use Rattle.std.proofs.Math.Nat.{mul-le-mul_right, dvd-mul_left, dvd-mul_right, div-mul_cancel, mul_assoc, mul_comm}
@@ -10,7 +10,7 @@ use Rattle.fractions.specs.Fracs.{pos_product}
 use Rattle.fractions.specs.Gcd.{gcd, gcd_is, gcd_pos, gcd-zero}
 use Rattle.fractions.proofs.Printed.{gcd-one}
 use Rattle.linear_table.specs.Plans.{number_at}
-use Rattle.number_rows.specs.Tops.{top_at, AreWithin, DividesAll, IsDividedBy, IsCombined, AreOver}
+use Rattle.number_rows.specs.Tops.{top_at}
 
 -- ---- numbers of 64 bits
 abbrev pub wrap : ℤ → ℤ

@@ -1,8 +1,8 @@
 -- A fraction over a denominator that its own divides.
-use Rattle.std.specs.Prelude.{◌≡◌, ℕ, ◌*◌, ◌/◌, ◌<◌, ◌≤◌, ◌^◌, ℤ, pos, ◌*ℤ◌, unsigned_abs}
+use Rattle.std.specs.Prelude.{◌≡◌, ℕ, ◌*◌, ◌/◌, ◌<◌, ◌^◌, ℤ, pos, ◌*ℤ◌, unsigned_abs}
 use Rattle.std.specs.Int.{◌∣◌, w128, w64}
 use Rattle.std.proofs.Common.{sym, ap, subst, ◌∙◌, arith, to_z, of_z}
-use Rattle.std.proofs.Math.Nat.{mul-div_cancel', div-le_self, pos_of_dvd_of_pos}
+use Rattle.std.proofs.Math.Nat.{mul-div_cancel', div-le_self}
 use Rattle.std.proofs.lemmas.Int.{unsigned_abs-mul}
 use Rattle.std.proofs.lemmas.Nat.{mul-lt}
 use Rattle.fractions.specs.Fraction.{Fraction, frac, lower_pos}

@@ -1,17 +1,15 @@
 -- Numbers over one denominator: what an exchange makes of them, and that it fits.
-use Rattle.std.specs.Prelude.{◌≡◌, ◌≢◌, ℕ, zero, suc, ◌+◌, ◌*◌, ◌/◌, ◌<◌, ◌≤◌, ◌^◌, ℤ, pos, negsuc, ◌+ℤ◌, ◌*ℤ◌, ◌-ℤ◌, neg_ℤ, ◌<ℤ◌, ◌≤ℤ◌, int_div, Bool, true, false, unsigned_abs, if◌then◌else◌}
+use Rattle.std.specs.Prelude.{◌≡◌, ◌≢◌, ℕ, zero, suc, ◌+◌, ◌*◌, ◌/◌, ◌<◌, ◌≤◌, ◌^◌, ℤ, pos, negsuc, ◌+ℤ◌, ◌*ℤ◌, ◌-ℤ◌, neg_ℤ, ◌<ℤ◌, Bool, true, false, unsigned_abs, if◌then◌else◌}
 use Rattle.std.specs.Int.{◌∣◌}
-use Rattle.std.specs.Ordering.{MatchOrdering, int_cmp}
-use Rattle.std.specs.declared.cmp.Ordering.{Ordering}
-use Rattle.std.proofs.Common.{refl, sym, ap, subst, ◌∙◌, arith}
+use Rattle.std.proofs.Common.{sym, ap, subst, ◌∙◌, arith}
 use Rattle.std.proofs.Math.IntN.{nat_abs}
-use Rattle.std.proofs.Math.Nat.{mul-div_cancel', div-mul_cancel, dvd-mul_left, dvd-mul_right, dvd_trans, pos_of_dvd_of_pos, le_of_dvd, mul_comm, lt_of_mul-lt-mul_right, mul-le-mul_right}
+use Rattle.std.proofs.Math.Nat.{mul-div_cancel', dvd-mul_right, pos_of_dvd_of_pos, le_of_dvd, mul_comm, lt_of_mul-lt-mul_right}
 use Rattle.std.proofs.lemmas.Int.{ints, unsigned_abs-mul}
 use Rattle.std.proofs.lemmas.Nat.{mul-lt}
 use Rattle.fractions.specs.Gcd.{gcd}
-use Rattle.fractions.specs.Fraction.{Fraction, frac, frac_parts, IsMultiple, mul_cancel, lower_pos, zero_fraction, negated, inverse, int_div-mul, ◌+ʳ◌, ◌-ʳ◌, ◌*ʳ◌, ◌/ʳ◌, ◌<ʳ◌}
-use Rattle.fractions.specs.Fracs.{pos_product, frac_eq, frac_scale, frac_same, cross_from_same, add-frac, mul-frac, negated-frac, zero-frac}
-use Rattle.fractions.specs.Limits.{IsNarrow, SumFits, DifferenceFits, lcm, num_over}
+use Rattle.fractions.specs.Fraction.{Fraction, frac, frac_parts, IsMultiple, mul_cancel, lower_pos, zero_fraction, negated, ◌+ʳ◌, ◌-ʳ◌, ◌*ʳ◌, ◌/ʳ◌, ◌<ʳ◌}
+use Rattle.fractions.specs.Fracs.{pos_product, frac_eq, frac_scale, frac_same, cross_from_same, add-frac, mul-frac, negated-frac}
+use Rattle.fractions.specs.Limits.{IsNarrow, SumFits, lcm, num_over}
 use Rattle.fractions.specs.Ring.{int, nat, neg, ◌⊗◌, ◌⊕◌, ◌⊖◌, same_value, value_lt, sides_of_lt}
 use Rattle.fractions.proofs.Bounds.{num-frac-le, den-frac-le}
 use Rattle.fractions.proofs.Common.{dvd-lcm_left, dvd-lcm_right, lcm-dvd}

@@ -1,5 +1,5 @@
 -- The signs of numbers over one denominator, and how their quotients compare.
-use Rattle.std.specs.Prelude.{◌≡◌, ◌≢◌, ℕ, zero, suc, ◌*◌, ◌<◌, ◌≤◌, ◌^◌, ℤ, pos, negsuc, ◌*ℤ◌, neg_ℤ, ◌<ℤ◌, ◌≤ℤ◌, IsTrue, ◌↔◌, nat_eq, unsigned_abs}
+use Rattle.std.specs.Prelude.{◌≡◌, ◌≢◌, ℕ, ◌<◌, ◌^◌, ℤ, pos, negsuc, ◌*ℤ◌, ◌<ℤ◌, IsTrue, ◌↔◌, nat_eq, unsigned_abs}
 use Rattle.std.specs.Int.{w64, w128}
 use Rattle.std.specs.Int.Signed.{lt_z}
 use Rattle.std.specs.Ordering.{MatchOrdering, int_cmp}
@@ -7,7 +7,7 @@ use Rattle.std.specs.declared.cmp.Ordering.{Ordering}
 use Rattle.std.proofs.Common.{refl, sym, ap, subst, ◌∙◌, arith, to_z, of_z, eq-eqb, eqb-true}
 use Rattle.std.proofs.lemmas.Int.{ints}
 use Rattle.std.proofs.lemmas.Cmp.{int_ranked}
-use borrow.Author.Differences.{below_in, at_most_in, lt-true, lt-false, true_is_lt, lt_out}
+use borrow.Author.Differences.{below_in, lt-true, true_is_lt, lt_out}
 use Rattle.fractions.specs.Fraction.{Fraction, frac, zero_fraction, ◌/ʳ◌, ◌<ʳ◌, ◌≤ʳ◌}
 use Rattle.fractions.specs.Fracs.{frac_eq, cross_from_same, zero-frac}
 use Rattle.fractions.proofs.Order.{positive_frac, positive_of_frac, nonneg_frac, <ʳ_not_≤ʳ, ≤ʳ_refl}

@@ -1,7 +1,7 @@
 -- One more number of a row.
 use Rattle.std.specs.Prelude.{◌≡◌, ℕ, ◌+◌, ◌<◌, ◌≤◌, List, length}
-use Rattle.std.proofs.Common.{refl, sym, ap, subst, ◌∙◌, arith, set, get_or, below_more}
-use Rattle.std.proofs.lemmas.List.{get_or-set_same, get_or-set_other, get_or_read}
+use Rattle.std.proofs.Common.{refl, ap, subst, ◌∙◌, arith, set, below_more}
+use Rattle.std.proofs.lemmas.List.{get_or-set_same, get_or-set_other}
 use Rattle.fractions.specs.Fraction.{Fraction, zero_fraction, ◌-ʳ◌, ◌*ʳ◌}
 use Rattle.linear_table.specs.Plans.{number_at}
 use Rattle.fractions.specs.Limits.{IsNarrow}

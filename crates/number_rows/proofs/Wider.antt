@@ -1,6 +1,6 @@
 -- Numbers of 128 bits that are made of numbers of 64.
-use Rattle.std.specs.Prelude.{◌≡◌, ℕ, ◌*◌, ◌+◌, ◌<◌, ◌≤◌, ◌^◌, ℤ, pos, ◌*ℤ◌, ◌-ℤ◌, unsigned_abs, List, length, Option, Some, None, IfSome}
-use Rattle.std.proofs.Common.{refl, sym, ap, subst, ◌∙◌, arith, set, below_more}
+use Rattle.std.specs.Prelude.{◌≡◌, ℕ, ◌+◌, ◌<◌, ◌^◌, ℤ, pos, ◌*ℤ◌, ◌-ℤ◌, unsigned_abs, List, length, Option, Some, None, IfSome}
+use Rattle.std.proofs.Common.{sym, ap, subst, ◌∙◌, arith, set, below_more}
 use Rattle.std.proofs.lemmas.Int.{ints}
 use Rattle.fractions.proofs.Parts.{whole_back}
 use Rattle.std.proofs.lemmas.List.{get_or-set_same, get_or-set_other}

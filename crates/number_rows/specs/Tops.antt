@@ -1,5 +1,5 @@
 -- Whole numbers over one denominator.
-use Rattle.std.specs.Prelude.{◌≡◌, ℕ, ◌<◌, ◌≤◌, ◌*◌, ◌+◌, ◌^◌, ℤ, pos, ◌*ℤ◌, ◌-ℤ◌, neg_ℤ, Bool, if◌then◌else◌, List, length, slice_index_or, unsigned_abs}
+use Rattle.std.specs.Prelude.{◌≡◌, ℕ, ◌<◌, ◌≤◌, ◌^◌, ℤ, pos, ◌*ℤ◌, ◌-ℤ◌, neg_ℤ, Bool, if◌then◌else◌, List, length, slice_index_or, unsigned_abs}
 use Rattle.std.specs.Int.{◌∣◌}
 use Rattle.fractions.specs.Fraction.{Fraction, frac}
 use Rattle.linear_table.specs.Plans.{number_at}

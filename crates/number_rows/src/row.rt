@@ -24,7 +24,7 @@ use std::marker::Model;
 use std::mem;
 
 /// A row of fractions. It is kept as whole numbers over one denominator, which take few steps to add and multiply, wherever
-/// these are below 2^62, else each as a fraction.
+/// these are below 2^62, else as whole numbers of 128 bits, and each as a fraction where these don't fit.
 #[derive(Drop)]
 pub struct Row {
     short: bool,

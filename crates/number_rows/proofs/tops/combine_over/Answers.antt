@@ -1,4 +1,4 @@
-use Rattle.std.proofs.Common.{◌≡◌, ◌<◌, ◌^◌, arith, ℤ, unsigned_abs}
+use Rattle.std.proofs.Common.{arith}
 use Rattle.number_rows.specs.Tops.{top_at}
 use Rattle.number_rows.proofs.Lists.{wrap, size_below, within_more}
 use Rattle.number_rows.proofs.Wider.{IsQuotientAt, quotient_at, over_more}

@@ -1,4 +1,4 @@
-use Rattle.std.proofs.Common.{◌≡◌, ◌∙◌, ◌+◌, ◌*◌, ◌<◌, ◌^◌, ◌*ℤ◌, ◌-ℤ◌, ap, sym, subst, arith, ℤ, unsigned_abs, to_z, of_z, FitsSigned}
+use Rattle.std.proofs.Common.{◌≡◌, ◌∙◌, ◌+◌, ◌*◌, ◌<◌, ◌^◌, ◌*ℤ◌, ◌-ℤ◌, ap, sym, subst, arith, ℤ, unsigned_abs, FitsSigned}
 use Rattle.std.specs.Int.{w64}
 use Rattle.std.proofs.lemmas.Int.{to_z-of_z, fits_signed_from_abs}
 use Rattle.number_rows.proofs.Lists.{wrap, back, combined_small, product_back}

@@ -1,4 +1,4 @@
-use Rattle.std.proofs.Common.{◌≡◌, ℕ, subst, arith, below_more}
+use Rattle.std.proofs.Common.{◌≡◌, subst, arith, below_more}
 use Rattle.std.specs.Int.{◌∣◌}
 use Rattle.std.proofs.Math.Nat.{dvd_trans}
 use Rattle.std.proofs.lemmas.List.{get_or_read}

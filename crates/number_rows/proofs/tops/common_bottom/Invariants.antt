@@ -1,7 +1,6 @@
 use Rattle.std.proofs.Common.{◌<◌, ◌^◌, ℕ}
 use Rattle.std.specs.Int.{◌∣◌}
 use Rattle.linear_table.specs.Plans.{number_at}
-use Rattle.fractions.specs.Fraction.{Fraction}
 use Rattle.number_rows.proofs.tops.common_bottom.Given as goal
 
 abbrev pub invariant-loop-k : goal.invariant-loop-k

@@ -1,4 +1,4 @@
-use Rattle.std.proofs.Common.{◌≡◌, ◌∙◌, ◌*ℤ◌}
+use Rattle.std.proofs.Common.{◌∙◌, ◌*ℤ◌}
 use Rattle.number_rows.proofs.Wider.{apart_is, product_plain}
 use Rattle.number_rows.proofs.tops.long_combined.Goals as goal
 

@@ -1,8 +1,8 @@
-use Rattle.std.proofs.Common.{◌≡◌, ◌<◌, ◌≤◌, ℕ, sym, subst, arith, unsigned_abs, ap, ◌∙◌}
+use Rattle.std.proofs.Common.{◌≤◌, arith}
 use Rattle.std.proofs.lemmas.Nat.Gcd.{le_of_dvd}
 use Rattle.fractions.proofs.Parts.{wrap_same}
-use Rattle.std.specs.Prelude.{pos, ℤ}
-use Rattle.number_rows.proofs.Over.{top_is, wrap128}
+use Rattle.std.specs.Prelude.{pos}
+use Rattle.number_rows.proofs.Over.{top_is}
 use Rattle.number_rows.proofs.tops.top_over.Goals as goal
 
 pub overflow_cast-top : goal.overflow_cast-top

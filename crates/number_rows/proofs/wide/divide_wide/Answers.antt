@@ -1,4 +1,4 @@
-use Rattle.std.proofs.Common.{◌≡◌, ◌∙◌, ◌*ℤ◌, ◌-ℤ◌, ◌<◌, ◌^◌, ℕ, ℤ, pos, ap, sym, subst, refl, arith, unsigned_abs}
+use Rattle.std.proofs.Common.{◌≡◌, ◌∙◌, ◌*ℤ◌, ◌-ℤ◌, ◌<◌, ◌^◌, ℤ, pos, sym, subst, refl, arith, unsigned_abs}
 use Rattle.std.specs.Int.{◌∣◌}
 use Rattle.fractions.proofs.Parts.{whole_back}
 use Rattle.number_rows.specs.Tops.{top_at}

@@ -2,7 +2,7 @@ use Rattle.std.proofs.Common.{◌≡◌, ◌∙◌, sym, ap, subst, arith}
 use Rattle.std.proofs.lemmas.Int.{to_z_pos}
 use Rattle.std.specs.Prelude.{pos}
 use Rattle.std.specs.Int.{w128}
-use Rattle.fractions.specs.Fraction.{Fraction, frac, whole_fraction, ◌/ʳ◌}
+use Rattle.fractions.specs.Fraction.{frac, whole_fraction, ◌/ʳ◌}
 use Rattle.fractions.specs.Limits.{IsNarrow}
 use Rattle.fractions.proofs.Parts.{whole_back}
 use Rattle.number_rows.proofs.Slim.{narrow_frac}

@@ -1,10 +1,10 @@
-use Rattle.std.proofs.Common.{◌≡◌, ◌∙◌, ◌*ℤ◌, ◌-ℤ◌, ℕ, ℤ, pos, ap, sym, subst, refl, arith, below_more, unsigned_abs}
+use Rattle.std.proofs.Common.{◌≡◌, ◌∙◌, ◌*ℤ◌, ◌-ℤ◌, ℤ, pos, subst, refl, arith, below_more, unsigned_abs}
 use Rattle.std.specs.Int.{◌∣◌}
 use Rattle.std.proofs.Math.Nat.{dvd_trans}
 use Rattle.fractions.proofs.Parts.{whole_back}
 use Rattle.number_rows.specs.Tops.{top_at}
 use Rattle.number_rows.proofs.Over.{wrap128}
-use Rattle.number_rows.proofs.Broad.{IsPlace, place_is, factor_small, number_is}
+use Rattle.number_rows.proofs.Broad.{IsPlace, place_is, number_is}
 use Rattle.number_rows.proofs.wide.wide_content.Goals as goal
 
 pub loop-k-preserved : goal.loop-k-preserved

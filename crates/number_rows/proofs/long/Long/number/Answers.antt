@@ -3,7 +3,6 @@ use Rattle.std.specs.Prelude.{pos}
 use Rattle.std.proofs.lemmas.List.{get_or_read}
 use Rattle.fractions.specs.Fraction.{frac}
 use Rattle.fractions.proofs.Parts.{whole_back}
-use Rattle.linear_table.specs.Plans.{number_at}
 use Rattle.number_rows.specs.Tops.{top_at}
 use Rattle.number_rows.proofs.Kept.{short_at, length_shown}
 use Rattle.number_rows.proofs.Over.{wrap128}

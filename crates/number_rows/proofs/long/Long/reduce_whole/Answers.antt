@@ -1,21 +1,18 @@
-use Rattle.std.proofs.Common.{◌≡◌, ◌∙◌, refl, sym, ap, subst, arith, ℕ, ◌<◌, ◌≤◌, ◌^◌, length, List, ℤ, unsigned_abs, true, false}
+use Rattle.std.proofs.Common.{◌≡◌, ◌∙◌, refl, sym, ap, subst, arith, ℕ, ◌<◌, ◌≤◌, ◌^◌, length, List, ℤ, unsigned_abs}
 use Rattle.std.proofs.lemmas.List.{get_or_read, with_items_is}
-use Rattle.std.specs.Vec.{with_items}
-use Rattle.std.specs.Int.{◌∣◌}
 use Rattle.std.specs.Prelude.{◌*◌, ◌/◌, pos, ◌*ℤ◌, Bool}
 use Rattle.std.proofs.lemmas.Bool.{OnTrue_at}
 use Rattle.std.proofs.lemmas.Nat.Gcd.{le_of_dvd}
-use Rattle.std.proofs.Math.Nat.{div-le_self}
 use Rattle.fractions.specs.Fraction.{Fraction, lower_pos}
 use Rattle.fractions.specs.Fracs.{pos_product}
 use Rattle.fractions.proofs.Parts.{whole_back}
-use Rattle.number_rows.specs.Changed.{Numbers, IsReducedRow}
+use Rattle.number_rows.specs.Changed.{Numbers}
 use Rattle.number_rows.specs.Row.{kept, IsKeptLong}
-use Rattle.number_rows.specs.Tops.{top_at, AreWithin, IsCombinedOver, DividesCombined}
+use Rattle.number_rows.specs.Tops.{top_at, IsCombinedOver, DividesCombined}
 use Rattle.number_rows.proofs.Kept.{length_shown}
 use Rattle.number_rows.proofs.Over.{wrap128}
 use Rattle.number_rows.proofs.Exchanged.{reduced_wide, divided_tops}
-use Rattle.number_rows.proofs.Broad.{factor_wide, factor_small, factor_fits, scale_fits}
+use Rattle.number_rows.proofs.Broad.{factor_wide, factor_small, factor_fits}
 use Rattle.number_rows.proofs.long.Long.reduce_whole.Goals.{After-wide_quotient-factor}
 use Rattle.number_rows.proofs.long.Long.reduce_whole.Goals as goal
 

@@ -1,7 +1,7 @@
-use Rattle.std.proofs.Common.{◌≡◌, ◌∙◌, refl, sym, ap, subst, arith, length, List, ℤ, true}
+use Rattle.std.proofs.Common.{◌≡◌, ◌∙◌, refl, sym, subst, arith, length, List, ℤ, true}
 use Rattle.std.proofs.lemmas.List.{with_items_is}
 use Rattle.std.specs.Vec.{with_items}
-use Rattle.number_rows.specs.Row.{kept, IsKeptLong}
+use Rattle.number_rows.specs.Row.{IsKeptLong}
 use Rattle.number_rows.proofs.Kept.{length_shown}
 use Rattle.number_rows.proofs.Exchanged.{written, same_within}
 use Rattle.number_rows.proofs.long.Long.write.Goals.{After-widen}

@@ -1,17 +1,14 @@
-use Rattle.std.proofs.Common.{◌≡◌, ◌∙◌, sym, ap, subst, arith, ℕ, ◌<◌, ◌≤◌, ◌^◌, length, List, ℤ, unsigned_abs, true, false}
-use Rattle.std.proofs.lemmas.List.{get_or_read, with_items_is}
+use Rattle.std.proofs.Common.{◌≡◌, ◌∙◌, sym, ap, subst, arith, ◌≤◌, length, List, ℤ}
+use Rattle.std.proofs.lemmas.List.{with_items_is}
 use Rattle.std.specs.Vec.{with_items}
-use Rattle.fractions.specs.Fraction.{Fraction, zero_fraction}
-use Rattle.linear_table.specs.Plans.{number_at}
+use Rattle.fractions.specs.Fraction.{Fraction}
 use Rattle.number_rows.specs.Row.{kept, IsKept}
-use Rattle.number_rows.specs.Tops.{top_at, DividesAll, IsDividedBy}
-use Rattle.std.specs.Int.{◌∣◌}
+use Rattle.number_rows.specs.Tops.{DividesAll, IsDividedBy}
 use Rattle.std.proofs.lemmas.Nat.Gcd.{le_of_dvd}
 use Rattle.fractions.specs.Fraction.{lower_pos}
 use Rattle.std.proofs.Math.Nat.{div-le_self}
 use Rattle.std.specs.Prelude.{◌/◌}
 use Rattle.number_rows.specs.Changed.{Numbers}
-use Rattle.number_rows.specs.Tops.{AreWithin}
 use Rattle.number_rows.proofs.Exchanged.{cancelled}
 use Rattle.number_rows.proofs.row.Row.cancel.Goals as goal
 

@@ -1,13 +1,9 @@
-use Rattle.std.proofs.Common.{◌≡◌, ◌∙◌, sym, ap, subst, arith, ℕ, ◌<◌, ◌≤◌, ◌^◌, length, List, ℤ, unsigned_abs, true, false}
-use Rattle.std.proofs.lemmas.List.{get_or_read, with_items_is}
-use Rattle.std.specs.Vec.{with_items}
-use Rattle.std.specs.Prelude.{◌*◌, ◌/◌, pos, ◌*ℤ◌, Bool}
-use Rattle.fractions.specs.Fraction.{Fraction, zero_fraction, frac}
+use Rattle.std.proofs.Common.{◌≡◌, ◌∙◌, ap, arith, ℕ, ◌<◌, ◌^◌, length, List, ℤ}
+use Rattle.std.proofs.lemmas.List.{get_or_read}
+use Rattle.std.specs.Prelude.{pos, ◌*ℤ◌}
 use Rattle.linear_table.specs.Plans.{number_at}
-use Rattle.number_rows.specs.Changed.{Numbers, IsReducedRow}
-use Rattle.number_rows.specs.Row.{kept, IsKept}
-use Rattle.number_rows.specs.Tops.{top_at, AreWithin, IsTurned, IsCombined}
-use Rattle.number_rows.proofs.Kept.{short_at, long_items, length_shown, shown_over}
+use Rattle.number_rows.specs.Tops.{top_at, AreWithin}
+use Rattle.number_rows.proofs.Kept.{short_at, length_shown}
 use Rattle.fractions.proofs.Parts.{whole_back}
 use Rattle.number_rows.proofs.Lists.{wrap, back}
 use Rattle.number_rows.proofs.Signs.{compared_by}

@@ -1,13 +1,12 @@
-use Rattle.std.proofs.Common.{◌≡◌, ◌∙◌, sym, ap, subst, arith, ℕ, ◌<◌, ◌≤◌, ◌^◌, length, List, ℤ, unsigned_abs, true, false}
+use Rattle.std.proofs.Common.{◌≡◌, ◌∙◌, sym, ap, subst, arith, ℕ, ◌<◌, ◌≤◌, ◌^◌, length, List, ℤ, unsigned_abs}
 use Rattle.std.proofs.lemmas.List.{get_or_read, with_items_is}
-use Rattle.std.specs.Vec.{with_items}
-use Rattle.std.specs.Prelude.{◌*◌, ◌/◌, pos, ◌*ℤ◌, Bool}
-use Rattle.fractions.specs.Fraction.{Fraction, zero_fraction, frac}
+use Rattle.std.specs.Prelude.{pos, Bool}
+use Rattle.fractions.specs.Fraction.{Fraction}
 use Rattle.linear_table.specs.Plans.{number_at}
-use Rattle.number_rows.specs.Changed.{Numbers, IsReducedRow}
+use Rattle.number_rows.specs.Changed.{Numbers}
 use Rattle.number_rows.specs.Row.{kept, IsKept}
-use Rattle.number_rows.specs.Tops.{top_at, AreWithin, IsTurned, IsCombined}
-use Rattle.number_rows.proofs.Kept.{short_at, long_items, length_shown, shown_over}
+use Rattle.number_rows.specs.Tops.{top_at, AreWithin, IsTurned}
+use Rattle.number_rows.proofs.Kept.{short_at, length_shown}
 use Rattle.std.specs.Int.Signed.{lt_z}
 use Rattle.number_rows.proofs.Lists.{wrap, back}
 use Rattle.number_rows.proofs.Exchanged.{divided_row, size_some, top_not_zero, turned_size}

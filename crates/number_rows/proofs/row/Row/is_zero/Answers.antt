@@ -1,10 +1,8 @@
-use Rattle.std.proofs.Common.{◌≡◌, ◌∙◌, sym, ap, subst, arith, ℕ, ◌<◌, ◌≤◌, ◌^◌, length, List, ℤ, unsigned_abs, true, false}
-use Rattle.std.proofs.lemmas.List.{get_or_read, with_items_is}
-use Rattle.std.specs.Vec.{with_items}
-use Rattle.fractions.specs.Fraction.{Fraction, zero_fraction, frac}
+use Rattle.std.proofs.Common.{◌≡◌, ◌∙◌, sym, ap, subst, arith, ◌<◌, ◌^◌, length, ℤ, unsigned_abs}
+use Rattle.std.proofs.lemmas.List.{get_or_read}
+use Rattle.fractions.specs.Fraction.{frac}
 use Rattle.linear_table.specs.Plans.{number_at}
-use Rattle.number_rows.specs.Row.{kept, IsKept}
-use Rattle.number_rows.specs.Tops.{top_at, DividesAll, IsDividedBy}
+use Rattle.number_rows.specs.Tops.{top_at}
 use Rattle.std.specs.Prelude.{pos}
 use Rattle.number_rows.proofs.Kept.{short_at, length_shown}
 use Rattle.number_rows.proofs.Signs.{zero_by}

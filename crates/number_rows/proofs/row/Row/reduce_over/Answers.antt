@@ -1,8 +1,8 @@
-use Rattle.std.proofs.Common.{◌≡◌, ◌∙◌, refl, sym, ap, subst, arith, ℕ, ◌<◌, ◌≤◌, ◌^◌, length, List, ℤ, unsigned_abs, true, false}
+use Rattle.std.proofs.Common.{◌≡◌, ◌∙◌, refl, sym, ap, subst, arith, ℕ, ◌<◌, ◌^◌, length, List, ℤ, unsigned_abs}
 use Rattle.std.proofs.lemmas.List.{get_or_read, with_items_is}
 use Rattle.std.specs.Prelude.{◌*◌, ◌/◌, pos, ◌*ℤ◌, Bool}
 use Rattle.fractions.specs.Fraction.{Fraction}
-use Rattle.number_rows.specs.Changed.{Numbers, IsReducedRow}
+use Rattle.number_rows.specs.Changed.{Numbers}
 use Rattle.number_rows.specs.Row.{kept, IsKept}
 use Rattle.number_rows.specs.Tops.{top_at, IsCombinedOver}
 use Rattle.number_rows.proofs.Kept.{length_shown}

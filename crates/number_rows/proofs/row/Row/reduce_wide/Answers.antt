@@ -1,4 +1,4 @@
-use Rattle.std.proofs.Common.{◌≡◌, ◌∙◌, sym, ap, ℕ, List, ℤ, true}
+use Rattle.std.proofs.Common.{◌≡◌, ◌∙◌, sym, ap, List, ℤ, true}
 use Rattle.std.specs.Prelude.{[]}
 use Rattle.fractions.specs.Fraction.{Fraction}
 use Rattle.number_rows.specs.Changed.{Numbers}
