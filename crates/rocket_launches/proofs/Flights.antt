@@ -40,7 +40,7 @@ next_rest whole number x xs is =
     let within : number < length whole = grind (arith, common_steps, ap length is) in
     tails (get_or whole number x) x (drop (number + 1) whole) xs (sym (next_at whole number x within) ∙ is)
 
-found_hold : {A B : Type 0} (find : ℕ → A → Option B) (P : B → Type 0) (whole : List A) → ((k : ℕ) (x : A) → slice_get whole k ≡ Some x → IfSome (find k x) P)
+pub found_hold : {A B : Type 0} (find : ℕ → A → Option B) (P : B → Type 0) (whole : List A) → ((k : ℕ) (x : A) → slice_get whole k ≡ Some x → IfSome (find k x) P)
     → (number : ℕ) → (rest : List A) → drop number whole ≡ rest → All P (found_from find number rest)
 unfolding found_from
 found_hold find P whole one number [] is = All-nil P

@@ -2,7 +2,12 @@ pub mod Loops
 pub mod NameLemmas
 pub mod Grown
 pub mod Flights
+pub mod Numbered
 pub mod FlightPlaces
-pub mod ApartNames
-pub mod ApartLaunches
+pub mod FlightOrder
 pub mod SoundLaunches
+pub mod Earliest
+pub mod Cuts
+pub mod FirstTaken
+pub mod Clashing
+pub mod TakenFlights

@@ -1,13 +1,8 @@
 -- Loops that go through a list: what was found so far, and what the rest gives behind it.
-use Rattle.std.proofs.Common.{◌≡◌, ◌∙◌, ◌<◌, ◌≤◌, ◌+◌, ℕ, List, [], ◌∷◌, ◌++◌, Bool, true, false, Option, Some, None, length, drop, get_or, map, refl, sym, ap, append_assoc, append-nil, arith}
-use Rattle.std.specs.Prelude.{slice_get, ◌&&◌, ◌||◌}
-use Rattle.std.specs.List.{cons_option, flat_map, list_all, list_any}
-use Rattle.std.proofs.lemmas.Option.{get_or_from_slice_get, slice_get_within}
+use Rattle.std.proofs.Common.{◌≡◌, ◌∙◌, ◌<◌, ◌≤◌, ◌+◌, ℕ, List, [], ◌∷◌, ◌++◌, Option, Some, None, length, drop, get_or, map, refl, sym, ap, append_assoc, append-nil, arith}
+use Rattle.std.specs.List.{cons_option, flat_map}
 use Rattle.game_types.proofs.Walks.{next, drop_all}
 use Rattle.rocket_launches.specs.Launches.{found_from}
-
-next_got : {A : Type 0} (xs : List A) (k : ℕ) (x : A) → slice_get xs k ≡ Some x → drop k xs ≡ x ∷ drop (k + 1) xs
-next_got xs k x is = next xs k x (slice_get_within xs k x is) (sym (get_or_from_slice_get xs k x x is))
 
 -- ---- what is found
 before_rest : {B : Type 0} (found : List B) (one : Option B) (rest : List B) → found ++ cons_option one rest ≡ (found ++ cons_option one []) ++ rest
@@ -36,22 +31,3 @@ flat_next f k found xs x within is = ap (λ ys. found ++ flat_map f ys) (next xs
 
 pub flat_end : {A B : Type 0} (f : A → List B) (k : ℕ) (found : List B) (xs : List A) → length xs ≤ k → found ++ flat_map f (drop k xs) ≡ found
 flat_end f k found xs end = ap (λ ys. found ++ flat_map f ys) (drop_all xs k end) ∙ append-nil found
-
--- ---- whether any passes, and whether all do
-pub any_stop : {A : Type 0} (p : A → Bool) (xs : List A) (k : ℕ) (x : A) → slice_get xs k ≡ Some x → p x ≡ true → list_any p (drop k xs) ≡ true
-any_stop p xs k x is passes = ap (list_any p) (next_got xs k x is) ∙ ap (λ b. b || list_any p (drop (k + 1) xs)) passes
-
-pub any_pass : {A : Type 0} (p : A → Bool) (xs : List A) (k : ℕ) (x : A) → slice_get xs k ≡ Some x → p x ≡ false → list_any p (drop k xs) ≡ list_any p (drop (k + 1) xs)
-any_pass p xs k x is fails = ap (list_any p) (next_got xs k x is) ∙ ap (λ b. b || list_any p (drop (k + 1) xs)) fails
-
-pub any_end : {A : Type 0} (p : A → Bool) (xs : List A) (k : ℕ) → length xs ≤ k → list_any p (drop k xs) ≡ false
-any_end p xs k end = ap (list_any p) (drop_all xs k end)
-
-pub all_stop : {A : Type 0} (p : A → Bool) (xs : List A) (k : ℕ) (x : A) → k < length xs → x ≡ get_or xs k x → p x ≡ false → list_all p (drop k xs) ≡ false
-all_stop p xs k x within is fails = ap (list_all p) (next xs k x within is) ∙ ap (λ b. b && list_all p (drop (k + 1) xs)) fails
-
-pub all_pass : {A : Type 0} (p : A → Bool) (xs : List A) (k : ℕ) (x : A) → k < length xs → x ≡ get_or xs k x → p x ≡ true → list_all p (drop k xs) ≡ list_all p (drop (k + 1) xs)
-all_pass p xs k x within is passes = ap (list_all p) (next xs k x within is) ∙ ap (λ b. b && list_all p (drop (k + 1) xs)) passes
-
-pub all_end : {A : Type 0} (p : A → Bool) (xs : List A) (k : ℕ) → length xs ≤ k → list_all p (drop k xs) ≡ true
-all_end p xs k end = ap (list_all p) (drop_all xs k end)

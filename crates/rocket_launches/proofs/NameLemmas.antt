@@ -1,12 +1,12 @@
 -- Names of launches: which of them are taken, and how they are added one after another.
-use Rattle.std.proofs.Common.{◌≡◌, ◌∙◌, ◌<◌, ◌≤◌, ◌+◌, ℕ, Bool, true, false, List, [], ◌∷◌, ◌++◌, Option, Some, None, length, map, take, drop, get_or, refl, sym, ap, append_assoc, append-nil, arith}
+use Rattle.std.proofs.Common.{◌≡◌, ◌∙◌, ◌<◌, ◌≤◌, ◌+◌, ℕ, Bool, true, false, List, [], ◌∷◌, ◌++◌, Option, Some, None, length, take, drop, get_or, refl, sym, ap, append_assoc, append-nil, arith}
 use Rattle.std.specs.Prelude.{is_some, ◌||◌, if◌then◌else◌}
 use Rattle.std.specs.List.{list_any, position}
 use Rattle.std.specs.Str.{bytes_eq}
 use Rattle.std.proofs.Math.Seq.{take-suc}
 use Rattle.std.proofs.lemmas.Grind.{common_steps}
 use Rattle.std.proofs.lemmas.List.Folds.{list_any-append}
-use Rattle.game_types.proofs.Walks.{next, next_at, drop_all}
+use Rattle.game_types.proofs.Walks.{next, drop_all}
 use Rattle.name_table.specs.Names.{place_of, with_name}
 use Rattle.rocket_launches.specs.Launches.{first_taken, is_taken}
 
@@ -54,28 +54,3 @@ one_more old names now k x within is same free =
 
 pub all_added : (old names now : List (List ℕ)) (k : ℕ) → length names ≤ k → now ≡ old ++ take k names → now ≡ old ++ names
 all_added old names now k end same = same ∙ ap (λ xs. old ++ xs) (grind (arith, common_steps, end))
-
--- ---- the same where no table of all names is made: by the names of the launches before
-pub flight_stop : {A : Type 0} (f : A → List ℕ) (old earlier : List (List ℕ)) (all : List A) (k place : ℕ) (d : A) (taken : Bool) → k < length all → taken ≡ is_taken old earlier (f (get_or all k d)) → taken ≡ true
-    → length earlier ≡ k → place ≡ k → Some place ≡ first_taken old earlier (map f (drop k all))
-unfolding first_taken
-flight_stop f old earlier all k place d taken within test yes_ long at =
-    let there : is_taken old earlier (f (get_or all k d)) ≡ true = sym test ∙ yes_ in
-    rw (next_at all k d within, there) (ap Some (at ∙ sym long))
-
-pub flight_pass : {A : Type 0} (f : A → List ℕ) (old earlier new : List (List ℕ)) (all : List A) (k : ℕ) (d : A) (taken : Bool) → k < length all → taken ≡ is_taken old earlier (f (get_or all k d)) → taken ≡ false
-    → new ≡ (if taken then earlier else earlier ++ f (get_or all k d) ∷ []) → first_taken old earlier (map f (drop k all)) ≡ first_taken old new (map f (drop (k + 1) all))
-unfolding first_taken
-flight_pass f old earlier new all k d taken within test no_ added =
-    let free : is_taken old earlier (f (get_or all k d)) ≡ false = sym test ∙ no_ in
-    let more : new ≡ earlier ++ f (get_or all k d) ∷ [] = added ∙ ap (λ b. if b then earlier else earlier ++ f (get_or all k d) ∷ []) no_ in
-    rw (next_at all k d within, free, more) refl
-
-pub one_longer : (earlier new : List (List ℕ)) (name : List ℕ) (k : ℕ) (taken : Bool) → taken ≡ false → new ≡ (if taken then earlier else earlier ++ name ∷ []) → length earlier ≡ k → length new ≡ k + 1
-one_longer earlier new name k taken no_ added long =
-    let more : new ≡ earlier ++ name ∷ [] = added ∙ ap (λ b. if b then earlier else earlier ++ name ∷ []) no_ in
-    grind (arith, common_steps, more, long)
-
-pub flights_end : {A : Type 0} (f : A → List ℕ) (old earlier : List (List ℕ)) (all : List A) (k : ℕ) → length all ≤ k → None ≡ first_taken old earlier (map f (drop k all))
-unfolding first_taken
-flights_end f old earlier all k end = rw (drop_all all k end) refl

@@ -106,23 +106,6 @@ name_taken g all names now place d fault is are taken within fault_is =
 pub flight_known : (g : Game) → IsSound g → (all : List Flight) (place : ℕ) (d : Flight) → all ≡ flights g → place < length all → (slice_index_or all place d).silo.machine.0 < length g.machine_names
 flight_known g sound all place d is within = flight_named g sound all (map (launch_name g) all) place d is refl (subst (λ (n : ℕ). place < n) (sym (length-map all (launch_name g))) within)
 
-pub taken_first : (g : Game) (all : List Flight) (place : ℕ) (d : Flight) (fault : DumpFault) → all ≡ flights g → Some place ≡ first_taken g.recipe_names [] (map (launch_name g) all) → place < length all
-    → fault ≡ launch_fault g Twice (slice_index_or all place d) → with_launches g ≡ Err fault
-taken_first g all place d fault is taken within fault_is =
-    one_taken g (map (launch_name g) all) place (slice_index_or all place d) (ap (map (launch_name g)) is) (sym taken)
-    (subst (λ (xs : List Flight). slice_get xs place ≡ Some (slice_index_or all place d)) is (slice_get-get_or all place d within))
-    ∙ ap Err (sym fault_is)
-
-pub beyond_free : (g : Game) (beyond : Flight) (fault : DumpFault) → first_taken g.recipe_names [] (map (launch_name g) (flights g)) ≡ None → flight_beyond g ≡ Some beyond → fault ≡ launch_fault g Limit beyond
-    → with_launches g ≡ Err fault
-unfolding with_launches flight_taken
-beyond_free g beyond fault free there fault_is = rw (free, there) (ap Err (sym fault_is))
-
-pub beyond_limit : (g : Game) (all : List Flight) (beyond : Flight) (fault : DumpFault) → all ≡ flights g → None ≡ first_taken g.recipe_names [] (map (launch_name g) all)
-    → flight_beyond g ≡ Some beyond → fault ≡ launch_fault g Limit beyond → with_launches g ≡ Err fault
-beyond_limit g all beyond fault is free there fault_is =
-    beyond_free g beyond fault (ap (λ (xs : List Flight). first_taken g.recipe_names [] (map (launch_name g) xs)) (sym is) ∙ sym free) there fault_is
-
 beyond_there : (g : Game) (beyond : Flight) → flight_beyond g ≡ Some beyond → slice_get (flights g) (node_limit - node_count (shape_of g)) ≡ Some beyond
 unfolding flight_beyond
 beyond_there g beyond is = is
@@ -144,3 +127,22 @@ enough_room g sound all is none =
 pub none_found : (found : Option Flight) → ((one : Flight) → found ≡ Some one → ⊥) → found ≡ None
 none_found None never = refl
 none_found (Some one) never = absurd (never one refl)
+
+-- ---- what is answered by the first flight whose name is taken
+pub twice_first : (g : Game) (one : Flight) → Some one ≡ flight_taken g → with_launches g ≡ Err (launch_fault g Twice one)
+unfolding with_launches
+twice_first g one taken = rw (sym taken) refl
+
+pub limit_first : (g : Game) (beyond : Flight) → None ≡ flight_taken g → flight_beyond g ≡ Some beyond → with_launches g ≡ Err (launch_fault g Limit beyond)
+unfolding with_launches
+limit_first g beyond free there = rw (sym free, there) refl
+
+pub taken_named : (g : Game) → IsSound g → (one : Flight) → Some one ≡ flight_taken g → one.silo.machine.0 < length g.machine_names
+unfolding flight_taken
+taken_named g sound one taken = by_place (first_taken g.recipe_names [] (map (launch_name g) (flights g))) taken
+  where
+    by_place : (found : Option ℕ) → Some one ≡ option_and_then (slice_get (flights g)) found → one.silo.machine.0 < length g.machine_names
+    by_place None is = absurd (cc)
+    by_place (Some place) is =
+        subst (λ (f : Flight). f.silo.machine.0 < length g.machine_names) (get_or_from_slice_get (flights g) place one one (sym is))
+        (flight_known g sound (flights g) place one refl (slice_get_within (flights g) place one (sym is)))

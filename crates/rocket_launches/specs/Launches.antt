@@ -1,8 +1,8 @@
 -- The launches of rockets as recipes, behind the recipes of the dump: what a silo sends up and what comes back. After the
 -- prototype documentation of Factorio 1.1 (`rocket_parts_required`, `rocket_launch_products`); that a launch is a recipe of its
 -- silo, and its name, are this project's own.
-use Rattle.std.specs.Prelude.{◌≡◌, ◌<◌, ℕ, ◌+◌, ◌-◌, ◌==◌, ◌&&◌, ◌||◌, Bool, true, eqb, not, pos, List, [], ◌∷◌, ◌++◌, Option, Some, None, Result, Ok, Err, codes, is_some, length, map, option_and_then, slice_get, slice_index_or, if◌then◌else◌}
-use Rattle.std.specs.List.{cons_option, flat_map, list_all, list_any, starts_with}
+use Rattle.std.specs.Prelude.{◌≡◌, ◌<◌, ℕ, ◌+◌, ◌-◌, ◌==◌, ◌||◌, Bool, true, eqb, pos, List, [], ◌∷◌, ◌++◌, Option, Some, None, Result, Ok, Err, codes, is_some, length, map, option_and_then, slice_get, slice_index_or, if◌then◌else◌}
+use Rattle.std.specs.List.{cons_option, flat_map, starts_with}
 use Rattle.fractions.specs.Fraction.{Fraction, zero_fraction, one_fraction, whole_fraction}
 use Rattle.plan_base.specs.Shape.{node_count}
 use Rattle.plan_base.specs.declared.ids.EntityId.{EntityId}
@@ -123,18 +123,9 @@ AddsNames old now names All = (first_taken old [] names ≡ None) × (now ≡ ol
 AddsNames old now names (Taken place) = (first_taken old [] names ≡ Some place) × (place < length names)
 AddsNames old now names NoMemory = Unit {0}
 
--- launches whose names can't be taken: no recipe of the dump begins as one, and a silo's name ends at the first colon
+-- a name that begins as that of a launch
 unfoldable pub begins_as_launch : List ℕ → Bool
 begins_as_launch name = starts_with eqb name (codes "launch:")
-
-abbrev pub has_colon : List ℕ → Bool
-has_colon name = list_any (λ byte. byte == 58) name
-
-abbrev pub is_plain : List (List ℕ) → Silo → Bool
-is_plain names silo = not (has_colon (name_at names silo.machine.0))
-
-unfoldable pub are_apart : Game → List Silo → Bool
-are_apart g silos = not (list_any begins_as_launch g.recipe_names) && list_all (is_plain g.machine_names) silos
 
 unfoldable pub flight_taken : Game → Option Flight
 flight_taken g = option_and_then (slice_get (flights g)) (first_taken g.recipe_names [] (map (launch_name g) (flights g)))

@@ -1,15 +1,14 @@
 //! A game with its launches.
-ghost use Rattle.std.specs.Prelude.{◌≡◌, ◌≢◌, ◌<◌, ◌≤◌, ◌+◌, ◌-◌, ◌++◌, Some, Ok, Err, IfErr, IfOk, length, map, slice_get};
+ghost use Rattle.std.specs.Prelude.{IsErr, ◌≡◌, ◌≢◌, ◌<◌, ◌≤◌, ◌+◌, ◌-◌, ◌++◌, Some, Ok, Err, IfErr, IfOk, length, map, slice_get};
 ghost use Rattle.plan_base.specs.Shape.{node_count};
 ghost use Rattle.game_types.specs.Nodes.{node_limit, shape_of};
 ghost use Rattle.craft_reader.specs.Faults.{GivesDump};
 ghost use Rattle.game_types.specs.Sound.{IsSound};
 ghost use Rattle.rocket_launches.specs.Launches.{AddsNames, cargo_in, flight_beyond, flights, flights_of, launch_fault, launch_name, launch_recipe, silos_in, with_launches};
 
-use crate::apart::are_apart;
+use crate::clashes::flight_taken;
 use crate::launches::{launch_names, launch_recipes, name_at};
 use crate::silos::{Flight, Silo, cargo, flights, silos};
-use crate::taken::first_taken;
 use craft_reader::{DumpCode, DumpFault};
 use game_types::{Game, NODE_LIMIT, Recipe};
 use name_table::Names;
@@ -144,24 +143,35 @@ fn flight_beyond(game: &Game, silos: &[Silo], cargo: &[GoodId]) -> Option<Flight
     flight_at(silos, cargo, room(game))
 }
 
-// The fault of the first flight whose launch has a name that is taken, or else of one for which there is no node.
-fn first_refused(alloc: Global, game: &Game, all: &[Flight], beyond: &Flight) -> DumpFault
+/// Why a launch is refused.
+#[derive(Clone, Copy)]
+struct Refusal {
+    code: FieldCode,
+    flight: Flight,
+}
+
+// Why a game with more flights than there is room for is refused. It takes no memory.
+fn why_refused(game: &Game, silos: &[Silo], cargo: &[GoodId], beyond: &Flight) -> Refusal
     requires sound { IsSound game.now }
-    requires flights { all.now ≡ flights game.now }
+    requires silos { silos.now ≡ silos_in game.now }
+    requires cargo { cargo.now ≡ cargo_in game.now }
     requires beyond { flight_beyond game.now ≡ Some beyond.now }
-    ensures { result.code ≢ DumpCode.NoMemory → with_launches game.now ≡ Err result }
+    ensures refused { with_launches game.now ≡ Err (launch_fault game.now result.code result.flight) }
+    ensures named { result.flight.silo.machine.0 < length game.now.machine_names }
 {
-    let Ok(taken) = first_taken(alloc, game, all) else {
-        return DumpFault::of_code(alloc, DumpCode::NoMemory);
-    };
-    match taken {
-        Some(place) => launch_fault(alloc, game, FieldCode::Twice, &all[place]),
-        None => launch_fault(alloc, game, FieldCode::Limit, beyond),
+    match flight_taken(game, silos, cargo) {
+        Some(flight) => Refusal {
+            code: FieldCode::Twice,
+            flight,
+        },
+        None => Refusal {
+            code: FieldCode::Limit,
+            flight: *beyond,
+        },
     }
 }
 
-// The fault of a game with more flights than there is room for. They are made, which may be many, only where names of launches
-// might be taken.
+// The fault of a game with more flights than there is room for. Memory is wanted for its text alone.
 fn refused(
     alloc: Global,
     game: &Game,
@@ -173,15 +183,12 @@ fn refused(
     requires silos { silos.now ≡ silos_in game.now }
     requires cargo { cargo.now ≡ cargo_in game.now }
     requires beyond { flight_beyond game.now ≡ Some beyond.now }
-    ensures { result.code ≢ DumpCode.NoMemory → with_launches game.now ≡ Err result }
+    ensures fault { result.code ≢ DumpCode.NoMemory → with_launches game.now ≡ Err result }
+    // One of them is sure, with or without memory for its text.
+    ensures sure { IsErr (with_launches game.now) }
 {
-    if are_apart(game, silos) {
-        return launch_fault(alloc, game, FieldCode::Limit, beyond);
-    }
-    match flights(alloc, silos, cargo) {
-        Ok(all) => first_refused(alloc, game, all.as_slice(), beyond),
-        Err(NoMemory) => DumpFault::of_code(alloc, DumpCode::NoMemory),
-    }
+    let refusal = why_refused(game, silos, cargo, beyond);
+    launch_fault(alloc, game, refusal.code, &refusal.flight)
 }
 
 // Puts the launches of flights, for which there are nodes, into a game.

@@ -2,10 +2,9 @@
 #![tactic(auto)]
 
 mod adding;
-mod apart;
+mod clashes;
 mod launches;
 mod silos;
-mod taken;
 
 pub use adding::add_launches;
 pub use silos::{Flight, Silo};

@@ -51,9 +51,9 @@ fn silo_with(machine: EntityId, parts: u32, recipe: &Recipe) -> Option<Silo>
     }
 }
 
-// What a machine is as a silo, where it is one.
+/// What a machine is as a silo, where it is one.
 #[tactic(auto, unfolding(crate::specs::Launches::silo_of))]
-fn silo_of(game: &Game, number: u32, machine: &Machine) -> Option<Silo>
+pub fn silo_of(game: &Game, number: u32, machine: &Machine) -> Option<Silo>
     requires { IsSoundMachine game.now machine.now }
     ensures { result ≡ silo_of game.now number machine.now }
 {
@@ -66,9 +66,9 @@ fn silo_of(game: &Game, number: u32, machine: &Machine) -> Option<Silo>
     }
 }
 
-// An item as cargo, where its launch brings something back.
+/// An item as cargo, where its launch brings something back.
 #[tactic(auto, unfolding(crate::specs::Launches::cargo_of))]
-fn cargo_of(number: u32, item: &Item) -> Option<GoodId>
+pub fn cargo_of(number: u32, item: &Item) -> Option<GoodId>
     ensures { result ≡ cargo_of number item.now }
 {
     if item.launch.len() == 0 {
