@@ -17,7 +17,7 @@ use Rattle.planner_cli.specs.Certs.{EndsReadingCert}
 use Rattle.planner_cli.specs.Early.{EndsEarly, IsTold}
 use Rattle.planner_cli.specs.Ending.{IsReady, status_of}
 use Rattle.planner_cli.specs.Inputs.{IsBase}
-use Rattle.planner_cli.specs.Words.{FileNames, Files, Check, Run}
+use Rattle.cli_words.specs.Words.{FileNames, Files, Check, Run}
 use Rattle.planner_cli.proofs.EndingLemmas.{base_for, begins_told}
 
 -- the store tells what it told before

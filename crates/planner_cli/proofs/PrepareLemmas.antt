@@ -14,7 +14,7 @@ use Rattle.planner_cli.specs.Begun.{BeginsFiles, CallsUnder, status_so_far}
 use Rattle.planner_cli.specs.Early.{EndsEarly, EndsLoading, EndsReading}
 use Rattle.planner_cli.specs.Ending.{IsReady}
 use Rattle.planner_cli.specs.Inputs.{IsBase, IsInput}
-use Rattle.planner_cli.specs.Words.{FileNames, Files, Run}
+use Rattle.cli_words.specs.Words.{FileNames, Files, Run}
 
 -- ---- a result that is this fault
 pub so_far : {T : Type 0} (r : Result T Status) (early : Status) → IsErr r × IsErrAnd r (λ e. e ≡ early) → status_so_far r ≡ early

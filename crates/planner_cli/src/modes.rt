@@ -11,7 +11,7 @@ ghost use Rattle.planner_core.specs.Lines.{first_planned, IsSessionOf};
 ghost use Rattle.planner_cli.specs.Ending.{EndsRun, IsReady, answering};
 ghost use Rattle.planner_cli.specs.Inputs.{IsScript};
 ghost use Rattle.planner_cli.specs.Keeping.{KeepsSink, KeepsStore};
-ghost use Rattle.planner_cli.specs.Words.{Check, FileNames, Files, Run, Sample};
+ghost use Rattle.cli_words.specs.Words.{Check, FileNames, Files, Run, Sample};
 
 use crate::answer::answer;
 use crate::certs::read_entries;

@@ -6,7 +6,7 @@ use Rattle.planner_cli.specs.Begun.{BeginsFiles}
 use Rattle.planner_cli.specs.Early.{is_cut}
 use Rattle.planner_cli.specs.Ending.{EndsRun, IsReady}
 use Rattle.planner_cli.specs.Inputs.{IsScript}
-use Rattle.planner_cli.specs.Words.{Check, FileNames, Files, Run}
+use Rattle.cli_words.specs.Words.{Check, FileNames, Files, Run}
 use Rattle.planner_cli.specs.declared.status.Status.TheVariants.{Done}
 use Rattle.planner_cli.proofs.CheckLemmas.{kept}
 use Rattle.planner_cli.proofs.EndingLemmas.{begins_early, begins_told, early_files, is_no_cut, leaves_told}

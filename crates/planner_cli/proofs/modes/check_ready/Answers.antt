@@ -4,7 +4,7 @@ use Rattle.planning_state.specs.States.{first_state}
 use Rattle.planner_core.specs.Lines.{IsSessionOf}
 use Rattle.planner_cli.specs.Ending.{IsReady}
 use Rattle.planner_cli.specs.Inputs.{IsScript}
-use Rattle.planner_cli.specs.Words.{Files, Run}
+use Rattle.cli_words.specs.Words.{Files, Run}
 use Rattle.planner_cli.proofs.modes.check_ready.Goals as goal
 
 pub check_lent-requires-clause-session : goal.check_lent-requires-clause-session
