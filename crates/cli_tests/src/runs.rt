@@ -1,12 +1,13 @@
 //! Runs, and what each ends with and writes. The expected texts of reports are of another planner, which shares no code with this
 //! one.
-ghost use Rattle.std.specs.Prelude.{◌≡◌, IfSome};
+ghost use Rattle.std.specs.Prelude.{◌≡◌};
 
+use crate::memory::{Calls, WORDS, sink_of, store_of, texts_in};
 use crate::texts::{
     DUMP, EDITS, EDITS_REPORT, REPORT, SAMPLE_REPORT, SCRIPT, TABLES, TABLES_REPORT,
 };
 use linear_table::SolveAnswer;
-use plan_base::{NoMemory, Steps, Text};
+use plan_base::{Steps, Text};
 use plan_io::{MemSink, MemStore, Store};
 use planner_cli::run;
 use std::alloc::Global;
@@ -14,57 +15,6 @@ use std::test::Fail;
 
 #[derive(Drop)]
 struct Test;
-
-fn texts_in(alloc: Global, words: &[&str]) -> Result<Vec<Text>, NoMemory> {
-    let mut texts = Vec::new(alloc);
-    for word in words {
-        let text = Text::copy(alloc, word)?;
-        texts.push(text)?;
-    }
-    Ok(texts)
-}
-
-fn file(alloc: Global, name: &str, bytes: &[u8]) -> Result<(Text, Vec<u8>), NoMemory> {
-    let name = Text::copy(alloc, name)?;
-    let bytes = bytes.to_vec(alloc)?;
-    Ok((name, bytes))
-}
-
-fn files_in(alloc: Global, files: &[(&str, &[u8])]) -> Result<Vec<(Text, Vec<u8>)>, NoMemory> {
-    let mut copies = Vec::new(alloc);
-    for (name, bytes) in files {
-        let copy = file(alloc, name, bytes)?;
-        copies.push(copy)?;
-    }
-    Ok(copies)
-}
-
-// A store whose call of this number fails, and none for 0.
-fn store_of(alloc: Global, files: &[(&str, &[u8])], fails: u32) -> Option<MemStore>
-    ensures { IfSome result (λ store. (⟦<MemStore as Store>⟧.begun store).calls ≡ 0) }
-{
-    let Ok(files) = files_in(alloc, files) else {
-        return None;
-    };
-    let Ok(fails) = vec![in alloc; fails] else {
-        return None;
-    };
-    match MemStore::make(alloc, files, fails) {
-        Ok(store) => Some(store),
-        Err(_) => None,
-    }
-}
-
-// A sink whose call of this number fails, and none for 0.
-fn sink_of(alloc: Global, fails: u32) -> Option<MemSink> {
-    let Ok(fails) = vec![in alloc; fails] else {
-        return None;
-    };
-    match MemSink::make(alloc, 4000, fails) {
-        Ok(sink) => Some(sink),
-        Err(_) => None,
-    }
-}
 
 fn ends(
     alloc: Global,
@@ -94,16 +44,15 @@ fn fails_so(
     let Ok(words) = texts_in(alloc, words) else {
         return false;
     };
-    let Some(mut store) = store_of(alloc, files, reads) else {
+    let calls = Calls::failing(reads, writes);
+    let Some(mut store) = store_of(alloc, files, calls) else {
         return false;
     };
-    let Some(mut out) = sink_of(alloc, writes) else {
+    let Some(mut out) = sink_of(alloc, calls) else {
         return false;
     };
     ends(alloc, &words, &mut store, &mut out, exit, written)
 }
-
-const WORDS: [&str; 4] = ["p", "run", "d", "s"];
 
 fn ends_so(alloc: Global, dump: &str, script: &str, exit: u8, written: &str) -> bool {
     let files = [("d", dump.as_bytes()), ("s", script.as_bytes())];
@@ -370,10 +319,10 @@ fn sample_tells_its_steps(alloc: Global) -> bool {
     let Ok(words) = texts_in(alloc, &SAMPLE) else {
         return false;
     };
-    let Some(mut store) = store_of(alloc, &[], 0) else {
+    let Some(mut store) = store_of(alloc, &[], Calls::failing(0, 0)) else {
         return false;
     };
-    let Some(mut out) = sink_of(alloc, 0) else {
+    let Some(mut out) = sink_of(alloc, Calls::failing(0, 0)) else {
         return false;
     };
     samples(alloc, &words, &mut store, &mut out)
@@ -410,10 +359,10 @@ fn solved(alloc: Global, script: &str, writes: u32) -> Option<Vec<SolveAnswer>> 
         return None;
     };
     let files = [("d", DUMP.as_bytes()), ("s", script.as_bytes())];
-    let Some(mut store) = store_of(alloc, &files, 0) else {
+    let Some(mut store) = store_of(alloc, &files, Calls::failing(0, 0)) else {
         return None;
     };
-    let Some(mut out) = sink_of(alloc, writes) else {
+    let Some(mut out) = sink_of(alloc, Calls::failing(0, writes)) else {
         return None;
     };
     Some(answers_of(alloc, &words, &mut store, &mut out))

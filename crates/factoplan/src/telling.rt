@@ -1,8 +1,9 @@
 //! What is said of a run on standard error.
 
+use cli_words::{PlainWords, plain_words};
 use craft_reader::DumpCode;
 use plan_base::Text;
-use planner_cli::{DUMP_LIMIT, PlainWords, Status, plain_words};
+use planner_cli::{DUMP_LIMIT, Status};
 use run_hints::{dump_name, hint, script_name, unread_hint};
 use std::alloc::Global;
 use std::fs::File;

@@ -12,12 +12,12 @@ use Rattle.script_runner.specs.declared.run.ScriptEnd.TheVariants as script
 use Rattle.planner_cli.specs.declared.status.Status.{Status}
 use Rattle.planner_cli.specs.declared.status.Status.TheVariants.{Done, SomeRefused, BadWords, BadDump, ReadFault, WriteFault, NoMemory, TooLong, BadCert}
 use Rattle.planner_cli.specs.declared.status.Long.TheVariants.{DumpBytes, ScriptBytes, ScriptLines, CertBytes}
-use Rattle.planner_cli.specs.Begun.{BeginsFiles, CallsUnder}
+use Rattle.planner_cli.specs.Begun.{BeginsFiles, CallsUnder, HasScript}
 use Rattle.planner_cli.specs.Certs.{EndsReadingCert}
 use Rattle.planner_cli.specs.Early.{EndsEarly, IsTold}
 use Rattle.planner_cli.specs.Ending.{IsReady, status_of}
 use Rattle.planner_cli.specs.Inputs.{IsBase}
-use Rattle.planner_cli.specs.Words.{FileNames, Files, Check, Run}
+use Rattle.cli_words.specs.Words.{FileNames, Files, Check, Run}
 use Rattle.planner_cli.proofs.EndingLemmas.{base_for, begins_told}
 
 -- the store tells what it told before
@@ -48,13 +48,14 @@ cert_no_cut shelf cert early ends is = subst (EndsReadingCert shelf cert) is end
 
 -- ---- the files that were begun
 -- three calls: the third by one more
-grown : (shelf : Shelf) (cert : List ℕ) (names : FileNames) (first mid new : Begun) (status : Status) → BeginsFiles shelf (Some (Files Run names)) first mid Done → new.calls ≡ mid.calls + 1
+grown : (shelf : Shelf) (cert : List ℕ) (names : FileNames) (first mid new : Begun) (status : Status) → HasScript shelf names.script → BeginsFiles shelf (Some (Files Run names)) first mid Done → new.calls ≡ mid.calls + 1
     → (IsSome (shelf.file cert) → new.unnamed ≡ mid.unnamed) → CallsUnder 3 status first.calls (first.calls + 3) → BeginsFiles shelf (Some (Files (Check cert) names)) first new status
-grown shelf cert names first mid new status begins more named calls =
+grown shelf cert names first mid new status script begins more named calls =
     let three : new.calls ≡ first.calls + 3 = omega (arith, more, begins.calls) in
     record {
       calls = subst (CallsUnder 3 status first.calls) (sym three) calls;
       behind = λ after. let found = begins.behind (omega (arith, begins.calls)) in (found.0, base_for shelf (Check cert) names found.0 found.1);
+      third = λ after. script;
       named = λ dump script given. named given ∙ begins.named dump script tt;
     }
 
@@ -72,10 +73,10 @@ early_calls shelf cert BadWords old ends = absurd ends
 early_calls shelf cert (BadDump fault) old ends = absurd ends
 early_calls shelf cert WriteFault old ends = absurd ends
 
-pub cert_begins_early : (shelf : Shelf) (cert : List ℕ) (names : FileNames) (first mid new : Begun) (early status : Status) (text : List ℕ) → BeginsFiles shelf (Some (Files Run names)) first mid Done → new.calls ≡ mid.calls + 1
+pub cert_begins_early : (shelf : Shelf) (cert : List ℕ) (names : FileNames) (first mid new : Begun) (early status : Status) (text : List ℕ) → HasScript shelf names.script → BeginsFiles shelf (Some (Files Run names)) first mid Done → new.calls ≡ mid.calls + 1
     → (IsSome (shelf.file cert) → new.unnamed ≡ mid.unnamed) → EndsReadingCert shelf cert early → IsTold early status text → BeginsFiles shelf (Some (Files (Check cert) names)) first new status
-cert_begins_early shelf cert names first mid new early status text begins more named ends told =
-    begins_told shelf (Some (Files (Check cert) names)) first new early status text told (grown shelf cert names first mid new early begins more named (early_calls shelf cert early first.calls ends))
+cert_begins_early shelf cert names first mid new early status text script begins more named ends told =
+    begins_told shelf (Some (Files (Check cert) names)) first new early status text told (grown shelf cert names first mid new early script begins more named (early_calls shelf cert early first.calls ends))
 
 checked_calls : (entries : List CertEntry) (first : Planned) (bytes text : List ℕ) (work : ℕ) (end : ScriptEnd) (old : ℕ) → EndsCheck entries first bytes end text work → CallsUnder 3 (status_of end) old (old + 3)
 unfolding EndsCheck
@@ -86,10 +87,10 @@ checked_calls entries first bytes text work script.WriteFault old ends = omega a
 checked_calls entries first bytes text work script.NoMemory old ends = omega arith
 
 pub cert_begins_checked : (shelf : Shelf) (cert : List ℕ) (names : FileNames) (first mid new : Begun) (entries : List CertEntry) (planner : Planned) (bytes text : List ℕ) (work : ℕ) (end : ScriptEnd)
-    → BeginsFiles shelf (Some (Files Run names)) first mid Done → new.calls ≡ mid.calls + 1 → (IsSome (shelf.file cert) → new.unnamed ≡ mid.unnamed) → EndsCheck entries planner bytes end text work
+    → HasScript shelf names.script → BeginsFiles shelf (Some (Files Run names)) first mid Done → new.calls ≡ mid.calls + 1 → (IsSome (shelf.file cert) → new.unnamed ≡ mid.unnamed) → EndsCheck entries planner bytes end text work
     → BeginsFiles shelf (Some (Files (Check cert) names)) first new (status_of end)
-cert_begins_checked shelf cert names first mid new entries planner bytes text work end begins more named ends =
-    grown shelf cert names first mid new (status_of end) begins more named (checked_calls entries planner bytes text work end first.calls ends)
+cert_begins_checked shelf cert names first mid new entries planner bytes text work end script begins more named ends =
+    grown shelf cert names first mid new (status_of end) script begins more named (checked_calls entries planner bytes text work end first.calls ends)
 
 many_calls : (before after : Option (List ℕ)) (end : ScriptEnd) (old new : ℕ) → TellsMany before after end → new ≡ old + 2 → CallsUnder 3 (status_of end) old new
 many_calls before after script.TooManyLines old new told two = two
@@ -103,5 +104,6 @@ pub cert_begins_many : (shelf : Shelf) (cert : List ℕ) (names : FileNames) (fi
 cert_begins_many shelf cert names first mid before after end begins told = record {
   calls = many_calls before after end first.calls mid.calls told begins.calls;
   behind = λ after. let found = begins.behind after in (found.0, base_for shelf (Check cert) names found.0 found.1);
+  third = begins.third;
   named = λ dump script given. begins.named dump script tt;
 }

@@ -14,7 +14,7 @@ use Rattle.planner_cli.specs.Begun.{BeginsFiles, CallsUnder, status_so_far}
 use Rattle.planner_cli.specs.Early.{EndsEarly, EndsLoading, EndsReading}
 use Rattle.planner_cli.specs.Ending.{IsReady}
 use Rattle.planner_cli.specs.Inputs.{IsBase, IsInput}
-use Rattle.planner_cli.specs.Words.{FileNames, Files, Run}
+use Rattle.cli_words.specs.Words.{FileNames, Files, Run}
 
 -- ---- a result that is this fault
 pub so_far : {T : Type 0} (r : Result T Status) (early : Status) → IsErr r × IsErrAnd r (λ e. e ≡ early) → status_so_far r ≡ early
@@ -57,7 +57,7 @@ dump_calls shelf names (BadCert fault) old new ends one = absurd ends
 -- one file was begun, and no second
 begins_one : (shelf : Shelf) (names : FileNames) (old new : Begun) (status : Status) → CallsUnder 2 status old.calls new.calls → new.calls ≡ old.calls + 1
     → (IsSome (shelf.file names.dump) → new.unnamed ≡ old.unnamed) → BeginsFiles shelf (Some (Files Run names)) old new status
-begins_one shelf names old new status calls one named = record { calls = calls; behind = λ more. absurd (omega (arith, one, more)); named = λ dump script none. named dump }
+begins_one shelf names old new status calls one named = record { calls = calls; behind = λ more. absurd (omega (arith, one, more)); third = λ more. absurd (omega (arith, one, more)); named = λ dump script none. named dump }
 
 pub dump_begins : {T : Type 0} (shelf : Shelf) (names : FileNames) (old new : Begun) (r : Result T Status) (early : Status) → IsErr r × IsErrAnd r (λ e. e ≡ early) → EndsReading shelf names.dump 268_435_456 DumpBytes early
     → new.calls ≡ old.calls + 1 → (IsSome (shelf.file names.dump) → new.unnamed ≡ old.unnamed) → BeginsFiles shelf (Some (Files Run names)) old new (status_so_far r)
@@ -154,5 +154,6 @@ pub script_begins : (shelf : Shelf) (names : FileNames) (game : Game) (planner :
 script_begins shelf names game planner old mid new s r base one first_named more second_named read is = record {
   calls = script_status shelf names planner old.calls new.calls s r (omega (arith, one, more)) read is;
   behind = λ after. (game, base);
+  third = λ after. absurd (omega (arith, one, more, after));
   named = λ dump script none. second_named script ∙ first_named dump;
 }

@@ -15,7 +15,7 @@ use Rattle.planner_cli.specs.declared.status.Long.TheVariants.{DumpBytes, Script
 use Rattle.planner_cli.specs.BadDump.{fault_line}
 use Rattle.planner_cli.specs.Base.{HasManyMembers, load_work, members_fault}
 use Rattle.planner_cli.specs.Inputs.{IsBadCert, IsBase, IsDump, IsLong, IsLongCert, IsLongDump, IsLongScript, IsScript}
-use Rattle.planner_cli.specs.Words.{Asked, Files}
+use Rattle.cli_words.specs.Words.{Asked, Files}
 
 -- Why a dump has no base: the first fault of reading it, or its members. How many steps are taken where those are too many is
 -- not said.

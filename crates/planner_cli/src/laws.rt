@@ -5,7 +5,7 @@ ghost use Rattle.planner_cli.specs.declared.status.Status.{Status as AnyStatus};
 ghost use Rattle.planner_cli.specs.declared.status.Status.TheVariants as statuses;
 ghost use Rattle.planner_cli.specs.Ending.{EndsRun};
 ghost use Rattle.planner_cli.specs.Rechecks.{ChecksNoWide, HasSameFiles, IsProved, Side};
-ghost use Rattle.planner_cli.specs.Words.{Check, Files};
+ghost use Rattle.cli_words.specs.Words.{Check, Files};
 
 use game_reader::one_game;
 

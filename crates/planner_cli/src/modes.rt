@@ -9,8 +9,9 @@ ghost use Rattle.plan_io.specs.Store.{Begun};
 ghost use Rattle.planning_state.specs.States.{State};
 ghost use Rattle.planner_core.specs.Lines.{first_planned, IsSessionOf};
 ghost use Rattle.planner_cli.specs.Ending.{EndsRun, IsReady, answering};
+ghost use Rattle.planner_cli.specs.Inputs.{IsScript};
 ghost use Rattle.planner_cli.specs.Keeping.{KeepsSink, KeepsStore};
-ghost use Rattle.planner_cli.specs.Words.{Check, FileNames, Files, Run, Sample};
+ghost use Rattle.cli_words.specs.Words.{Check, FileNames, Files, Run, Sample};
 
 use crate::answer::answer;
 use crate::certs::read_entries;
@@ -62,7 +63,7 @@ fn check_lent<S: Store, K: Sink, L>(
     requires session { (base : State) × IsSessionOf base planner.old }
     ensures leaves { (names : FileNames) (first : ℕ) → IsReady (S.shelf store.old) (Some (Files Run names)) planner.old script.now (steps.old - first) → first ≤ steps.old
         → Leaves (EndsRun (S.shelf store.old) (Some (Files (Check cert.now) names)) (steps.new - first) []) is_cut (K.written out.old) (K.written out.new) first steps.new result }
-    ensures begins { (names : FileNames) (first : Begun) → BeginsFiles (S.shelf store.old) (Some (Files Run names)) first (S.begun store.old) Status.Done
+    ensures begins { (names : FileNames) (first : Begun) → IsScript (S.shelf store.old) (Some (Files Run names)) script.now → BeginsFiles (S.shelf store.old) (Some (Files Run names)) first (S.begun store.old) Status.Done
         → BeginsFiles (S.shelf store.old) (Some (Files (Check cert.now) names)) first (S.begun store.new) result }
     ensures store { KeepsStore (S.shelf store.old) (S.shelf store.new) (S.faults store.old) (S.faults store.new) (result ≡ Status.ReadFault) }
     ensures sink { KeepsSink (K.limit out.old) (K.limit out.new) (K.faults out.old) (K.faults out.new) (result ≡ Status.WriteFault) }
@@ -97,7 +98,7 @@ fn check_ready<S: Store, K: Sink, L>(
     requires loaded { (game : Game) × (ready.planner ≡ first_planned game) }
     ensures leaves { (names : FileNames) (first : ℕ) → IsReady (S.shelf store.old) (Some (Files Run names)) ready.planner ready.script.items (steps.old - first) → first ≤ steps.old
         → Leaves (EndsRun (S.shelf store.old) (Some (Files (Check cert.now) names)) (steps.new - first) []) is_cut (K.written out.old) (K.written out.new) first steps.new result }
-    ensures begins { (names : FileNames) (first : Begun) → BeginsFiles (S.shelf store.old) (Some (Files Run names)) first (S.begun store.old) Status.Done
+    ensures begins { (names : FileNames) (first : Begun) → IsScript (S.shelf store.old) (Some (Files Run names)) ready.script.items → BeginsFiles (S.shelf store.old) (Some (Files Run names)) first (S.begun store.old) Status.Done
         → BeginsFiles (S.shelf store.old) (Some (Files (Check cert.now) names)) first (S.begun store.new) result }
     ensures store { KeepsStore (S.shelf store.old) (S.shelf store.new) (S.faults store.old) (S.faults store.new) (result ≡ Status.ReadFault) }
     ensures sink { KeepsSink (K.limit out.old) (K.limit out.new) (K.faults out.old) (K.faults out.new) (result ≡ Status.WriteFault) }

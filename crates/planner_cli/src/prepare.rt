@@ -6,7 +6,7 @@ ghost use Rattle.planner_cli.specs.Begun.{BeginsFiles, status_so_far};
 ghost use Rattle.planner_cli.specs.Early.{EndsEarly, EndsLoading};
 ghost use Rattle.planner_cli.specs.Ending.{IsReady};
 ghost use Rattle.planner_cli.specs.Keeping.{KeepsStore};
-ghost use Rattle.planner_cli.specs.Words.{Files, Run, Sample};
+ghost use Rattle.cli_words.specs.Words.{Files, Run, Sample};
 
 use crate::input::read_input;
 use crate::load::load;

@@ -5,7 +5,8 @@ use Rattle.script_runner.specs.Leaves.{Leaves}
 use Rattle.planner_cli.specs.Begun.{BeginsFiles}
 use Rattle.planner_cli.specs.Early.{is_cut}
 use Rattle.planner_cli.specs.Ending.{EndsRun, IsReady}
-use Rattle.planner_cli.specs.Words.{Check, FileNames, Files, Run}
+use Rattle.planner_cli.specs.Inputs.{IsScript}
+use Rattle.cli_words.specs.Words.{Check, FileNames, Files, Run}
 use Rattle.planner_cli.specs.declared.status.Status.TheVariants.{Done}
 use Rattle.planner_cli.proofs.CheckLemmas.{kept}
 use Rattle.planner_cli.proofs.EndingLemmas.{begins_early, begins_told, early_files, is_no_cut, leaves_told}
@@ -35,6 +36,7 @@ returns-in-Ok-clause-leaves g c =
 pub returns-in-Ok-clause-begins : goal.returns-in-Ok-clause-begins
 returns-in-Ok-clause-begins g c =
     let names : FileNames = record { dump = c.args.dump.now; script = c.args.script.now } in
-    kept (λ (shelf : Shelf). BeginsFiles shelf (Some (Files Run names)) (g.S.Store.begun c.args.store.now) (g.S.Store.begun c.read_files.new.store) Done)
+    kept (λ (shelf : Shelf). IsScript shelf (Some (Files Run names)) c.in-Ok.ready.script.items × BeginsFiles shelf (Some (Files Run names)) (g.S.Store.begun c.args.store.now) (g.S.Store.begun c.read_files.new.store) Done)
     (λ (shelf : Shelf). BeginsFiles shelf (Some (Files (Check c.args.cert.now) names)) (g.S.Store.begun c.args.store.now) (g.S.Store.begun c.check_ready.new.store) c.check_ready.result)
-    (g.S.Store.shelf c.args.store.now) (g.S.Store.shelf c.read_files.new.store) c.in-Ok.ensures.store.shelf c.in-Ok.ensures.begins (λ begins. c.check_ready.ensures.begins names (g.S.Store.begun c.args.store.now) begins)
+    (g.S.Store.shelf c.args.store.now) (g.S.Store.shelf c.read_files.new.store) c.in-Ok.ensures.store.shelf (c.in-Ok.ensures.ready.script_is, c.in-Ok.ensures.begins)
+    (λ both. c.check_ready.ensures.begins names (g.S.Store.begun c.args.store.now) both.0 both.1)

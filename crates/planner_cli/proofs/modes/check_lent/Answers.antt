@@ -3,7 +3,7 @@ use Rattle.std.specs.Prelude.{Some}
 use Rattle.certificate_file.specs.declared.CertEntry.{CertEntry}
 use Rattle.script_runner.specs.Lines.{lines_of}
 use Rattle.planner_cli.specs.Inputs.{IsCert}
-use Rattle.planner_cli.specs.Words.{Check, Files}
+use Rattle.cli_words.specs.Words.{Check, Files}
 use Rattle.planner_cli.proofs.CheckLemmas.{cert_begins_checked, cert_begins_early, cert_begins_many, cert_early, cert_no_cut}
 use Rattle.planner_cli.proofs.EndingLemmas.{leaves_checked, leaves_many, leaves_told}
 use Rattle.planner_cli.proofs.modes.check_lent.Goals as goal
@@ -18,7 +18,7 @@ returns-then-has_many_lines-clause-leaves g c = λ names first ready later.
     ready later (c.if-has_many_lines.ensures.many refl) refl c.tell_many_lines.ensures.tells)
 
 pub returns-then-has_many_lines-clause-begins : goal.returns-then-has_many_lines-clause-begins
-returns-then-has_many_lines-clause-begins g c = λ names first begins.
+returns-then-has_many_lines-clause-begins g c = λ names first given begins.
     rw c.status_of.ensures
     (cert_begins_many (g.S.Store.shelf c.args.store.now) c.args.cert.now names first (g.S.Store.begun c.args.store.now) (g.K.Sink.written c.args.out.now) (g.K.Sink.written c.tell_many_lines.new.out) c.tell_many_lines.result begins c.tell_many_lines.ensures.tells)
 
@@ -28,9 +28,9 @@ returns-in-Err-clause-leaves g c = λ names first ready later.
     (cert_early (g.S.Store.shelf c.args.store.now) c.args.cert.now names c.args.planner.now c.args.script.now _ c.in-Err.early ready (c.if-has_many_lines.ensures.few refl) c.in-Err.ensures.entries) later c.tell.ensures.tells
 
 pub returns-in-Err-clause-begins : goal.returns-in-Err-clause-begins
-returns-in-Err-clause-begins g c = λ names first begins.
+returns-in-Err-clause-begins g c = λ names first given begins.
     cert_begins_early (g.S.Store.shelf c.args.store.now) c.args.cert.now names first (g.S.Store.begun c.args.store.now) (g.S.Store.begun c.read_entries.new.store) c.in-Err.early c.tell.result c.tell.ensures.tells.text
-    begins c.in-Err.ensures.calls c.in-Err.ensures.named c.in-Err.ensures.entries c.tell.ensures.tells.told
+    (record { script = c.args.script.now; given = given; few = c.if-has_many_lines.ensures.few refl }) begins c.in-Err.ensures.calls c.in-Err.ensures.named c.in-Err.ensures.entries c.tell.ensures.tells.told
 
 pub returns-in-Ok-clause-leaves : goal.returns-in-Ok-clause-leaves
 returns-in-Ok-clause-leaves g c = λ names first ready later.
@@ -39,8 +39,8 @@ returns-in-Ok-clause-leaves g c = λ names first ready later.
     ready later (c.if-has_many_lines.ensures.few refl) (subst (λ (entries : List CertEntry). IsCert (g.S.Store.shelf c.args.store.now) c.args.cert.now entries) (sym c.as_slice.ensures) c.in-Ok.ensures.entries) refl c.check_lines.ensures.leaves)
 
 pub returns-in-Ok-clause-begins : goal.returns-in-Ok-clause-begins
-returns-in-Ok-clause-begins g c = λ names first begins.
+returns-in-Ok-clause-begins g c = λ names first given begins.
     let leaves = c.check_lines.ensures.leaves in
     rw c.status_of-in-Ok.ensures
     (cert_begins_checked (g.S.Store.shelf c.args.store.now) c.args.cert.now names first (g.S.Store.begun c.args.store.now) (g.S.Store.begun c.read_entries.new.store) _ c.args.planner.now c.args.script.now leaves.text leaves.work c.check_lines.result
-    begins c.in-Ok.ensures.calls c.in-Ok.ensures.named leaves.ends)
+    (record { script = c.args.script.now; given = given; few = c.if-has_many_lines.ensures.few refl }) begins c.in-Ok.ensures.calls c.in-Ok.ensures.named leaves.ends)

@@ -3,7 +3,8 @@ use Rattle.std.specs.Prelude.{Some}
 use Rattle.planning_state.specs.States.{first_state}
 use Rattle.planner_core.specs.Lines.{IsSessionOf}
 use Rattle.planner_cli.specs.Ending.{IsReady}
-use Rattle.planner_cli.specs.Words.{Files, Run}
+use Rattle.planner_cli.specs.Inputs.{IsScript}
+use Rattle.cli_words.specs.Words.{Files, Run}
 use Rattle.planner_cli.proofs.modes.check_ready.Goals as goal
 
 pub check_lent-requires-clause-session : goal.check_lent-requires-clause-session
@@ -16,7 +17,8 @@ returns-clause-leaves g c = λ names first ready later.
     c.check_lent.ensures.leaves names first (subst (λ (bytes : List ℕ). IsReady (g.S.Store.shelf c.args.store.now) (Some (Files Run names)) c.args.ready.planner bytes (c.args.steps.now - first)) (sym c.deref.ensures.value) ready) later
 
 pub returns-clause-begins : goal.returns-clause-begins
-returns-clause-begins g c = λ names first begins. c.check_lent.ensures.begins names first begins
+returns-clause-begins g c = λ names first given begins.
+    c.check_lent.ensures.begins names first (subst (λ (bytes : List ℕ). IsScript (g.S.Store.shelf c.args.store.now) (Some (Files Run names)) bytes) (sym c.deref.ensures.value) given) begins
 
 pub returns-clause-store : goal.returns-clause-store
 returns-clause-store g c = c.check_lent.ensures.store

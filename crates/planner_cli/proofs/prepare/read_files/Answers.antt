@@ -2,7 +2,7 @@ use Rattle.std.proofs.Common.{arith}
 use Rattle.std.specs.Prelude.{Some}
 use Rattle.planner_cli.specs.Early.{EndsEarly}
 use Rattle.planner_cli.specs.Ending.{IsReady}
-use Rattle.planner_cli.specs.Words.{FileNames, Files, Run}
+use Rattle.cli_words.specs.Words.{FileNames, Files, Run}
 use Rattle.planner_cli.specs.declared.prepare.Ready.{Ready}
 use Rattle.planner_cli.specs.declared.status.Status.{Status}
 use Rattle.planner_cli.proofs.PrepareLemmas.{base_begins, base_early, based, dump_begins, dump_early, ends_by, script_begins, script_named, script_read, script_ready}

@@ -1,19 +1,9 @@
-//! One run over files in memory, whose calls may be slow and may fail.
+//! Files and a sink in memory, whose calls may be slow and may fail.
 ghost use Rattle.std.specs.Prelude.{◌≡◌, IfOk, IfSome};
 
-use crate::pieces::is_front;
-use plan_base::{NoMemory, Steps, Text};
+use plan_base::{NoMemory, Text};
 use plan_io::{MemSink, MemStore, Store};
-use planner_cli::run;
 use std::alloc::Global;
-
-/// A dump and a script, and what a run over them ends with and writes where no call fails.
-pub struct Case {
-    pub dump: &'static str,
-    pub script: &'static str,
-    pub exit: u8,
-    pub report: &'static str,
-}
 
 /// How the calls go.
 #[derive(Clone, Copy)]
@@ -26,12 +16,22 @@ pub struct Calls {
     pub failing_put: u32,
 }
 
-#[derive(Drop)]
-struct Test;
+impl Calls {
+    /// Quick calls, of which one of the store and one of the sink fail, by their numbers; 0 for none.
+    pub fn failing(failing_read: u32, failing_put: u32) -> Calls {
+        Calls {
+            most: 0,
+            failing_read,
+            failing_put,
+        }
+    }
+}
 
-const WORDS: [&str; 4] = ["p", "run", "d", "s"];
+/// The words of a run over the files `d` and `s`.
+pub const WORDS: [&str; 4] = ["p", "run", "d", "s"];
 
-fn texts_in(alloc: Global, words: &[&str]) -> Result<Vec<Text>, NoMemory> {
+/// Words as texts.
+pub fn texts_in(alloc: Global, words: &[&str]) -> Result<Vec<Text>, NoMemory> {
     let mut texts = Vec::new(alloc);
     for word in words {
         let text = Text::copy(alloc, word)?;
@@ -70,7 +70,8 @@ fn make_store(
     }
 }
 
-fn store_of(alloc: Global, files: &[(&str, &[u8])], calls: Calls) -> Option<MemStore>
+/// A store of these files.
+pub fn store_of(alloc: Global, files: &[(&str, &[u8])], calls: Calls) -> Option<MemStore>
     ensures { IfSome result (λ store. (⟦<MemStore as Store>⟧.begun store).calls ≡ 0) }
 {
     let Ok(files) = files_in(alloc, files) else {
@@ -93,46 +94,13 @@ fn make_sink(alloc: Global, fails: Vec<u32>, most: u32) -> Result<MemSink, NoMem
     }
 }
 
-fn sink_of(alloc: Global, calls: Calls) -> Option<MemSink> {
+/// A sink with room for any report of these tests.
+pub fn sink_of(alloc: Global, calls: Calls) -> Option<MemSink> {
     let Ok(fails) = vec![in alloc; calls.failing_put] else {
         return None;
     };
     match make_sink(alloc, fails, calls.most) {
         Ok(sink) => Some(sink),
         Err(_) => None,
-    }
-}
-
-fn exit_of(alloc: Global, words: &[Text], store: &mut MemStore, out: &mut MemSink) -> u8
-    requires { (⟦<MemStore as Store>⟧.begun store.old).calls ≡ 0 }
-{
-    let mut steps = Steps::new(Test);
-    let outcome = run(alloc, words, store, out, &mut steps);
-    outcome.status.exit()
-}
-
-// How a run ends, and what it writes.
-fn ending(alloc: Global, files: &[(&str, &[u8])], calls: Calls) -> Option<(u8, MemSink)> {
-    let Ok(words) = texts_in(alloc, &WORDS) else {
-        return None;
-    };
-    let Some(mut store) = store_of(alloc, files, calls) else {
-        return None;
-    };
-    let Some(mut out) = sink_of(alloc, calls) else {
-        return None;
-    };
-    let exit = exit_of(alloc, &words, &mut store, &mut out);
-    Some((exit, out))
-}
-
-/// Whether a run ends with this status, and writes its report up to this rest.
-pub fn ends_before(alloc: Global, case: &Case, calls: Calls, exit: u8, rest: &[u8]) -> bool {
-    let files = [("d", case.dump.as_bytes()), ("s", case.script.as_bytes())];
-    match ending(alloc, &files, calls) {
-        Some((ended, out)) => {
-            ended == exit && is_front(out.written(), rest, case.report.as_bytes())
-        }
-        None => false,
     }
 }

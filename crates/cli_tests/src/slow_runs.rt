@@ -1,8 +1,9 @@
 //! Runs whose calls are slow, and runs one of whose calls fails.
 
+use crate::memory::Calls;
 use crate::pieces::behind_piece;
 use crate::texts::{DUMP, EDITS, EDITS_REPORT, TABLES, TABLES_REPORT};
-use crate::trials::{Calls, Case, ends_before};
+use crate::trials::{Case, ends_before};
 use std::alloc::Global;
 use std::test::Fail;
 

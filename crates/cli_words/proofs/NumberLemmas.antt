@@ -7,7 +7,7 @@ use Rattle.std.proofs.lemmas.Bool.Decides.{nat_tests}
 use Rattle.fractions.specs.Split.{is_whole}
 use Rattle.fractions.proofs.Grammar.{whole_sound, whole_found}
 use Rattle.script_reader.specs.Fields.{WritesCount}
-use Rattle.planner_cli.specs.Words.{are_digits, number_in}
+use Rattle.cli_words.specs.Words.{are_digits, number_in}
 
 both : (a b : Bool) → (a && b) ≡ true → (a ≡ true) × (b ≡ true)
 both true b e = (refl, e)

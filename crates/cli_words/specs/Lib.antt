@@ -1,0 +1,3 @@
+pub mod AskedWords
+pub mod Command
+pub mod Words
