@@ -1,5 +1,5 @@
 -- An accepted edit leaves all of a game but what it names.
-use Rattle.std.proofs.Common.{◌≡◌, ◌≢◌, ◌∙◌, ℕ, zero, suc, Bool, true, false, List, [], ◌∷◌, refl, ap, sym, subst, arith}
+use Rattle.std.proofs.Common.{◌≡◌, ◌≢◌, ◌∙◌, ℕ, zero, suc, Bool, true, false, List, [], ◌∷◌, refl, ap, sym, arith}
 use Rattle.std.specs.Prelude.{◌==◌, ◌||◌, ◌&&◌, Ok, slice_get}
 use Rattle.std.specs.List.{list_any}
 use Rattle.game_types.specs.Making.{expected_amount, gives}

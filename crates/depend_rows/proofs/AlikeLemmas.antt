@@ -1,5 +1,5 @@
 -- What edits leave of a game, and that an index of it, with what the edits name noted, is an index after them.
-use Rattle.std.proofs.Common.{◌≡◌, ◌≢◌, ◌∙◌, ◌<◌, ◌≤◌, ◌+◌, ◌-◌, ℕ, zero, suc, Bool, true, false, List, [], ◌∷◌, ◌++◌, Vec, length, map, refl, ap, sym, subst, arith, ⊎_elim}
+use Rattle.std.proofs.Common.{◌≡◌, ◌∙◌, ◌<◌, ◌≤◌, ◌+◌, ◌-◌, ℕ, zero, suc, Bool, true, false, List, [], ◌∷◌, ◌++◌, Vec, length, map, refl, ap, sym, subst, arith}
 use Rattle.std.specs.Prelude.{◌==◌, ◌||◌, ◌&&◌, Option, Some, None, option_map, slice_get, nat_lt, is_none, Result, Ok, Err, OnOk}
 use Rattle.std.specs.Global.{Global}
 use Rattle.std.specs.List.{list_any}
@@ -26,14 +26,13 @@ use Rattle.game_types.specs.declared.recipes.Source.{Source}
 use Rattle.game_types.specs.declared.research.Character.{Character}
 use Rattle.game_types.specs.declared.research.Tech.{Tech}
 use Rattle.data_edit.specs.Names.{KeepsGame}
-use Rattle.data_edit.specs.declared.books.Book.{Book}
 use Rattle.data_edit.specs.declared.edits.Edit.{Edit}
 use Rattle.depend_rows.specs.Alike.{AlikeBut, is_of_product, is_of_unlock, passes}
 use Rattle.depend_rows.specs.Indexed.{IsIndex}
 use Rattle.depend_rows.specs.Machines.{burning_fluids, is_machine, placers}
 use Rattle.depend_rows.specs.Kinds.{crafts_all_of, crafts_alone, has_category, is_drill_of, is_fuel_of, is_lab, is_recipe, takes}
 use Rattle.depend_rows.specs.Coolest.{AreSorted}
-use Rattle.depend_rows.specs.Lists.{has_node, is_among, list_at, AreLists, AreMarks, HoldThose, Rise, Widen}
+use Rattle.depend_rows.specs.Lists.{has_node, list_at, AreLists, AreMarks, HoldThose, Widen}
 use Rattle.depend_rows.specs.Words.{AreWords}
 use Rattle.depend_rows.specs.Goods.{first_machine, first_recipe, first_source, first_tech, good_count, leavers, putters, puts_out, variants}
 use Rattle.depend_rows.specs.Members.{those}

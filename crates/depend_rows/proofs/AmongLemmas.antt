@@ -1,11 +1,11 @@
 -- Those that pass a test, from nodes among which they are.
-use Rattle.std.proofs.Common.{◌≡◌, ◌∙◌, ◌<◌, ◌≤◌, ◌+◌, ◌-◌, ℕ, zero, suc, Bool, true, false, List, [], ◌∷◌, Vec, length, get_or, refl, ap, sym, subst, arith}
-use Rattle.std.specs.Prelude.{◌==◌, ◌||◌, ◌&&◌, filter, if◌then◌else◌, Option, Some, None, slice_get}
+use Rattle.std.proofs.Common.{◌≡◌, ◌∙◌, ◌<◌, ◌≤◌, ◌+◌, ℕ, zero, suc, Bool, true, false, List, [], ◌∷◌, Vec, length, get_or, refl, ap, sym, subst, arith}
+use Rattle.std.specs.Prelude.{◌==◌, ◌||◌, ◌&&◌, filter, if◌then◌else◌, slice_get}
 use Rattle.std.specs.Global.{Global}
 use Rattle.std.proofs.lemmas.Option.{slice_get-get_or, slice_get_past}
 use Rattle.plan_base.specs.declared.ids.NodeId.{NodeId}
 use Rattle.depend_rows.specs.Alike.{passes}
-use Rattle.depend_rows.specs.Lists.{has_node, is_among, list_at, AreLists, HoldThose, Rise}
+use Rattle.depend_rows.specs.Lists.{has_node, AreLists, HoldThose, Rise}
 use Rattle.depend_rows.specs.Members.{node, those}
 use Rattle.depend_rows.proofs.CommonLemmas.{filter_rises, has_filtered}
 use Rattle.depend_rows.proofs.NumbersLemmas.{rising_above}

@@ -1,12 +1,12 @@
 -- A base is what has variants.
-use Rattle.std.proofs.Common.{◌≡◌, ◌∙◌, ◌<◌, ◌+◌, ℕ, Bool, true, false, List, [], ◌∷◌, length, refl, sym, ap, arith}
+use Rattle.std.proofs.Common.{◌≡◌, ◌∙◌, ◌<◌, ◌+◌, ℕ, Bool, true, false, List, [], ◌∷◌, length, refl, ap, arith}
 use Rattle.std.specs.Prelude.{nat_lt, ◌||◌, if◌then◌else◌}
 use Rattle.std.specs.List.{list_any}
 use Rattle.std.proofs.lemmas.Bool.Decides.{nat_tests}
 use Rattle.game_types.specs.Temperatures.{is_base, is_good}
 use Rattle.game_types.specs.declared.games.Game.{Game}
 use Rattle.depend_rows.specs.Members.{node, those}
-use Rattle.depend_rows.specs.Lists.{AreLists, list_at}
+use Rattle.depend_rows.specs.Lists.{list_at}
 use Rattle.depend_rows.specs.Goods.{good_count, variants}
 use Rattle.depend_rows.specs.Indexed.{IsIndex}
 use Rattle.depend_rows.specs.declared.index.Index.{Index}

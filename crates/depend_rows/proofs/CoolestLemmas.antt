@@ -1,11 +1,10 @@
 -- Nodes of fluids, the coolest first, and those of them that are within bounds.
 use Rattle.std.proofs.Common.{◌≡◌, ◌∙◌, ◌<◌, ◌≤◌, ◌+◌, ◌-◌, ◌++◌, ℕ, zero, suc, Bool, true, false, List, [], ◌∷◌, Vec, length, map, drop, get_or, refl, ap, sym, subst, arith, append_assoc, append-nil}
-use Rattle.std.specs.Prelude.{◌==◌, ◌&&◌, not, filter, if◌then◌else◌, nat_lt, int_lt, pos, ◌*ℤ◌, ℤ, Option, Some, None, slice_get, cond}
+use Rattle.std.specs.Prelude.{◌==◌, ◌&&◌, not, filter, if◌then◌else◌, nat_lt, int_lt, pos, ◌*ℤ◌, Option, Some, None, slice_get, cond}
 use Rattle.std.specs.Global.{Global}
-use Rattle.std.specs.List.{list_any}
 use Rattle.std.specs.List.Sorted.{IsPermutation, IsSortedBy, IsPartitionedBy, IsPartitionPoint}
 use Rattle.std.specs.Cmp.{IsStrictWeakOrder}
-use Rattle.std.specs.Ordering.{is_lt, int_cmp}
+use Rattle.std.specs.Ordering.{is_lt}
 use Rattle.std.specs.declared.cmp.Ordering.TheVariants.{Less, Equal, Greater}
 use Rattle.std.proofs.lemmas.Bool.Decides.{nat_tests}
 use Rattle.std.proofs.lemmas.List.Sorted.{IsPermutation-map, list_any-IsPermutation, ranks_by, sorted_far}
@@ -17,7 +16,7 @@ use Rattle.game_types.specs.declared.games.Game.{Game}
 use Rattle.game_types.specs.declared.goods.Fluid.{Fluid}
 use Rattle.depend_rows.specs.Alike.{passes}
 use Rattle.depend_rows.specs.Coolest.{AreCoolestFirst, AreSorted, IsCoolestFirst, temperature_in, temperature_of}
-use Rattle.depend_rows.specs.Lists.{contents, has_node, is_among, list_at, number_at, HoldInOrder}
+use Rattle.depend_rows.specs.Lists.{has_node, is_among, list_at, number_at, HoldInOrder}
 use Rattle.depend_rows.specs.Indexed.{IsIndex}
 use Rattle.depend_rows.specs.Goods.{good_count, variants}
 use Rattle.depend_rows.specs.Members.{node, those}

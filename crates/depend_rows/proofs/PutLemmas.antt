@@ -1,10 +1,10 @@
 -- A node put at its place in a list that rises, and a list put at its place among lists.
-use Rattle.std.proofs.Common.{◌≡◌, ◌≢◌, ◌∙◌, ◌<◌, ◌≤◌, ◌+◌, ◌++◌, ℕ, zero, suc, Bool, true, false, List, [], ◌∷◌, Vec, length, set, get_or, refl, ap, sym, subst, arith, get_or-set_same, get_or-set_other}
+use Rattle.std.proofs.Common.{◌≡◌, ◌≢◌, ◌∙◌, ◌<◌, ◌≤◌, ◌+◌, ℕ, zero, suc, Bool, true, false, List, [], ◌∷◌, Vec, length, set, get_or, refl, ap, sym, subst, arith, get_or-set_same, get_or-set_other}
 use Rattle.std.specs.Prelude.{◌==◌, ◌||◌, insert}
 use Rattle.std.specs.Global.{Global}
 use Rattle.std.proofs.lemmas.List.{length-set, map-set}
 use Rattle.plan_base.specs.declared.ids.NodeId.{NodeId}
-use Rattle.depend_rows.specs.Lists.{contents, has_node, is_among, list_at, number_at, IsPlaceOf, Rise, Widen}
+use Rattle.depend_rows.specs.Lists.{contents, has_node, list_at, number_at, IsPlaceOf, Rise, Widen}
 use Rattle.depend_rows.proofs.CommonLemmas.{has_one}
 use Rattle.depend_rows.proofs.Listing.{list_is}
 use Rattle.depend_rows.proofs.NumbersLemmas.{Rising, rising}

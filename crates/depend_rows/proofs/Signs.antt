@@ -1,12 +1,11 @@
 -- When a product of fractions is above 0.
-use Rattle.std.specs.Prelude.{◌≡◌, ◌≢◌, ℤ, pos, negsuc, ◌<ℤ◌, Bool, true, false}
+use Rattle.std.specs.Prelude.{◌≡◌, ◌≢◌, pos, Bool, true, false}
 use Rattle.std.proofs.Common.{◌∙◌, ap, sym, subst, refl, arith, ⊎_elim}
 use Rattle.std.proofs.lemmas.Int.{ints}
-use Rattle.std.proofs.lemmas.Bool.Decides.{nat_tests}
 use Rattle.fractions.specs.Fraction.{Fraction, ◌+ʳ◌, ◌*ʳ◌, ◌/ʳ◌, ◌<ʳ◌, ◌≤ʳ◌, inverse, negated, zero_fraction, one_fraction, whole_fraction}
 use Rattle.fractions.specs.Fracs.{atom, ◌⊠◌, opposite, same_amount}
 use Rattle.fractions.proofs.Laws.{zero-+ʳ, zero-*ʳ, *ʳ-zero, +ʳ-negated, +ʳ_comm, *ʳ_comm, *ʳ-inverse}
-use Rattle.fractions.proofs.Order.{num_of_positive, positive_frac, positive-*ʳ, ≤ʳ_or_<ʳ, ≤ʳ_refl, <ʳ-≤ʳ, <ʳ_not_≤ʳ, *ʳ-≤ʳ, +ʳ-<ʳ}
+use Rattle.fractions.proofs.Order.{positive_frac, positive-*ʳ, ≤ʳ_or_<ʳ, ≤ʳ_refl, <ʳ-≤ʳ, <ʳ_not_≤ʳ, *ʳ-≤ʳ, +ʳ-<ʳ}
 use Rattle.game_types.specs.Making.{expected_amount}
 use Rattle.fractions.specs.Signs.{is_positive}
 use Rattle.game_types.specs.declared.recipes.Product.{Product}

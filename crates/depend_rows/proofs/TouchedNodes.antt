@@ -1,5 +1,5 @@
 -- The nodes that several edits touch.
-use Rattle.std.proofs.Common.{◌≡◌, ◌∙◌, ◌<◌, ◌≤◌, ◌+◌, ◌++◌, ℕ, zero, suc, Bool, true, false, List, [], ◌∷◌, length, map, get_or, drop, refl, ap, sym, subst, arith}
+use Rattle.std.proofs.Common.{◌≡◌, ◌∙◌, ◌<◌, ◌≤◌, ◌+◌, ◌++◌, ℕ, zero, suc, Bool, true, false, List, [], ◌∷◌, length, map, get_or, drop, refl, ap, sym, arith}
 use Rattle.std.specs.Prelude.{◌≢◌, ◌==◌, ◌||◌, All, AllPairs, filter, if◌then◌else◌, nat_lt}
 use Rattle.std.specs.List.{list_any, range_with_len}
 use Rattle.std.proofs.lemmas.Bool.Decides.{nat_tests}
@@ -11,7 +11,7 @@ use Rattle.plan_base.specs.declared.ids.NodeId.{NodeId}
 use Rattle.plan_base.specs.declared.shape.Shape.{Shape}
 use Rattle.graph_store.specs.Rows.{has_node}
 use Rattle.data_edit.specs.declared.edits.Edit.{Edit}
-use Rattle.depend_rows.specs.Members.{named, node}
+use Rattle.depend_rows.specs.Members.{node}
 use Rattle.depend_rows.specs.Touched.{numbers_below, touched_by, touched_by_all, touched_numbers}
 
 -- ---- nodes of a stretch of numbers that pass a test

@@ -1,23 +1,21 @@
 -- Lists of nodes as words.
-use Rattle.std.proofs.Common.{◌≡◌, ◌≢◌, ◌∙◌, ◌<◌, ◌≤◌, ◌+◌, ◌-◌, ◌*◌, ◌/◌, ◌%◌, ◌^◌, ◌++◌, ℕ, zero, suc, Bool, true, false, List, [], ◌∷◌, Vec, length, map, drop, set, get_or, refl, ap, sym, subst, arith, append_assoc, append-nil, get_or-set_same, get_or-set_other}
+use Rattle.std.proofs.Common.{◌≡◌, ◌≢◌, ◌∙◌, ◌<◌, ◌≤◌, ◌+◌, ◌-◌, ◌*◌, ◌/◌, ◌%◌, ◌^◌, ◌++◌, ℕ, zero, suc, Bool, true, false, List, [], ◌∷◌, Vec, length, drop, set, get_or, refl, ap, sym, subst, arith, append_assoc, append-nil, get_or-set_same, get_or-set_other}
 use Rattle.std.specs.Prelude.{◌==◌, ◌||◌, ◌&&◌, if◌then◌else◌, nat_lt, max, min, replicate, All}
 use Rattle.std.specs.Global.{Global}
 use Rattle.std.specs.Int.{bit_at}
 use Rattle.std.specs.Int.Bits.{bit_and, bit_or}
 use Rattle.std.specs.List.{list_all, range_with_len}
-use Rattle.std.specs.List.Sorted.{IsStrictlyIncreasing}
 use Rattle.std.proofs.lemmas.Bool.Decides.{nat_tests}
 use Rattle.std.proofs.lemmas.List.Elements.{All-cons, All-head, All-nil, All-tail}
 use Rattle.std.proofs.lemmas.List.FromFn.{get_or-range_with_len, length-range_with_len}
 use Rattle.std.proofs.lemmas.Option.{slice_get-get_or}
-use Rattle.std.proofs.lemmas.Nat.Bits.{bit_at-lt, bit_at-pow_other, bit_at-pow_same, bit_at-zero, bit_at_and, bit_at_or, shr_and_one}
+use Rattle.std.proofs.lemmas.Nat.Bits.{bit_at-lt, bit_at-pow_other, bit_at-pow_same, bit_at-zero, bit_at_and, bit_at_or}
 use Rattle.plan_base.specs.declared.ids.NodeId.{NodeId}
 use Rattle.depend_rows.specs.Alike.{passes}
 use Rattle.depend_rows.specs.Lists.{has_node, is_in_all, list_at, AreCommon, Rise}
 use Rattle.depend_rows.specs.Members.{node, those}
 use Rattle.depend_rows.specs.Words.{bit_in, has_bit, has_words, in_word, in_words, words_at, AreWords, IsWords}
 use Rattle.depend_rows.proofs.AmongLemmas.{at_those, below_those, past_those}
-use Rattle.depend_rows.proofs.KeyLemmas.{is_among-append}
 use Rattle.depend_rows.proofs.NumbersLemmas.{Rising}
 use Rattle.depend_rows.proofs.OrderLemmas.{increasing, numbers_of, rising_lower, those_rise}
 use Rattle.depend_rows.proofs.Walks.{next, drop_all}

@@ -4,8 +4,6 @@ use Rattle.std.specs.Prelude.{ℕ, ◌≡◌, ◌==◌, ◌&&◌, Bool, false, L
 use Rattle.std.specs.List.{list_any}
 use Rattle.game_types.specs.Making.{gives}
 use Rattle.game_types.specs.declared.games.Game.{Game}
-use Rattle.game_types.specs.declared.recipes.Recipe.{Recipe}
-use Rattle.game_types.specs.declared.research.Tech.{Tech}
 use Rattle.data_edit.specs.Names.{KeepsGame}
 use Rattle.data_edit.specs.declared.edits.Edit.{Edit}
 use Rattle.data_edit.specs.declared.edits.Edit.TheVariants.{SetIngredient, DropIngredient, SetProduct, DropProduct, SetUnlock, SetTime, SetEnabled, Forbid, Permit, Grant, Revoke}

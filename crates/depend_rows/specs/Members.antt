@@ -1,5 +1,5 @@
 -- Lists of nodes, in node order, and the groups that they are the members of.
-use Rattle.std.specs.Prelude.{ℕ, ◌+◌, ◌==◌, Bool, true, false, List, [], ◌∷◌, Option, Some, None, map, filter, if◌then◌else◌}
+use Rattle.std.specs.Prelude.{ℕ, ◌+◌, ◌==◌, Bool, true, false, List, [], ◌∷◌, map, filter, if◌then◌else◌}
 use Rattle.std.specs.List.{list_any, range_with_len}
 use Rattle.plan_base.specs.Shape.{character_node}
 use Rattle.plan_base.specs.declared.ids.NodeId.{NodeId}

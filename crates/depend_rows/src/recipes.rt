@@ -300,10 +300,8 @@ pub fn recipe_row(
     requires recipe { IsSoundRecipe game.now recipe.now }
     ensures { IfOk result (λ row. row ≡ recipe_row game.now number recipe.now) }
 {
-    let parts = all_of(ingredients(alloc, game, recipe)?);
-    let makers = any_of(crafters(alloc, game, index, number, recipe)?);
     let mut groups = Vec::new(alloc);
-    groups.push(parts)?;
+    groups.push(all_of(ingredients(alloc, game, recipe)?))?;
     push_bounded(
         alloc,
         game,
@@ -311,7 +309,7 @@ pub fn recipe_row(
         recipe.ingredients.as_slice(),
         &mut groups,
     )?;
-    groups.push(makers)?;
+    groups.push(any_of(crafters(alloc, game, index, number, recipe)?))?;
     if !recipe.enabled {
         groups.push(any_of(techs_unlocking(alloc, game, index, number)?))?;
     }

@@ -131,9 +131,44 @@ fn add_members(count: usize, row: &Row, limit: usize) -> Option<usize>
     Some(sum)
 }
 
-// The row of every node, in order, and the index that they were put together from, unless they have more members than a limit in all.
-// No more memory is taken than for so many members and one row.
+// The row of every node, in order, by the index of the game, unless they have more members than a limit in all. No more memory is
+// taken than for so many members and one row.
 fn rows_up_to<L>(
+    alloc: Global,
+    book: &Book,
+    index: &Index,
+    limit: usize,
+    steps: &mut Steps<L>,
+) -> Result<Vec<Row>, RowsFault>
+    requires sound { IsSoundBook book.now }
+    requires index { IsIndex book.now.game index.now }
+    ensures rows { MatchResult result
+        (λ rows. (rows.items ≡ rows_of book.now.game) × (member_count (rows_of book.now.game) ≤ limit))
+        (λ fault. fault ≡ RowsFault.TooMany → limit < member_count (rows_of book.now.game)) }
+    ensures steps { IfOk result (λ _. steps.new ≡ min (steps.old + node_count (shape_of book.now.game)) (2 ^ 64 - 1)) }
+    ensures later { steps.old ≤ steps.new }
+{
+    let nodes = book.game.shape().len();
+    let mut rows = Vec::new(alloc);
+    let mut members = 0;
+    for node in 0..nodes {
+        let Ok(row) = row_at(alloc, &book.game, index, node) else {
+            return Err(RowsFault::NoMemory);
+        };
+        steps.tick();
+        match add_members(members, &row, limit) {
+            Some(sum) => members = sum,
+            None => return Err(RowsFault::TooMany),
+        }
+        let Ok(()) = rows.push(row) else {
+            return Err(RowsFault::NoMemory);
+        };
+    }
+    Ok(rows)
+}
+
+// The same, and the index of the game.
+fn rows_and_index<L>(
     alloc: Global,
     book: &Book,
     limit: usize,
@@ -148,26 +183,13 @@ fn rows_up_to<L>(
     ensures steps { IfOk result (λ _. steps.new ≡ min (steps.old + node_count (shape_of book.now.game)) (2 ^ 64 - 1)) }
     ensures later { steps.old ≤ steps.new }
 {
-    let nodes = book.game.shape().len();
     let Ok(index) = Index::make(alloc, &book.game) else {
         return Err(RowsFault::NoMemory);
     };
-    let mut rows = Vec::new(alloc);
-    let mut members = 0;
-    for node in 0..nodes {
-        let Ok(row) = row_at(alloc, &book.game, &index, node) else {
-            return Err(RowsFault::NoMemory);
-        };
-        steps.tick();
-        match add_members(members, &row, limit) {
-            Some(sum) => members = sum,
-            None => return Err(RowsFault::TooMany),
-        }
-        let Ok(()) = rows.push(row) else {
-            return Err(RowsFault::NoMemory);
-        };
+    match rows_up_to(alloc, book, &index, limit, steps) {
+        Ok(rows) => Ok((rows, index)),
+        Err(fault) => Err(fault),
     }
-    Ok((rows, index))
 }
 
 /// The row of every node, in order. Each row is one step.
@@ -182,7 +204,7 @@ pub fn rows_all<L>(alloc: Global, book: &Book, steps: &mut Steps<L>) -> Result<V
     ensures steps { IfOk result (λ _. steps.new ≡ min (steps.old + node_count (shape_of book.now.game)) (2 ^ 64 - 1)) }
     ensures later { steps.old ≤ steps.new }
 {
-    match rows_up_to(alloc, book, usize::MAX, steps) {
+    match rows_and_index(alloc, book, usize::MAX, steps) {
         Ok((rows, _)) => Ok(rows),
         Err(_) => Err(NoMemory),
     }
@@ -207,7 +229,7 @@ pub fn rows_within<L>(
     ensures steps { IfOk result (λ _. steps.new ≡ min (steps.old + node_count (shape_of book.now.game)) (2 ^ 64 - 1)) }
     ensures later { steps.old ≤ steps.new }
 {
-    rows_up_to(alloc, book, MEMBER_LIMIT, steps)
+    rows_and_index(alloc, book, MEMBER_LIMIT, steps)
 }
 
 /// The row of a node, by the index of its game. It is one step.

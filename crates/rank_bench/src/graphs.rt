@@ -2,9 +2,10 @@
 ghost use Rattle.std.specs.Prelude.{◌≡◌, ◌<◌, ◌≤◌, ◌*◌, ◌^◌, true, All, length, IfOk};
 ghost use Rattle.graph_store.specs.Rows.{AreMembersBelow, HasMembersBelow};
 
-use graph_store::{Group, Row};
+use graph_store::{Graph, Group, Row};
 use plan_base::{Items, NodeId};
 use std::alloc::{AllocError, Global};
+use std::io;
 
 /// Numbers that look random, the same for the same seed.
 #[derive(Drop)]
@@ -40,7 +41,7 @@ fn is_group_below(count: u32, group: &Group) -> bool
 }
 
 /// Whether each member of the row is one of the first nodes.
-pub fn is_row_below(count: u32, row: &Row) -> bool
+fn is_row_below(count: u32, row: &Row) -> bool
     ensures { result ≡ true → HasMembersBelow count row.now }
 {
     for group in row.groups.as_slice() {
@@ -52,7 +53,7 @@ pub fn is_row_below(count: u32, row: &Row) -> bool
 }
 
 /// Whether each member of each row is one of the first nodes.
-pub fn are_rows_below(count: u32, rows: &[Row]) -> bool
+fn are_rows_below(count: u32, rows: &[Row]) -> bool
     ensures { result ≡ true → AreMembersBelow count rows.now }
 {
     for row in rows {
@@ -64,7 +65,7 @@ pub fn are_rows_below(count: u32, rows: &[Row]) -> bool
 }
 
 /// A group of members among the first nodes.
-pub fn group(
+fn group(
     alloc: Global,
     numbers: &mut Numbers,
     all: bool,
@@ -139,4 +140,18 @@ fn one_group(alloc: Global, all: bool, members: Vec<NodeId>) -> Result<Row, Allo
     Ok(Row {
         groups: Items::from_vec(groups),
     })
+}
+
+/// The error where memory could not be had.
+pub fn no_memory() -> io::Error {
+    io::Error::from(AllocError)
+}
+
+/// The graph of rows; none where it could not be made.
+pub fn graph_of(alloc: Global, rows: Vec<Row>) -> Option<Graph> {
+    if rows.len() < 4_000_000_000 && are_rows_below(rows.len() as u32, &rows) {
+        Graph::make(alloc, rows).ok()
+    } else {
+        None
+    }
 }

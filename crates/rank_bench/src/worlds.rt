@@ -1,5 +1,5 @@
 //! Bars and permits of nodes, in all worlds.
-ghost use Rattle.std.specs.Prelude.{◌≡◌, ◌<◌, None, length};
+ghost use Rattle.std.specs.Prelude.{◌≡◌, ◌<◌, None, length, IfSome};
 ghost use Rattle.reach_ranks.specs.Rounds.{world, IsWhole};
 ghost use Rattle.milestone_masks.specs.Worlds.{AreWorlds};
 
@@ -13,6 +13,17 @@ use std::alloc::Global;
 /// Marks the counter of the bench.
 #[derive(Drop)]
 pub struct Bench;
+
+/// The worlds of a graph with these marks; no node is a milestone.
+pub fn worlds_of(alloc: Global, graph: &Graph, barred: &[bool], granted: &[bool]) -> Option<Worlds>
+    requires { IsWhole (world graph.now barred.now granted.now None) }
+    ensures { IfSome result (λ worlds. AreWorlds graph.now barred.now granted.now worlds) }
+{
+    let _count = <Graph as Rows<Bench>>::len(graph);
+    let mut steps = Steps::new(Bench);
+    let base = ranks_afresh(alloc, graph, barred, granted, None, &mut steps).ok()?;
+    Worlds::make(alloc, base).ok()
+}
 
 /// Bars a node or permits it again, and repairs all worlds.
 pub fn toggle(
@@ -146,9 +157,8 @@ fn pairs_over(
     requires { IsWhole (world graph.now barred.old granted.now None) }
 {
     let count = <Graph as Rows<Bench>>::len(graph);
+    let mut worlds = worlds_of(alloc, graph, barred, granted)?;
     let mut steps = Steps::new(Bench);
-    let base = ranks_afresh(alloc, graph, barred, granted, None, &mut steps).ok()?;
-    let mut worlds = Worlds::make(alloc, base).ok()?;
     add_worlds(
         alloc,
         &mut worlds,
@@ -216,9 +226,7 @@ fn bars_over(
     requires { IsWhole (world graph.now barred.old granted.now None) }
 {
     let count = <Graph as Rows<Bench>>::len(graph);
-    let mut steps = Steps::new(Bench);
-    let base = ranks_afresh(alloc, graph, barred, granted, None, &mut steps).ok()?;
-    let mut worlds = Worlds::make(alloc, base).ok()?;
+    let mut worlds = worlds_of(alloc, graph, barred, granted)?;
     if count == 0 {
         return None;
     }

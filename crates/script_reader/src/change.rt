@@ -118,11 +118,11 @@ impl Object {
     pub fn copy(&self, alloc: Global) -> Result<Object, NoMemory>
         ensures { IfOk result (λ copy. copy ≡ self.now) }
     {
-        let name = copy_text(alloc, &self.name)?;
-        Ok(Object {
-            kind: self.kind,
-            name,
-        })
+        let kind = self.kind;
+        match copy_text(alloc, &self.name) {
+            Ok(name) => Ok(Object { kind, name }),
+            Err(fault) => Err(fault),
+        }
     }
 }
 
@@ -188,6 +188,53 @@ fn copy_ratio(ratio: &Option<Ratio>) -> Option<Ratio>
     }
 }
 
+/// Equal texts of their own.
+pub fn two_copies(alloc: Global, a: &Text, b: &Text) -> Result<(Text, Text), NoMemory>
+    ensures { IfOk result (λ p. p ≡ (a.now, b.now)) }
+{
+    let a = copy_text(alloc, a)?;
+    let b = copy_text(alloc, b)?;
+    Ok((a, b))
+}
+
+fn two_objects(alloc: Global, a: &Object, b: &Object) -> Result<(Object, Object), NoMemory>
+    ensures { IfOk result (λ p. p ≡ (a.now, b.now)) }
+{
+    let a = a.copy(alloc)?;
+    let b = b.copy(alloc)?;
+    Ok((a, b))
+}
+
+fn text_and_object(alloc: Global, a: &Text, b: &Object) -> Result<(Text, Object), NoMemory>
+    ensures { IfOk result (λ p. p ≡ (a.now, b.now)) }
+{
+    let a = copy_text(alloc, a)?;
+    let b = b.copy(alloc)?;
+    Ok((a, b))
+}
+
+fn copy_row(
+    alloc: Global,
+    table: &Text,
+    label: &Text,
+    activity: &Object,
+    machine: &Object,
+    parts: &[RowPart],
+) -> Result<Change, NoMemory>
+    ensures { IfOk result (λ copy. copy ≡ Change.Row table.now label.now activity.now machine.now parts.now) }
+{
+    let (table, label) = two_copies(alloc, table, label)?;
+    let (activity, machine) = two_objects(alloc, activity, machine)?;
+    let parts = copy_parts(alloc, parts)?;
+    Ok(Change::Row {
+        table,
+        label,
+        activity,
+        machine,
+        parts,
+    })
+}
+
 impl Change {
     /// An equal edit of its own.
     ///
@@ -227,8 +274,7 @@ impl Change {
                 good,
                 amount,
             } => {
-                let recipe = recipe.copy(alloc)?;
-                let good = good.copy(alloc)?;
+                let (recipe, good) = two_objects(alloc, recipe, good)?;
                 Ok(Change::Ingredient {
                     recipe,
                     good,
@@ -240,8 +286,7 @@ impl Change {
                 good,
                 amount,
             } => {
-                let recipe = recipe.copy(alloc)?;
-                let good = good.copy(alloc)?;
+                let (recipe, good) = two_objects(alloc, recipe, good)?;
                 Ok(Change::Product {
                     recipe,
                     good,
@@ -249,8 +294,7 @@ impl Change {
                 })
             }
             Change::Unlock { tech, recipe, on } => {
-                let tech = tech.copy(alloc)?;
-                let recipe = recipe.copy(alloc)?;
+                let (tech, recipe) = two_objects(alloc, tech, recipe)?;
                 Ok(Change::Unlock {
                     tech,
                     recipe,
@@ -282,23 +326,9 @@ impl Change {
                 activity,
                 machine,
                 parts,
-            } => {
-                let table = copy_text(alloc, table)?;
-                let label = copy_text(alloc, label)?;
-                let activity = activity.copy(alloc)?;
-                let machine = machine.copy(alloc)?;
-                let parts = copy_parts(alloc, parts.as_slice())?;
-                Ok(Change::Row {
-                    table,
-                    label,
-                    activity,
-                    machine,
-                    parts,
-                })
-            }
+            } => copy_row(alloc, table, label, activity, machine, parts.as_slice()),
             Change::Unrow { table, label } => {
-                let table = copy_text(alloc, table)?;
-                let label = copy_text(alloc, label)?;
+                let (table, label) = two_copies(alloc, table, label)?;
                 Ok(Change::Unrow { table, label })
             }
             Change::Price {
@@ -306,8 +336,7 @@ impl Change {
                 label,
                 price,
             } => {
-                let table = copy_text(alloc, table)?;
-                let label = copy_text(alloc, label)?;
+                let (table, label) = two_copies(alloc, table, label)?;
                 Ok(Change::Price {
                     table,
                     label,
@@ -319,8 +348,7 @@ impl Change {
                 good,
                 amount,
             } => {
-                let table = copy_text(alloc, table)?;
-                let good = good.copy(alloc)?;
+                let (table, good) = text_and_object(alloc, table, good)?;
                 Ok(Change::Want {
                     table,
                     good,
@@ -328,8 +356,7 @@ impl Change {
                 })
             }
             Change::Import { table, good, price } => {
-                let table = copy_text(alloc, table)?;
-                let good = good.copy(alloc)?;
+                let (table, good) = text_and_object(alloc, table, good)?;
                 Ok(Change::Import {
                     table,
                     good,
@@ -337,8 +364,7 @@ impl Change {
                 })
             }
             Change::Surplus { table, good, price } => {
-                let table = copy_text(alloc, table)?;
-                let good = good.copy(alloc)?;
+                let (table, good) = text_and_object(alloc, table, good)?;
                 Ok(Change::Surplus {
                     table,
                     good,

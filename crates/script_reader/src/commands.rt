@@ -14,7 +14,7 @@ use plan_base::Text;
 use std::alloc::Global;
 
 // A command of one word.
-fn alone(words: &[Text], command: Command) -> Result<Command, ScriptFault>
+fn alone<T: Drop>(words: &[Text], command: T) -> Result<T, ScriptFault>
     ensures { Answers (and_then (no_words words.now) (λ u. gives command)) result }
 {
     match nothing_at(words) {

@@ -6,7 +6,7 @@ ghost use Rattle.script_reader.specs.PartWords.{all_parts, first_part, is_beacon
 ghost use Rattle.script_reader.specs.Arguments.{add_part, add_parts, beacon_words, part_words, parts_behind, row_words};
 
 use crate::arguments::{number_at, object_word};
-use crate::change::copy_text;
+use crate::change::{copy_text, two_copies};
 use crate::fields::Place;
 use crate::{Object, RowPart, ScriptFault};
 use plan_base::{Items, NoMemory, Text};
@@ -89,14 +89,6 @@ fn front_three(words: &[Text]) -> Option<(&Text, &Text, &Text)>
         [a, b, c, ..] => Some((a, b, c)),
         _ => None,
     }
-}
-
-fn two_copies(alloc: Global, a: &Text, b: &Text) -> Result<(Text, Text), NoMemory>
-    ensures { IfOk result (λ p. p ≡ (a.now, b.now)) }
-{
-    let a = copy_text(alloc, a)?;
-    let b = copy_text(alloc, b)?;
-    Ok((a, b))
 }
 
 fn has_one_fuel(parts: &[PartWords]) -> bool

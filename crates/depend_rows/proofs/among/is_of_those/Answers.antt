@@ -1,4 +1,4 @@
-use Rattle.std.proofs.Common.{◌≡◌, ◌∙◌, ◌-◌, arith, sym}
+use Rattle.std.proofs.Common.{◌∙◌, ◌-◌, arith, sym}
 use Rattle.depend_rows.proofs.AmongLemmas.{at_place, below_those, past_those}
 use Rattle.depend_rows.proofs.among.is_of_those.Goals as goal
 

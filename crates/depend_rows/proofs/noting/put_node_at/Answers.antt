@@ -1,7 +1,7 @@
 use Rattle.std.proofs.Common.{◌≡◌, ◌∙◌, List, Vec, OnOk, ap, sym, subst, true}
 use Rattle.std.specs.Global.{Global}
 use Rattle.plan_base.specs.declared.ids.NodeId.{NodeId}
-use Rattle.depend_rows.specs.Lists.{has_node, Rise}
+use Rattle.depend_rows.specs.Lists.{has_node}
 use Rattle.depend_rows.proofs.PutLemmas.{list_put, widen_put}
 use Rattle.depend_rows.proofs.noting.put_node_at.Goals as goal
 

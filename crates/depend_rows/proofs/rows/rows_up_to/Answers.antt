@@ -2,7 +2,6 @@ use Rattle.std.proofs.Common.{◌∙◌, ◌<◌, ◌≡◌, ap, arith}
 use Rattle.plan_base.specs.Shape.{node_count}
 use Rattle.game_types.specs.Nodes.{shape_of}
 use Rattle.depend_rows.specs.Rows.{row_of, rows_of}
-use Rattle.depend_rows.proofs.Below.{are_rows}
 use Rattle.depend_rows.proofs.Ranges.{rows_first, rows_more, rows_last, steps_first, steps_more, steps_last, members_first, members_more, members_past, members_last}
 use Rattle.depend_rows.proofs.rows.rows_up_to.Goals as goal
 
@@ -20,10 +19,10 @@ loop-node-preserved g c =
     let game = c.args.book.now.game in
     let within : c.loop-node.node < node_count (shape_of game) = omega (arith, c.loop-node-test.true, c.len-nodes.ensures, ap node_count c.shape.ensures) in
     record {
-      rows = rows_more (row_of game) (node_count (shape_of game)) c.loop-node.node c.loop-node.rows.items c.push.new.self.items c.in-Ok-row_at.row within c.in-Ok-row_at.ensures c.in-Ok-push.ensures.items c.loop-node.invariant.rows;
+      rows = rows_more (row_of game) (node_count (shape_of game)) c.loop-node.node c.loop-node.rows.items c.push.new.self.items c.in-Ok.row within c.in-Ok.ensures c.in-Ok-push.ensures.items c.loop-node.invariant.rows;
       steps = steps_more c.args.steps.now c.loop-node.node c.loop-node.steps c.tick.new.self c.tick.ensures.one c.loop-node.invariant.steps;
       later = omega (arith, c.loop-node.invariant.later, c.tick.ensures.later);
-      members = members_more (row_of game) (node_count (shape_of game)) c.loop-node.node c.loop-node.members c.in-Some.sum c.in-Ok-row_at.row within c.in-Ok-row_at.ensures c.in-Some.ensures.0 c.loop-node.invariant.members;
+      members = members_more (row_of game) (node_count (shape_of game)) c.loop-node.node c.loop-node.members c.in-Some.sum c.in-Ok.row within c.in-Ok.ensures c.in-Some.ensures.0 c.loop-node.invariant.members;
       few = c.in-Some.ensures.1;
     }
 
@@ -32,7 +31,7 @@ unfolding rows_of
 returns-in-None-clause-rows g c =
     let game = c.args.book.now.game in
     let within : c.loop-node.node < node_count (shape_of game) = omega (arith, c.loop-node-test.true, c.len-nodes.ensures, ap node_count c.shape.ensures) in
-    λ _. members_past (row_of game) (node_count (shape_of game)) c.loop-node.node c.loop-node.members c.args.limit c.in-Ok-row_at.row within c.in-Ok-row_at.ensures c.in-None.ensures c.loop-node.invariant.members
+    λ _. members_past (row_of game) (node_count (shape_of game)) c.loop-node.node c.loop-node.members c.args.limit c.in-Ok.row within c.in-Ok.ensures c.in-None.ensures c.loop-node.invariant.members
 
 pub returns-clause-rows : goal.returns-clause-rows
 unfolding rows_of
@@ -42,9 +41,6 @@ returns-clause-rows g c =
       rows_last (row_of game) (node_count (shape_of game)) c.loop-node.node c.loop-node.rows.items (omega (arith, c.loop-node-test.false, nodes)) c.loop-node.invariant.rows,
       members_last (row_of game) (node_count (shape_of game)) c.loop-node.node c.loop-node.members c.args.limit (omega (arith, c.loop-node-test.false, nodes)) c.loop-node.invariant.few c.loop-node.invariant.members,
     )
-
-pub returns-clause-graph : goal.returns-clause-graph
-returns-clause-graph g c = let is = returns-clause-rows g c in are_rows c.args.book.now.game c.loop-node.rows.items c.requires.game is.0
 
 pub returns-clause-steps : goal.returns-clause-steps
 returns-clause-steps g c =

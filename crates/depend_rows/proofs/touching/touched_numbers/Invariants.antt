@@ -1,5 +1,4 @@
 use Rattle.std.proofs.Common.{◌≡◌, ◌<◌, ◌++◌, All, drop}
-use Rattle.plan_base.specs.Shape.{node_count}
 use Rattle.depend_rows.specs.Touched.{touched_numbers}
 use Rattle.depend_rows.proofs.touching.touched_numbers.Given as goal
 

@@ -1,5 +1,5 @@
-use Rattle.std.proofs.Common.{◌≤◌, arith, refl}
-use Rattle.depend_rows.proofs.WordLemmas.{is_set, word_first, word_last, word_more}
+use Rattle.std.proofs.Common.{arith, refl}
+use Rattle.depend_rows.proofs.WordLemmas.{is_set, word_first, word_more}
 use Rattle.depend_rows.proofs.words.push_bits.Goals as goal
 
 pub loop-bit-init : goal.loop-bit-init

@@ -1,4 +1,4 @@
-use Rattle.std.proofs.Common.{ℕ, ◌<◌, length, get_or}
+use Rattle.std.proofs.Common.{ℕ, ◌<◌, get_or}
 use Rattle.graph_store.specs.declared.Row.{Row}
 use Rattle.graph_store.specs.Rows.{HasMembersBelow}
 use Rattle.rank_bench.proofs.graphs.are_rows_below.Given as goal

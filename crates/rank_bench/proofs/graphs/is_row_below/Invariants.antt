@@ -1,4 +1,4 @@
-use Rattle.std.proofs.Common.{ℕ, ◌<◌, All, length, get_or}
+use Rattle.std.proofs.Common.{ℕ, ◌<◌, All, get_or}
 use Rattle.graph_store.specs.declared.Group.{Group}
 use Rattle.rank_bench.proofs.graphs.is_row_below.Given as goal
 

@@ -1,7 +1,6 @@
 -- All nodes agree but the one whose bar was changed.
-use Rattle.std.proofs.Common.{◌≡◌, false, not, refl, get_or, set, ℕ}
-use Rattle.std.specs.Prelude.{List, ◌∷◌, []}
-use Rattle.graph_store.specs.Rows.{has_node}
+use Rattle.std.proofs.Common.{false, not, refl, get_or, set}
+use Rattle.std.specs.Prelude.{◌∷◌, []}
 use Rattle.milestone_masks.proofs.ChangeLemmas.{agree-in_worlds, bar-changed}
 use Rattle.rank_bench.proofs.worlds.toggle.Goals as goal
 
