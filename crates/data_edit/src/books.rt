@@ -17,6 +17,17 @@ pub struct Book {
     pub granted: Items<bool>,
 }
 
+// Marks of which none is set: of the nodes that are barred, and of those that are granted.
+fn no_marks(alloc: Global, game: &Game) -> Result<(Items<bool>, Items<bool>), NoMemory>
+    requires { IsSound game.now }
+    ensures { IfOk result (λ marks. marks ≡ (replicate (node_count (shape_of game.now)) false, replicate (node_count (shape_of game.now)) false)) }
+{
+    let count = game.shape().len() as usize;
+    let barred = vec![in alloc; false; count]?;
+    let granted = vec![in alloc; false; count]?;
+    Ok((Items::from_vec(barred), Items::from_vec(granted)))
+}
+
 impl Book {
     /// The book of a game, with no marks.
     ///
@@ -28,13 +39,13 @@ impl Book {
         ensures sound { IfOk result IsSoundBook }
         ensures book { IfOk result (λ book. book ≡ record { game = game; barred = replicate (node_count (shape_of game)) false; granted = replicate (node_count (shape_of game)) false }) }
     {
-        let count = game.shape().len() as usize;
-        let barred = vec![in alloc; false; count]?;
-        let granted = vec![in alloc; false; count]?;
-        Ok(Book {
-            game,
-            barred: Items::from_vec(barred),
-            granted: Items::from_vec(granted),
-        })
+        match no_marks(alloc, &game) {
+            Ok((barred, granted)) => Ok(Book {
+                game,
+                barred,
+                granted,
+            }),
+            Err(fault) => Err(fault),
+        }
     }
 }
