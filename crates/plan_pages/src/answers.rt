@@ -2,9 +2,9 @@
 ghost use Rattle.game_types.specs.Sound.{IsSound};
 
 use crate::Done;
-use crate::escape::escaped;
 use crate::meanings::meaning;
-use crate::names::push_node;
+use crate::names::node_parts;
+use crate::writing::{Piece, put};
 use game_types::Game;
 use plan_base::{Items, NodeId};
 use plan_report::{RefusalCode, Reply, print_reply};
@@ -21,45 +21,90 @@ pub struct Site<'a> {
 
 // The head of an entry that can be folded.
 fn push_head(at: &Site<'_>, out: &mut String, count: usize) -> Done {
-    let line = at.line;
-    let words = escaped(at.alloc, at.words)?;
-    write!(
+    put(
+        at.alloc,
         out,
-        "<details data-f><summary><code>{words}</code> <b>{count}</b> <small>line {line}</small></summary><ol>\n"
-    )?;
-    Ok(())
+        &[
+            Piece::Text("<details data-f><summary><code>"),
+            Piece::Name(at.words),
+            Piece::Text("</code> <b>"),
+            Piece::Count(count as u64),
+            Piece::Text("</b> <small>line "),
+            Piece::Count(at.line as u64),
+            Piece::Text("</small></summary><ol>\n"),
+        ],
+    )
 }
 
-const TAIL: &str = "</ol></details>\n";
+fn push_tail(at: &Site<'_>, out: &mut String) -> Done {
+    put(at.alloc, out, &[Piece::Text("</ol></details>\n")])
+}
 
 // An entry of one line.
-fn push_line(at: &Site<'_>, out: &mut String, answer: &str) -> Done {
-    let line = at.line;
-    let words = escaped(at.alloc, at.words)?;
-    let answer = escaped(at.alloc, answer)?;
-    write!(
+fn push_entry(at: &Site<'_>, out: &mut String, answer: &[Piece<'_>]) -> Done {
+    put(
+        at.alloc,
         out,
-        "<p data-f><code>{words}</code> <span>{answer}</span> <small>line {line}</small></p>\n"
+        &[
+            Piece::Text("<p data-f><code>"),
+            Piece::Name(at.words),
+            Piece::Text("</code> <span>"),
+        ],
     )?;
-    Ok(())
+    put(at.alloc, out, answer)?;
+    put(
+        at.alloc,
+        out,
+        &[
+            Piece::Text("</span> <small>line "),
+            Piece::Count(at.line as u64),
+            Piece::Text("</small></p>\n"),
+        ],
+    )
 }
 
-fn push_ranked(at: &Site<'_>, out: &mut String, node: NodeId, rank: u32, mark: &str) -> Done
+fn push_line(at: &Site<'_>, out: &mut String, answer: &str) -> Done {
+    push_entry(at, out, &[Piece::Name(answer)])
+}
+
+fn push_ranked(at: &Site<'_>, out: &mut String, node: NodeId, rank: u32, mark: &'static str) -> Done
     requires { IsSound at.now.game.now }
 {
-    out.push_str("<li data-f>")?;
-    push_node(at.alloc, out, at.game, node)?;
-    write!(out, " <small>round {rank}{mark}</small></li>\n")?;
-    Ok(())
+    let (kind, name) = node_parts(at.game, node);
+    put(
+        at.alloc,
+        out,
+        &[
+            Piece::Text("<li data-f>"),
+            Piece::Thing(kind, name),
+            Piece::Text(" <small>round "),
+            Piece::Count(rank as u64),
+            Piece::Text(mark),
+            Piece::Text("</small></li>\n"),
+        ],
+    )
+}
+
+fn push_node(at: &Site<'_>, out: &mut String, node: NodeId) -> Done
+    requires { IsSound at.now.game.now }
+{
+    let (kind, name) = node_parts(at.game, node);
+    put(
+        at.alloc,
+        out,
+        &[
+            Piece::Text("<li data-f>"),
+            Piece::Thing(kind, name),
+            Piece::Text("</li>\n"),
+        ],
+    )
 }
 
 fn push_nodes(at: &Site<'_>, out: &mut String, nodes: &[NodeId]) -> Done
     requires { IsSound at.now.game.now }
 {
     for node in nodes {
-        out.push_str("<li data-f>")?;
-        push_node(at.alloc, out, at.game, *node)?;
-        out.push_str("</li>\n")?;
+        push_node(at, out, *node)?;
     }
     Ok(())
 }
@@ -68,8 +113,14 @@ fn push_reach(at: &Site<'_>, out: &mut String, rank: u32) -> Done {
     if rank == 0 {
         return push_line(at, out, "is not reached");
     }
-    let answer = format!(in at.alloc; "is reached in round {rank}")?;
-    push_line(at, out, answer.as_str())
+    push_entry(
+        at,
+        out,
+        &[
+            Piece::Text("is reached in round "),
+            Piece::Count(rank as u64),
+        ],
+    )
 }
 
 fn push_why(at: &Site<'_>, out: &mut String, nodes: &[(NodeId, u32, bool)]) -> Done
@@ -83,8 +134,7 @@ fn push_why(at: &Site<'_>, out: &mut String, nodes: &[(NodeId, u32, bool)]) -> D
         let mark = if *granted { ", granted" } else { "" };
         push_ranked(at, out, *node, *rank, mark)?;
     }
-    out.push_str(TAIL)?;
-    Ok(())
+    push_tail(at, out)
 }
 
 fn push_list(at: &Site<'_>, out: &mut String, nodes: &[(NodeId, u32)]) -> Done
@@ -94,18 +144,27 @@ fn push_list(at: &Site<'_>, out: &mut String, nodes: &[(NodeId, u32)]) -> Done
     for (node, rank) in nodes {
         push_ranked(at, out, *node, *rank, "")?;
     }
-    out.push_str(TAIL)?;
-    Ok(())
+    push_tail(at, out)
+}
+
+fn group_word(all: bool) -> &'static str {
+    if all { "all of" } else { "any of" }
 }
 
 fn push_group(at: &Site<'_>, out: &mut String, all: bool, members: &[NodeId]) -> Done
     requires { IsSound at.now.game.now }
 {
-    let word = if all { "all of" } else { "any of" };
-    write!(out, "<li data-f>{word}<ul>\n")?;
+    put(
+        at.alloc,
+        out,
+        &[
+            Piece::Text("<li data-f>"),
+            Piece::Text(group_word(all)),
+            Piece::Text("<ul>\n"),
+        ],
+    )?;
     push_nodes(at, out, members)?;
-    out.push_str("</ul></li>\n")?;
-    Ok(())
+    put(at.alloc, out, &[Piece::Text("</ul></li>\n")])
 }
 
 fn push_missing(
@@ -121,13 +180,36 @@ fn push_missing(
     }
     push_head(at, out, groups.len())?;
     if forbidden {
-        out.push_str("<li data-f>forbidden</li>\n")?;
+        put(at.alloc, out, &[Piece::Text("<li data-f>forbidden</li>\n")])?;
     }
     for (all, members) in groups {
         push_group(at, out, *all, members.as_slice())?;
     }
-    out.push_str(TAIL)?;
-    Ok(())
+    push_tail(at, out)
+}
+
+fn push_lacks(
+    at: &Site<'_>,
+    out: &mut String,
+    reached: bool,
+    forbidden: bool,
+    groups: &[(bool, Items<NodeId>)],
+) -> Done
+    requires { IsSound at.now.game.now }
+{
+    if reached {
+        return push_line(at, out, "is reached: nothing is missing");
+    }
+    push_missing(at, out, forbidden, groups)
+}
+
+fn push_mask(at: &Site<'_>, out: &mut String, reached: bool, nodes: &[NodeId]) -> Done
+    requires { IsSound at.now.game.now }
+{
+    if reached {
+        return push_milestones(at, out, nodes);
+    }
+    push_line(at, out, "is not reached")
 }
 
 fn push_milestones(at: &Site<'_>, out: &mut String, nodes: &[NodeId]) -> Done
@@ -138,8 +220,7 @@ fn push_milestones(at: &Site<'_>, out: &mut String, nodes: &[NodeId]) -> Done
     }
     push_head(at, out, nodes.len())?;
     push_nodes(at, out, nodes)?;
-    out.push_str(TAIL)?;
-    Ok(())
+    push_tail(at, out)
 }
 
 // A printed reply without the number of its line.
@@ -166,33 +247,54 @@ pub fn push_answer(at: &Site<'_>, out: &mut String, reply: &Reply) -> Done
         Reply::Reach { rank, .. } => push_reach(at, out, *rank),
         Reply::List { nodes, .. } => push_list(at, out, nodes.as_slice()),
         Reply::Why { nodes, .. } => push_why(at, out, nodes.as_slice()),
-        Reply::Missing { reached: true, .. } => {
-            push_line(at, out, "is reached: nothing is missing")
-        }
         Reply::Missing {
+            reached,
             forbidden,
             groups,
             ..
-        } => push_missing(at, out, *forbidden, groups.as_slice()),
-        Reply::Mask { reached: false, .. } => push_line(at, out, "is not reached"),
-        Reply::Mask { milestones, .. } => push_milestones(at, out, milestones.as_slice()),
+        } => push_lacks(at, out, *reached, *forbidden, groups.as_slice()),
+        Reply::Mask {
+            reached,
+            milestones,
+            ..
+        } => push_mask(at, out, *reached, milestones.as_slice()),
         Reply::Milestones(nodes) => push_milestones(at, out, nodes.as_slice()),
-        other => push_printed(at, out, other),
+        _ => push_printed(at, out, reply),
     }
+}
+
+// The head of a refusal, with its meaning.
+fn push_cause(at: &Site<'_>, out: &mut String, code: RefusalCode) -> Done {
+    put(
+        at.alloc,
+        out,
+        &[
+            Piece::Text("<details data-f><summary><code>"),
+            Piece::Name(at.words),
+            Piece::Text("</code> <b class=\"bad\">"),
+            Piece::Code(code),
+            Piece::Text(": "),
+            Piece::Text(meaning(code)),
+            Piece::Text("</b> <small>line "),
+            Piece::Count(at.line as u64),
+            Piece::Text("</small></summary><pre>"),
+        ],
+    )
+}
+
+fn push_quoted(alloc: Global, out: &mut String, text: &str) -> Done {
+    put(
+        alloc,
+        out,
+        &[Piece::Name(text), Piece::Text("</pre></details>\n")],
+    )
 }
 
 /// A refusal with its meaning, and the reply as it is printed elsewhere.
 pub fn push_refusal(at: &Site<'_>, out: &mut String, code: RefusalCode, reply: &Reply) -> Done
     requires { IsSound at.now.game.now }
 {
-    let line = at.line;
-    let words = escaped(at.alloc, at.words)?;
-    let meaning = meaning(code);
-    let text = print_reply(at.alloc, line, reply, at.game)?;
-    let text = escaped(at.alloc, text.as_str())?;
-    write!(
-        out,
-        "<details data-f><summary><code>{words}</code> <b class=\"bad\">{code:?}: {meaning}</b> <small>line {line}</small></summary><pre>{text}</pre></details>\n"
-    )?;
-    Ok(())
+    push_cause(at, out, code)?;
+    let text = print_reply(at.alloc, at.line, reply, at.game)?;
+    push_quoted(at.alloc, out, text.as_str())
 }

@@ -1,10 +1,9 @@
 //! A chart as a drawing.
 use crate::Done;
-use crate::amounts::{Amount, Flow};
+use crate::amounts::Flow;
 use crate::cards::{Card, CardKind, Chart};
-use crate::dot::amount_word;
-use crate::escape::{cut, escaped};
 use crate::layout::{Arrow, Graph, Layout, at, laid_out, last_layer};
+use crate::writing::{Piece, put};
 use plan_base::{Kind, NoMemory};
 use plan_report::kind_word;
 use std::alloc::Global;
@@ -30,38 +29,54 @@ fn height_of(card: &Card) -> u32 {
     head + LINE * lines + 4
 }
 
-// The graph of a chart: its cards, and behind them a joint for each good.
-fn graph_of(alloc: Global, chart: &Chart) -> Result<Graph, NoMemory> {
-    let first_joint = chart.cards.len();
-    let mut heights = Vec::new(alloc);
-    let mut arrows = Vec::new(alloc);
-    let mut node: usize = 0;
-    for card in chart.cards.as_slice() {
-        heights.push(height_of(card))?;
-        for flow in card.flows.as_slice() {
-            let joint = first_joint.saturating_add(flow.good as usize);
-            arrows.push(if flow.gives {
-                Arrow {
-                    from: node,
-                    to: joint,
-                }
-            } else {
-                Arrow {
-                    from: joint,
-                    to: node,
-                }
-            })?;
+// The arrow of a flow of a card.
+fn arrow_of(node: usize, joint: usize, gives: bool) -> Arrow {
+    if gives {
+        Arrow {
+            from: node,
+            to: joint,
         }
-        node = node.saturating_add(1);
+    } else {
+        Arrow {
+            from: joint,
+            to: node,
+        }
+    }
+}
+
+fn add_arrows(arrows: &mut Vec<Arrow>, first_joint: usize, node: usize, flows: &[Flow]) -> Done {
+    for flow in flows {
+        let joint = first_joint.saturating_add(flow.good as usize);
+        arrows.push(arrow_of(node, joint, flow.gives))?;
+    }
+    Ok(())
+}
+
+fn add_nodes(graph: &mut Graph, chart: &Chart) -> Done {
+    for (node, card) in chart.cards.as_slice().iter().enumerate() {
+        graph.heights.push(height_of(card))?;
+        add_arrows(
+            &mut graph.arrows,
+            graph.first_joint,
+            node,
+            card.flows.as_slice(),
+        )?;
     }
     for _ in chart.goods.as_slice() {
-        heights.push(0)?;
+        graph.heights.push(0)?;
     }
-    Ok(Graph {
-        heights,
-        first_joint,
-        arrows,
-    })
+    Ok(())
+}
+
+// The graph of a chart: its cards, and behind them a joint for each good.
+fn graph_of(alloc: Global, chart: &Chart) -> Result<Graph, NoMemory> {
+    let mut graph = Graph {
+        heights: Vec::new(alloc),
+        first_joint: chart.cards.len(),
+        arrows: Vec::new(alloc),
+    };
+    add_nodes(&mut graph, chart)?;
+    Ok(graph)
 }
 
 // How far a card stands from the left, and a joint.
@@ -98,29 +113,50 @@ fn card_word(kind: CardKind) -> &'static str {
     }
 }
 
-// A curve from a point to another.
-fn push_curve(
+// How far a curve from a point to another bends.
+fn bend(from: u32, to: u32) -> u32 {
+    if from < to { (to - from) / 2 } else { 2 * SIDE }
+}
+
+// A curve from a point to another, with the name of the good.
+fn push_curve<'a>(
     alloc: Global,
     out: &mut String,
-    kind: &str,
-    title: &str,
+    chart: &'a Chart,
+    flow: &'a Flow,
     from: (u32, u32),
     to: (u32, u32),
 ) -> Done {
-    let width = if from.0 < to.0 {
-        (to.0 - from.0) / 2
-    } else {
-        2 * SIDE
-    };
-    let right = from.0.saturating_add(width);
-    let left = to.0.saturating_sub(width);
-    let (x, y) = from;
-    let (to_x, to_y) = to;
-    write!(
+    let width = bend(from.0, to.0);
+    put(
+        alloc,
         out,
-        "<path class=\"{kind}\" d=\"M{x} {y}C{right} {y} {left} {to_y} {to_x} {to_y}\"><title>{title}</title></path>\n"
-    )?;
-    Ok(())
+        &[
+            Piece::Text("<path class=\""),
+            Piece::Text(good_kind(chart, flow.good)),
+            Piece::Text("\" d=\"M"),
+            Piece::Count(from.0 as u64),
+            Piece::Text(" "),
+            Piece::Count(from.1 as u64),
+            Piece::Text("C"),
+            Piece::Count(from.0.saturating_add(width) as u64),
+            Piece::Text(" "),
+            Piece::Count(from.1 as u64),
+            Piece::Text(" "),
+            Piece::Count(to.0.saturating_sub(width) as u64),
+            Piece::Text(" "),
+            Piece::Count(to.1 as u64),
+            Piece::Text(" "),
+            Piece::Count(to.0 as u64),
+            Piece::Text(" "),
+            Piece::Count(to.1 as u64),
+            Piece::Text("\"><title>"),
+            Piece::Name(good_name(chart, flow.good)),
+            Piece::Text(": "),
+            Piece::Amount(&flow.amount),
+            Piece::Text(" per second</title></path>\n"),
+        ],
+    )
 }
 
 // How far the middle of a card's line stands from the top of the card.
@@ -134,96 +170,197 @@ fn line_middle(card: &Card, line: u32) -> u32 {
         .saturating_add(LINE / 2)
 }
 
+// The joint of a good.
+fn joint_at(chart: &Chart, layout: &Layout, good: usize) -> (u32, u32) {
+    let joint = chart.cards.len().saturating_add(good);
+    (
+        joint_left(at(layout.layers.as_slice(), joint)),
+        at(layout.tops.as_slice(), joint).saturating_add(EDGE),
+    )
+}
+
+// The left upper corner of a card.
+fn corner(layout: &Layout, node: usize) -> (u32, u32) {
+    (
+        card_left(at(layout.layers.as_slice(), node)),
+        at(layout.tops.as_slice(), node).saturating_add(EDGE),
+    )
+}
+
+// Where a curve of a card meets it.
+fn side(layout: &Layout, node: usize, middle: u32, gives: bool) -> (u32, u32) {
+    let (left, top) = corner(layout, node);
+    let width = if gives { CARD } else { 0 };
+    (left.saturating_add(width), top.saturating_add(middle))
+}
+
 fn push_flow_curve(
     alloc: Global,
     out: &mut String,
     chart: &Chart,
     layout: &Layout,
     node: usize,
-    line: u32,
-    card: &Card,
+    middle: u32,
     flow: &Flow,
 ) -> Done {
-    let joint = chart.cards.len().saturating_add(flow.good as usize);
-    let layers = layout.layers.as_slice();
-    let tops = layout.tops.as_slice();
-    let joint_at = (
-        joint_left(at(layers, joint)),
-        at(tops, joint).saturating_add(EDGE),
-    );
-    let left = card_left(at(layers, node));
-    let middle = at(tops, node)
-        .saturating_add(line_middle(card, line))
-        .saturating_add(EDGE);
-    let kind = good_kind(chart, flow.good);
-    let name = escaped(alloc, good_name(chart, flow.good))?;
-    let amount = amount_word(alloc, &flow.amount)?;
-    let title = format!(in alloc; "{name}: {amount} per second")?;
+    let joint = joint_at(chart, layout, flow.good as usize);
+    let card = side(layout, node, middle, flow.gives);
     if flow.gives {
-        let from = (left.saturating_add(CARD), middle);
-        push_curve(alloc, out, kind, title.as_str(), from, joint_at)
+        push_curve(alloc, out, chart, flow, card, joint)
     } else {
-        push_curve(alloc, out, kind, title.as_str(), joint_at, (left, middle))
+        push_curve(alloc, out, chart, flow, joint, card)
     }
 }
 
-fn push_curves(alloc: Global, out: &mut String, chart: &Chart, layout: &Layout) -> Done {
-    let mut node: usize = 0;
-    for card in chart.cards.as_slice() {
-        let mut line: u32 = 0;
-        for flow in card.flows.as_slice() {
-            push_flow_curve(alloc, out, chart, layout, node, line, card, flow)?;
-            line = line.saturating_add(1).min(2_000);
-        }
-        node = node.saturating_add(1);
-    }
-    Ok(())
+// The number of a line of a card, at most 2,000.
+fn line_number(line: usize) -> u32 {
+    line.min(2_000) as u32
 }
 
-// A line of a card: a good on the side where it flows, and how much on the other.
-fn push_card_line(
+fn push_card_curves(
     alloc: Global,
     out: &mut String,
     chart: &Chart,
-    line: u32,
+    layout: &Layout,
+    node: usize,
     card: &Card,
-    flow: &Flow,
 ) -> Done {
-    let kind = good_kind(chart, flow.good);
-    let short = cut(alloc, good_name(chart, flow.good), 21)?;
-    let name = escaped(alloc, short.as_str())?;
-    let amount = short_amount(alloc, flow)?;
-    let base = line_middle(card, line).saturating_add(4);
-    let right = CARD - 8;
-    if flow.gives {
-        write!(
-            out,
-            "<text class=\"{kind}\" x=\"{right}\" y=\"{base}\" text-anchor=\"end\">{name} →</text><text x=\"8\" y=\"{base}\">{amount}</text>\n"
-        )?;
-    } else {
-        write!(
-            out,
-            "<text class=\"{kind}\" x=\"8\" y=\"{base}\">→ {name}</text><text x=\"{right}\" y=\"{base}\" text-anchor=\"end\">{amount}</text>\n"
-        )?;
+    for (line, flow) in card.flows.as_slice().iter().enumerate() {
+        let middle = line_middle(card, line_number(line));
+        push_flow_curve(alloc, out, chart, layout, node, middle, flow)?;
     }
     Ok(())
 }
 
-// An amount in few letters.
-fn short_amount(alloc: Global, flow: &Flow) -> Result<String, NoMemory> {
-    let Amount::Exact(amount) = flow.amount else {
-        return Ok(String::from_str(alloc, "wide")?);
-    };
-    let size = if amount.is_neg() {
-        amount.neg()
-    } else {
-        amount
-    };
-    if size.denominator() == 1 {
-        let exact = size.print(alloc)?;
-        return Ok(String::from_str(alloc, exact.as_str())?);
+fn push_curves(alloc: Global, out: &mut String, chart: &Chart, layout: &Layout) -> Done {
+    for (node, card) in chart.cards.as_slice().iter().enumerate() {
+        push_card_curves(alloc, out, chart, layout, node, card)?;
     }
-    crate::decimals::decimal(alloc, &size)
+    Ok(())
+}
+
+const RIGHT: u64 = (CARD - 8) as u64;
+
+// A good that comes out stands on the right, and how much on the left.
+fn push_given_line<'a>(
+    alloc: Global,
+    out: &mut String,
+    chart: &'a Chart,
+    base: u32,
+    flow: &'a Flow,
+) -> Done {
+    put(
+        alloc,
+        out,
+        &[
+            Piece::Text("<text class=\""),
+            Piece::Text(good_kind(chart, flow.good)),
+            Piece::Text("\" x=\""),
+            Piece::Count(RIGHT),
+            Piece::Text("\" y=\""),
+            Piece::Count(base as u64),
+            Piece::Text("\" text-anchor=\"end\">"),
+            Piece::Short(good_name(chart, flow.good), 21),
+            Piece::Text(" →</text><text x=\"8\" y=\""),
+            Piece::Count(base as u64),
+            Piece::Text("\">"),
+            Piece::Rough(&flow.amount),
+            Piece::Text("</text>\n"),
+        ],
+    )
+}
+
+// A good that goes in stands on the left, and how much on the right.
+fn push_taken_line<'a>(
+    alloc: Global,
+    out: &mut String,
+    chart: &'a Chart,
+    base: u32,
+    flow: &'a Flow,
+) -> Done {
+    put(
+        alloc,
+        out,
+        &[
+            Piece::Text("<text class=\""),
+            Piece::Text(good_kind(chart, flow.good)),
+            Piece::Text("\" x=\"8\" y=\""),
+            Piece::Count(base as u64),
+            Piece::Text("\">→ "),
+            Piece::Short(good_name(chart, flow.good), 21),
+            Piece::Text("</text><text x=\""),
+            Piece::Count(RIGHT),
+            Piece::Text("\" y=\""),
+            Piece::Count(base as u64),
+            Piece::Text("\" text-anchor=\"end\">"),
+            Piece::Rough(&flow.amount),
+            Piece::Text("</text>\n"),
+        ],
+    )
+}
+
+// A line of a card: a good on the side where it flows, and how much on the other.
+fn push_card_line<'a>(
+    alloc: Global,
+    out: &mut String,
+    chart: &'a Chart,
+    base: u32,
+    flow: &'a Flow,
+) -> Done {
+    if flow.gives {
+        push_given_line(alloc, out, chart, base, flow)
+    } else {
+        push_taken_line(alloc, out, chart, base, flow)
+    }
+}
+
+fn push_card_lines(alloc: Global, out: &mut String, chart: &Chart, card: &Card) -> Done {
+    for (line, flow) in card.flows.as_slice().iter().enumerate() {
+        let base = line_middle(card, line_number(line)).saturating_add(4);
+        push_card_line(alloc, out, chart, base, flow)?;
+    }
+    Ok(())
+}
+
+fn push_card_head(alloc: Global, out: &mut String, card: &Card, left: u32, top: u32) -> Done {
+    put(
+        alloc,
+        out,
+        &[
+            Piece::Text("<g class=\""),
+            Piece::Text(card_word(card.kind)),
+            Piece::Text("\" transform=\"translate("),
+            Piece::Count(left as u64),
+            Piece::Text(" "),
+            Piece::Count(top as u64),
+            Piece::Text(")\"><title>"),
+            Piece::Name(card.title.as_str()),
+            Piece::Text(" "),
+            Piece::Name(card.about.as_str()),
+            Piece::Text("</title><rect width=\""),
+            Piece::Count(CARD as u64),
+            Piece::Text("\" height=\""),
+            Piece::Count(height_of(card) as u64),
+            Piece::Text("\" rx=\"6\"/>\n<text class=\"name\" x=\"8\" y=\"17\">"),
+            Piece::Short(card.title.as_str(), 25),
+            Piece::Text("</text>\n"),
+        ],
+    )
+}
+
+fn push_about(alloc: Global, out: &mut String, about: &str) -> Done {
+    if about.is_empty() {
+        return Ok(());
+    }
+    put(
+        alloc,
+        out,
+        &[
+            Piece::Text("<text class=\"what\" x=\"8\" y=\"32\">"),
+            Piece::Short(about, 30),
+            Piece::Text("</text>\n"),
+        ],
+    )
 }
 
 fn push_card(
@@ -234,49 +371,48 @@ fn push_card(
     node: usize,
     card: &Card,
 ) -> Done {
-    let left = card_left(at(layout.layers.as_slice(), node));
-    let top = at(layout.tops.as_slice(), node).saturating_add(EDGE);
-    let height = height_of(card);
-    let word = card_word(card.kind);
-    let whole = escaped(alloc, card.title.as_str())?;
-    let short = cut(alloc, card.title.as_str(), 25)?;
-    let title = escaped(alloc, short.as_str())?;
-    let about_whole = escaped(alloc, card.about.as_str())?;
-    let short = cut(alloc, card.about.as_str(), 30)?;
-    let about = escaped(alloc, short.as_str())?;
-    write!(
-        out,
-        "<g class=\"{word}\" transform=\"translate({left} {top})\"><title>{whole} {about_whole}</title><rect width=\"{CARD}\" height=\"{height}\" rx=\"6\"/>\n<text class=\"name\" x=\"8\" y=\"17\">{title}</text>\n"
-    )?;
-    if !about.is_empty() {
-        write!(
-            out,
-            "<text class=\"what\" x=\"8\" y=\"32\">{about}</text>\n"
-        )?;
+    let (left, top) = corner(layout, node);
+    push_card_head(alloc, out, card, left, top)?;
+    push_about(alloc, out, card.about.as_str())?;
+    push_card_lines(alloc, out, chart, card)?;
+    put(alloc, out, &[Piece::Text("</g>\n")])
+}
+
+fn push_cards(alloc: Global, out: &mut String, chart: &Chart, layout: &Layout) -> Done {
+    for (node, card) in chart.cards.as_slice().iter().enumerate() {
+        push_card(alloc, out, chart, layout, node, card)?;
     }
-    let mut line: u32 = 0;
-    for flow in card.flows.as_slice() {
-        push_card_line(alloc, out, chart, line, card, flow)?;
-        line = line.saturating_add(1).min(2_000);
-    }
-    out.push_str("</g>\n")?;
     Ok(())
 }
 
-fn push_joints(out: &mut String, chart: &Chart, layout: &Layout, used: &[Arrow]) -> Done {
-    let mut good: usize = 0;
-    for shown in chart.goods.as_slice() {
+fn push_joint(alloc: Global, out: &mut String, kind: Kind, place: (u32, u32)) -> Done {
+    put(
+        alloc,
+        out,
+        &[
+            Piece::Text("<circle class=\""),
+            Piece::Text(kind_word(kind)),
+            Piece::Text("\" cx=\""),
+            Piece::Count(place.0 as u64),
+            Piece::Text("\" cy=\""),
+            Piece::Count(place.1 as u64),
+            Piece::Text("\" r=\"3\"/>\n"),
+        ],
+    )
+}
+
+fn push_joints(
+    alloc: Global,
+    out: &mut String,
+    chart: &Chart,
+    layout: &Layout,
+    used: &[Arrow],
+) -> Done {
+    for (good, shown) in chart.goods.as_slice().iter().enumerate() {
         let joint = chart.cards.len().saturating_add(good);
         if used.iter().any(|arrow| arrow.to == joint) {
-            let left = joint_left(at(layout.layers.as_slice(), joint));
-            let top = at(layout.tops.as_slice(), joint).saturating_add(EDGE);
-            let kind = kind_word(shown.kind);
-            write!(
-                out,
-                "<circle class=\"{kind}\" cx=\"{left}\" cy=\"{top}\" r=\"3\"/>\n"
-            )?;
+            push_joint(alloc, out, shown.kind, joint_at(chart, layout, good))?;
         }
-        good = good.saturating_add(1);
     }
     Ok(())
 }
@@ -293,23 +429,55 @@ fn bottom(graph: &Graph, layout: &Layout) -> u32 {
     bottom
 }
 
-/// The drawing of a chart, as SVG.
-pub fn drawing(alloc: Global, table: &str, chart: &Chart) -> Result<String, NoMemory> {
+fn push_head(alloc: Global, out: &mut String, table: &str, width: u32, height: u32) -> Done {
+    let width = Piece::Count(width as u64);
+    let height = Piece::Count(height as u64);
+    put(
+        alloc,
+        out,
+        &[
+            Piece::Text("<svg xmlns=\"http://www.w3.org/2000/svg\" width=\""),
+            width,
+            Piece::Text("\" height=\""),
+            height,
+            Piece::Text("\" viewBox=\"0 0 "),
+            width,
+            Piece::Text(" "),
+            height,
+            Piece::Text("\" role=\"img\" aria-label=\"flow chart of "),
+            Piece::Name(table),
+            Piece::Text("\">\n"),
+        ],
+    )
+}
+
+fn push_laid_out(
+    alloc: Global,
+    out: &mut String,
+    table: &str,
+    chart: &Chart,
+    graph: &Graph,
+    layout: &Layout,
+) -> Done {
+    let width = card_left(last_layer(layout)).saturating_add(CARD + EDGE);
+    let height = bottom(graph, layout).saturating_add(2 * EDGE);
+    push_head(alloc, out, table, width, height)?;
+    push_curves(alloc, out, chart, layout)?;
+    push_joints(alloc, out, chart, layout, graph.arrows.as_slice())?;
+    push_cards(alloc, out, chart, layout)?;
+    put(alloc, out, &[Piece::Text("</svg>\n")])
+}
+
+/// Writes the drawing of a chart.
+pub fn push_drawing(alloc: Global, out: &mut String, table: &str, chart: &Chart) -> Done {
     let graph = graph_of(alloc, chart)?;
     let layout = laid_out(alloc, &graph)?;
-    let width = card_left(last_layer(&layout)).saturating_add(CARD + EDGE);
-    let height = bottom(&graph, &layout).saturating_add(2 * EDGE);
-    let name = escaped(alloc, table)?;
-    let mut out = format!(in alloc;
-        "<svg xmlns=\"http://www.w3.org/2000/svg\" width=\"{width}\" height=\"{height}\" viewBox=\"0 0 {width} {height}\" role=\"img\" aria-label=\"flow chart of {name}\">\n"
-    )?;
-    push_curves(alloc, &mut out, chart, &layout)?;
-    push_joints(&mut out, chart, &layout, graph.arrows.as_slice())?;
-    let mut node: usize = 0;
-    for card in chart.cards.as_slice() {
-        push_card(alloc, &mut out, chart, &layout, node, card)?;
-        node = node.saturating_add(1);
-    }
-    out.push_str("</svg>\n")?;
+    push_laid_out(alloc, out, table, chart, &graph, &layout)
+}
+
+/// The drawing of a chart, as SVG.
+pub fn drawing(alloc: Global, table: &str, chart: &Chart) -> Result<String, NoMemory> {
+    let mut out = String::new(alloc);
+    push_drawing(alloc, &mut out, table, chart)?;
     Ok(out)
 }

@@ -3,6 +3,7 @@ ghost use Rattle.std.specs.Prelude.{◌≡◌, ◌++◌, true, IfOk, OnOk, encod
 ghost use Rattle.std.specs.List.{flat_map, list_all};
 ghost use Rattle.plan_pages.specs.Escape.{escaped, is_harmless, reference};
 
+use crate::Done;
 use plan_base::NoMemory;
 use std::alloc::{AllocError, Global};
 
@@ -42,17 +43,47 @@ pub fn escaped(alloc: Global, plain: &str) -> Result<String, NoMemory>
     Ok(text)
 }
 
+// A letter as it stands in a label.
+fn push_labelled(text: &mut String, letter: char) -> Result<(), AllocError> {
+    match letter {
+        '\\' => text.push_str("\\\\"),
+        '\0'..='\x1f' => text.push('\u{fffd}'),
+        _ => text.push(letter),
+    }
+}
+
+/// A text as it stands in a label: Graphviz reads two backslashes as one, and breaks lines or ends at letters below the space.
+pub fn label(alloc: Global, plain: &str) -> Result<String, NoMemory>
+    ensures harmless { IfOk result (λ text. list_all is_harmless (string_bytes text) ≡ true) }
+{
+    let mut text = String::new(alloc);
+    push_labels(&mut text, plain)?;
+    escaped(alloc, text.as_str())
+}
+
+fn push_labels(text: &mut String, plain: &str) -> Done {
+    for letter in plain.chars() {
+        push_labelled(text, letter)?;
+    }
+    Ok(())
+}
+
 /// The first letters of a text, and dots where some are left out.
 pub fn cut(alloc: Global, plain: &str, most: usize) -> Result<String, NoMemory> {
     let mut text = String::new(alloc);
-    let mut count = 0;
+    push_first(&mut text, plain, most)?;
+    Ok(text)
+}
+
+fn push_first(text: &mut String, plain: &str, most: usize) -> Done {
+    let mut left = most;
     for letter in plain.chars() {
-        if count >= most {
+        if left == 0 {
             text.push_str("…")?;
-            return Ok(text);
+            return Ok(());
         }
         text.push(letter)?;
-        count += 1;
+        left -= 1;
     }
-    Ok(text)
+    Ok(())
 }

@@ -102,93 +102,199 @@ fn move_right(graph: &Graph, node: usize, layers: &mut [u32]) {
     }
 }
 
+fn place_node(
+    graph: &Graph,
+    node: usize,
+    waits: &mut [u32],
+    placed: &mut [u32],
+    layers: &mut [u32],
+    order: &mut Vec<usize>,
+) -> Done {
+    order.push(node)?;
+    set(placed, node, 1);
+    move_followers(graph, node, waits, placed, layers);
+    Ok(())
+}
+
+// Gives each node its place in the order, and its layer. Answers whether each got one.
+fn place_nodes(
+    graph: &Graph,
+    waits: &mut [u32],
+    placed: &mut [u32],
+    layers: &mut [u32],
+    order: &mut Vec<usize>,
+) -> Result<bool, NoMemory> {
+    for _ in 0..graph.heights.len() {
+        match next_node(graph, waits, placed) {
+            Some(node) => place_node(graph, node, waits, placed, layers, order)?,
+            None => return Ok(false),
+        }
+    }
+    Ok(true)
+}
+
+fn place_all(
+    alloc: Global,
+    graph: &Graph,
+    layers: &mut [u32],
+    order: &mut Vec<usize>,
+) -> Result<bool, NoMemory> {
+    let mut placed = vec![in alloc; 0u32; graph.heights.len()]?;
+    let mut waits = counts_in(alloc, graph)?;
+    place_nodes(
+        graph,
+        waits.as_mut_slice(),
+        placed.as_mut_slice(),
+        layers,
+        order,
+    )
+}
+
+fn move_all_right(graph: &Graph, order: &[usize], layers: &mut [u32]) {
+    for node in order.iter().rev() {
+        move_right(graph, *node, layers);
+    }
+}
+
+fn set_layers(alloc: Global, graph: &Graph, layers: &mut [u32]) -> Done {
+    let mut order: Vec<usize> = Vec::new(alloc);
+    if place_all(alloc, graph, layers, &mut order)? {
+        move_all_right(graph, order.as_slice(), layers);
+    }
+    Ok(())
+}
+
 // The layer of each node: behind all that it takes, but where a circle is cut.
 fn layers_of(alloc: Global, graph: &Graph) -> Result<Vec<u32>, NoMemory> {
-    let count = graph.heights.len();
-    let mut layers = vec![in alloc; 0u32; count]?;
-    let mut placed = vec![in alloc; 0u32; count]?;
-    let mut order: Vec<usize> = Vec::new(alloc);
-    let mut waits = counts_in(alloc, graph)?;
-    for _ in 0..count {
-        let Some(node) = next_node(graph, waits.as_slice(), placed.as_slice()) else {
-            return Ok(layers);
-        };
-        set(placed.as_mut_slice(), node, 1);
-        order.push(node)?;
-        move_followers(
-            graph,
-            node,
-            waits.as_mut_slice(),
-            placed.as_slice(),
-            layers.as_mut_slice(),
-        );
-    }
-    for node in order.as_slice().iter().rev() {
-        move_right(graph, *node, layers.as_mut_slice());
-    }
+    let mut layers = vec![in alloc; 0u32; graph.heights.len()]?;
+    set_layers(alloc, graph, layers.as_mut_slice())?;
     Ok(layers)
 }
 
-// Where the middle of each node of a layer is drawn to: the middle of what it is joined with on one side, and how many that is.
-fn pulls(
+// The end of an arrow that is moved, and the other.
+fn ends(arrow: Arrow, from_left: bool) -> (usize, usize) {
+    if from_left {
+        (arrow.to, arrow.from)
+    } else {
+        (arrow.from, arrow.to)
+    }
+}
+
+fn is_before(other: u32, layer: u32, from_left: bool) -> bool {
+    if from_left {
+        other < layer
+    } else {
+        other > layer
+    }
+}
+
+// The middle of a node.
+fn middle_of(graph: &Graph, tops: &[u32], node: usize) -> u32 {
+    at(tops, node).saturating_add(at(graph.heights.as_slice(), node) / 2)
+}
+
+// Whether an arrow joins a node of a layer with one on the side that it is drawn to.
+fn is_pulling(layers: &[u32], layer: u32, near: usize, far: usize, from_left: bool) -> bool {
+    at(layers, near) == layer && is_before(at(layers, far), layer, from_left)
+}
+
+fn add(numbers: &mut [u32], node: usize, more: u32) {
+    let sum = at(numbers, node).saturating_add(more);
+    set(numbers, node, sum);
+}
+
+// Where the middle of each node of a layer is drawn to: the middles of what it is joined with on one side together, and how many
+// these are.
+fn pull(
+    graph: &Graph,
+    layout: &Layout,
+    layer: u32,
+    from_left: bool,
+    sums: &mut [u32],
+    counts: &mut [u32],
+) {
+    for arrow in graph.arrows.as_slice() {
+        let (near, far) = ends(*arrow, from_left);
+        if is_pulling(layout.layers.as_slice(), layer, near, far, from_left) {
+            add(sums, near, middle_of(graph, layout.tops.as_slice(), far));
+            add(counts, near, 1);
+        }
+    }
+}
+
+// Where the middle of a node is to be.
+fn drawn_to(middle: u32, sum: u32, count: u32) -> u32 {
+    if count == 0 { middle } else { sum / count }
+}
+
+fn is_member(graph: &Graph, layout: &Layout, layer: u32, node: usize) -> bool {
+    let is_card = node < graph.first_joint;
+    at(layout.layers.as_slice(), node) == layer && is_card == (layer % 2 == 0)
+}
+
+// The nodes of a layer, each with where its middle is drawn to.
+fn add_members(
+    graph: &Graph,
+    layout: &Layout,
+    layer: u32,
+    sums: &[u32],
+    counts: &[u32],
+    members: &mut Vec<(u32, usize)>,
+) -> Done {
+    for node in 0..graph.heights.len() {
+        if is_member(graph, layout, layer, node) {
+            let middle = middle_of(graph, layout.tops.as_slice(), node);
+            members.push((drawn_to(middle, at(sums, node), at(counts, node)), node))?;
+        }
+    }
+    Ok(())
+}
+
+fn find_members(
     alloc: Global,
     graph: &Graph,
     layout: &Layout,
     layer: u32,
     from_left: bool,
-) -> Result<(Vec<u32>, Vec<u32>), NoMemory> {
-    let count = graph.heights.len();
-    let mut sums = vec![in alloc; 0u32; count]?;
-    let mut counts = vec![in alloc; 0u32; count]?;
-    for arrow in graph.arrows.as_slice() {
-        let (near, far) = if from_left {
-            (arrow.to, arrow.from)
-        } else {
-            (arrow.from, arrow.to)
-        };
-        let far_layer = at(layout.layers.as_slice(), far);
-        let is_before = if from_left {
-            far_layer < layer
-        } else {
-            far_layer > layer
-        };
-        if at(layout.layers.as_slice(), near) == layer && is_before {
-            let half = at(graph.heights.as_slice(), far) / 2;
-            let middle = at(layout.tops.as_slice(), far).saturating_add(half);
-            let sum = at(sums.as_slice(), near).saturating_add(middle);
-            set(sums.as_mut_slice(), near, sum);
-            let count = at(counts.as_slice(), near).saturating_add(1);
-            set(counts.as_mut_slice(), near, count);
-        }
+    members: &mut Vec<(u32, usize)>,
+) -> Done {
+    let mut sums = vec![in alloc; 0u32; graph.heights.len()]?;
+    let mut counts = vec![in alloc; 0u32; graph.heights.len()]?;
+    pull(
+        graph,
+        layout,
+        layer,
+        from_left,
+        sums.as_mut_slice(),
+        counts.as_mut_slice(),
+    );
+    add_members(
+        graph,
+        layout,
+        layer,
+        sums.as_slice(),
+        counts.as_slice(),
+        members,
+    )
+}
+
+// Puts nodes below one another, each near where it is drawn to.
+fn stack(graph: &Graph, members: &[(u32, usize)], tops: &mut [u32]) {
+    let mut free = 0;
+    for member in members {
+        let height = at(graph.heights.as_slice(), member.1);
+        let top = member.0.saturating_sub(height / 2).max(free);
+        set(tops, member.1, top);
+        free = top.saturating_add(height).saturating_add(GAP);
     }
-    Ok((sums, counts))
 }
 
 // Puts the nodes of a layer below one another, each near where it is drawn to.
 fn settle(alloc: Global, graph: &Graph, layout: &mut Layout, layer: u32, from_left: bool) -> Done {
-    let (sums, counts) = pulls(alloc, graph, layout, layer, from_left)?;
     let mut members: Vec<(u32, usize)> = Vec::new(alloc);
-    for node in 0..graph.heights.len() {
-        let is_card = node < graph.first_joint;
-        if at(layout.layers.as_slice(), node) == layer && is_card == (layer % 2 == 0) {
-            let half = at(graph.heights.as_slice(), node) / 2;
-            let count = at(counts.as_slice(), node);
-            let middle = if count == 0 {
-                at(layout.tops.as_slice(), node).saturating_add(half)
-            } else {
-                at(sums.as_slice(), node) / count
-            };
-            members.push((middle, node))?;
-        }
-    }
+    find_members(alloc, graph, layout, layer, from_left, &mut members)?;
     members.sort_by_key(|member| member.0)?;
-    let mut free = 0;
-    for member in members.as_slice() {
-        let height = at(graph.heights.as_slice(), member.1);
-        let top = member.0.saturating_sub(height / 2).max(free);
-        set(layout.tops.as_mut_slice(), member.1, top);
-        free = top.saturating_add(height).saturating_add(GAP);
-    }
+    stack(graph, members.as_slice(), layout.tops.as_mut_slice());
     Ok(())
 }
 
@@ -214,21 +320,40 @@ fn move_up(graph: &Graph, tops: &mut [u32]) {
     }
 }
 
+// Settles all layers from the left.
+fn settle_rightward(alloc: Global, graph: &Graph, layout: &mut Layout, last: u32) -> Done
+    requires { last ≤ 1_000_000 }
+{
+    for layer in 0..last + 1 {
+        settle(alloc, graph, layout, layer, true)?;
+    }
+    Ok(())
+}
+
+// Settles all layers from the right.
+fn settle_leftward(alloc: Global, graph: &Graph, layout: &mut Layout, last: u32) -> Done
+    requires { last ≤ 1_000_000 }
+{
+    for left in 0..last + 1 {
+        settle(alloc, graph, layout, last - left, false)?;
+    }
+    Ok(())
+}
+
+// Settles all layers: from the left, from the right, and from the left once more.
+fn settle_all(alloc: Global, graph: &Graph, layout: &mut Layout) -> Done {
+    let last = last_layer(layout);
+    settle_rightward(alloc, graph, layout, last)?;
+    settle_leftward(alloc, graph, layout, last)?;
+    settle_rightward(alloc, graph, layout, last)
+}
+
 /// Lays a graph out.
 pub fn laid_out(alloc: Global, graph: &Graph) -> Result<Layout, NoMemory> {
     let layers = layers_of(alloc, graph)?;
     let tops = vec![in alloc; 0u32; graph.heights.len()]?;
     let mut layout = Layout { layers, tops };
-    let last = last_layer(&layout);
-    for layer in 0..last + 1 {
-        settle(alloc, graph, &mut layout, layer, true)?;
-    }
-    for left in 0..last + 1 {
-        settle(alloc, graph, &mut layout, last - left, false)?;
-    }
-    for layer in 0..last + 1 {
-        settle(alloc, graph, &mut layout, layer, true)?;
-    }
+    settle_all(alloc, graph, &mut layout)?;
     move_up(graph, layout.tops.as_mut_slice());
     Ok(layout)
 }

@@ -17,6 +17,7 @@ mod names;
 mod page;
 mod plans;
 mod style;
+mod writing;
 
 use plan_base::NoMemory;
 

@@ -1,14 +1,8 @@
 //! Names of nodes and goods.
 ghost use Rattle.game_types.specs.Sound.{IsSound};
 
-use crate::Done;
-use crate::decimals::decimal;
-use crate::escape::escaped;
-use fractions::Ratio;
-use game_types::{Activity, Game, Setup};
-use plan_base::{EntityId, GoodId, Kind, NodeId};
-use plan_report::kind_word;
-use std::alloc::Global;
+use game_types::{Activity, Game};
+use plan_base::{EntityId, GoodId, Kind, NodeId, RecipeId, SourceId, TechId};
 
 /// The kind and the name of a node. A node past the last counts as a technology without a name.
 pub fn node_parts(game: &Game, node: NodeId) -> (Kind, &str)
@@ -44,92 +38,41 @@ pub fn machine_name(game: &Game, machine: EntityId) -> &str
     }
 }
 
-pub fn push_machine(alloc: Global, out: &mut String, game: &Game, machine: EntityId) -> Done
-    requires { IsSound game.now }
-{
-    push_name(alloc, out, Kind::Machine, machine_name(game, machine))
+// The name of a recipe, of a source and of a technology.
+fn recipe_name(game: &Game, recipe: RecipeId) -> &str {
+    if recipe.0 < game.recipe_names.len() {
+        game.recipe_names.name_of(recipe.0)
+    } else {
+        ""
+    }
 }
 
-// A name, marked by its kind.
-fn push_name(alloc: Global, out: &mut String, kind: Kind, name: &str) -> Done {
-    let kind = kind_word(kind);
-    let name = escaped(alloc, name)?;
-    write!(
-        out,
-        "<span class=\"{kind}\" title=\"{kind}:{name}\">{name}</span>"
-    )?;
-    Ok(())
+fn source_name(game: &Game, source: SourceId) -> &str {
+    if source.0 < game.source_names.len() {
+        game.source_names.name_of(source.0)
+    } else {
+        ""
+    }
 }
 
-pub fn push_node(alloc: Global, out: &mut String, game: &Game, node: NodeId) -> Done
-    requires { IsSound game.now }
-{
-    let (kind, name) = node_parts(game, node);
-    push_name(alloc, out, kind, name)
-}
-
-pub fn push_good(alloc: Global, out: &mut String, game: &Game, good: GoodId) -> Done
-    requires { IsSound game.now }
-{
-    let (kind, name) = good_parts(game, good);
-    push_name(alloc, out, kind, name)
+fn tech_name(game: &Game, tech: TechId) -> &str {
+    if tech.0 < game.tech_names.len() {
+        game.tech_names.name_of(tech.0)
+    } else {
+        ""
+    }
 }
 
 /// What a row does: its recipe, its source, its fluid or its technology.
-pub fn push_activity(alloc: Global, out: &mut String, game: &Game, setup: &Setup) -> Done
+pub fn activity_parts(game: &Game, activity: Activity) -> (Kind, &str)
     requires { IsSound game.now }
 {
-    match setup.activity {
-        Activity::Craft(recipe) => {
-            let name = if recipe.0 < game.recipe_names.len() {
-                game.recipe_names.name_of(recipe.0)
-            } else {
-                ""
-            };
-            push_name(alloc, out, Kind::Recipe, name)
-        }
-        Activity::Mine(source) => {
-            let name = if source.0 < game.source_names.len() {
-                game.source_names.name_of(source.0)
-            } else {
-                ""
-            };
-            push_name(alloc, out, Kind::Source, name)
-        }
-        Activity::Pump(good) => push_good(alloc, out, game, good),
-        Activity::Boil(good) => push_good(alloc, out, game, good),
-        Activity::Generate => push_name(alloc, out, Kind::Special, "electricity"),
-        Activity::Research(tech) => {
-            let name = if tech.0 < game.tech_names.len() {
-                game.tech_names.name_of(tech.0)
-            } else {
-                ""
-            };
-            push_name(alloc, out, Kind::Tech, name)
-        }
-    }
-}
-
-/// A number: a whole one as it is, any other as a decimal with the fraction beside it.
-pub fn push_number(alloc: Global, out: &mut String, number: &Ratio) -> Done {
-    let exact = number.print(alloc)?;
-    let exact = exact.as_str();
-    if number.denominator() == 1 {
-        out.push_str(exact)?;
-        return Ok(());
-    }
-    let near = decimal(alloc, number)?;
-    write!(out, "{near} <i>{exact}</i>")?;
-    Ok(())
-}
-
-/// A number, or that it is past the limits of fractions.
-pub fn push_figure(alloc: Global, out: &mut String, figure: &Option<Ratio>) -> Done {
-    match figure {
-        Some(number) => push_number(alloc, out, number),
-        None => {
-            out.push_str("wide")?;
-            Ok(())
-        }
+    match activity {
+        Activity::Craft(recipe) => (Kind::Recipe, recipe_name(game, recipe)),
+        Activity::Mine(source) => (Kind::Source, source_name(game, source)),
+        Activity::Pump(good) => good_parts(game, good),
+        Activity::Boil(good) => good_parts(game, good),
+        Activity::Generate => (Kind::Special, "electricity"),
+        Activity::Research(tech) => (Kind::Tech, tech_name(game, tech)),
     }
 }

@@ -3,9 +3,10 @@ ghost use Rattle.game_types.specs.Sound.{IsSound};
 
 use crate::Done;
 use crate::answers::{Site, push_answer, push_refusal};
-use crate::escape::{cut, escaped};
+use crate::escape::cut;
 use crate::plans::{Shown, push_infeasible, push_plan};
 use crate::style::{HEAD, SCRIPT, STYLE};
+use crate::writing::{Piece, put};
 use game_types::Game;
 use linear_table::{Linear, SolveAnswer};
 use plan_base::NoMemory;
@@ -59,13 +60,19 @@ impl Page {
 
     // One more line of the contents.
     fn add_link(&mut self, at: &Site<'_>, table: &str) -> Done {
-        let line = at.line;
-        let name = escaped(at.alloc, table)?;
-        write!(
-            self.contents,
-            "<a href=\"#line{line}\">{name}</a> <small>line {line}</small>\n"
-        )?;
-        Ok(())
+        put(
+            at.alloc,
+            &mut self.contents,
+            &[
+                Piece::Text("<a href=\"#line"),
+                Piece::Count(at.line as u64),
+                Piece::Text("\">"),
+                Piece::Name(table),
+                Piece::Text("</a> <small>line "),
+                Piece::Count(at.line as u64),
+                Piece::Text("</small>\n"),
+            ],
+        )
     }
 
     // What the solver says of a table that stood so.
@@ -146,13 +153,19 @@ impl Page {
             line,
             words: words.as_str(),
         };
+        self.add_reply(&at, solved, reply)
+    }
+
+    fn add_reply(&mut self, at: &Site<'_>, solved: Option<(&Table, &Linear)>, reply: &Reply) -> Done
+        requires { IsSound at.now.game.now }
+    {
         match reply {
             Reply::Ok => Ok(()),
             Reply::Nothing => Ok(()),
             Reply::Held => Ok(()),
-            Reply::Solved { .. } => self.add_solved(&at, solved, reply),
-            Reply::Refused { code, .. } => push_refusal(&at, self.refusals.next(), *code, reply),
-            _ => push_answer(&at, self.answers.next(), reply),
+            Reply::Solved { .. } => self.add_solved(at, solved, reply),
+            Reply::Refused { code, .. } => push_refusal(at, self.refusals.next(), *code, reply),
+            _ => push_answer(at, self.answers.next(), reply),
         }
     }
 
@@ -162,39 +175,85 @@ impl Page {
     ///
     /// `NoMemory` where memory could not be had.
     pub fn text(&self, alloc: Global) -> Result<String, NoMemory> {
-        let plans = self.plans.count;
-        let answers = self.answers.count;
-        let refusals = self.refusals.count;
-        let mut out = String::from_str(alloc, HEAD)?;
-        write!(
-            out,
-            "<style>{STYLE}</style></head>\n<body>\n<header><h1>Plans</h1><p>plans {plans} · answers {answers} · refusals {refusals}</p><input id=\"find\" type=\"search\" placeholder=\"find\" aria-label=\"find\"></header>\n"
-        )?;
-        if plans > 0 {
-            let contents = self.contents.as_str();
-            write!(out, "<nav>\n{contents}</nav>\n")?;
-        }
-        out.push_str("<main>\n")?;
-        out.push_str(self.plans.text.as_str())?;
-        push_part(&mut out, "answers", &self.answers)?;
-        push_part(&mut out, "refusals", &self.refusals)?;
-        write!(
-            out,
-            "</main>\n<script>{SCRIPT}</script>\n</body>\n</html>\n"
-        )?;
+        let mut out = String::new(alloc);
+        self.push_whole(alloc, &mut out)?;
         Ok(out)
+    }
+
+    fn push_whole(&self, alloc: Global, out: &mut String) -> Done {
+        self.push_front(alloc, out)?;
+        put(
+            alloc,
+            out,
+            &[
+                Piece::Text("<main>\n"),
+                Piece::Text(self.plans.text.as_str()),
+            ],
+        )?;
+        push_part(alloc, out, "answers", &self.answers)?;
+        push_part(alloc, out, "refusals", &self.refusals)?;
+        put(
+            alloc,
+            out,
+            &[
+                Piece::Text("</main>\n<script>"),
+                Piece::Text(SCRIPT),
+                Piece::Text("</script>\n</body>\n</html>\n"),
+            ],
+        )
+    }
+
+    // The head of the page, and the contents where there is a plan.
+    fn push_front(&self, alloc: Global, out: &mut String) -> Done {
+        put(
+            alloc,
+            out,
+            &[
+                Piece::Text(HEAD),
+                Piece::Text("<style>"),
+                Piece::Text(STYLE),
+                Piece::Text("</style></head>\n<body>\n<header><h1>Plans</h1><p>plans "),
+                Piece::Count(self.plans.count as u64),
+                Piece::Text(" · answers "),
+                Piece::Count(self.answers.count as u64),
+                Piece::Text(" · refusals "),
+                Piece::Count(self.refusals.count as u64),
+                Piece::Text(
+                    "</p><input id=\"find\" type=\"search\" placeholder=\"find\" aria-label=\"find\"></header>\n",
+                ),
+            ],
+        )?;
+        if self.plans.count == 0 {
+            return Ok(());
+        }
+        put(
+            alloc,
+            out,
+            &[
+                Piece::Text("<nav>\n"),
+                Piece::Text(self.contents.as_str()),
+                Piece::Text("</nav>\n"),
+            ],
+        )
     }
 }
 
 // A part of the page that can be folded, where there is something in it.
-fn push_part(out: &mut String, name: &str, part: &Part) -> Done {
-    let count = part.count;
-    let text = part.text.as_str();
-    if count > 0 {
-        write!(
-            out,
-            "<details open class=\"part\"><summary><h2>{name}</h2> <span>{count}</span></summary>\n{text}</details>\n"
-        )?;
+fn push_part<'a>(alloc: Global, out: &mut String, name: &'a str, part: &'a Part) -> Done {
+    if part.count == 0 {
+        return Ok(());
     }
-    Ok(())
+    put(
+        alloc,
+        out,
+        &[
+            Piece::Text("<details open class=\"part\"><summary><h2>"),
+            Piece::Text(name),
+            Piece::Text("</h2> <span>"),
+            Piece::Count(part.count as u64),
+            Piece::Text("</span></summary>\n"),
+            Piece::Text(part.text.as_str()),
+            Piece::Text("</details>\n"),
+        ],
+    )
 }

@@ -3,17 +3,21 @@ ghost use Rattle.game_types.specs.Sound.{IsSound};
 
 use crate::Done;
 use crate::answers::Site;
-use crate::cards::chart_of;
-use crate::drawings::drawing;
-use crate::escape::escaped;
-use crate::names::{push_activity, push_figure, push_good, push_machine, push_number};
+use crate::cards::Chart;
+use crate::drawings::push_drawing;
+use crate::names::{activity_parts, good_parts, machine_name};
+use crate::writing::{Piece, put};
 use fractions::Ratio;
 use game_types::Game;
 use linear_table::{Column, Linear, Plan};
-use plan_base::GoodId;
+use plan_base::{GoodId, Kind};
 use plan_report::Figures;
 use production_table::{Table, TableRow};
 use std::alloc::Global;
+
+// What is written below the head of a table that has no plan.
+const NO_PLAN: &str =
+    "</small></summary>\n<p>By these prices no row gains, and what is wanted is worth something: so there is no plan.</p>\n<div class=\"wide\"><table class=\"goods\"><thead><tr><th>good</th><th>price</th></tr></thead><tbody>\n";
 
 /// A plan of a table, with the table as it stood.
 #[derive(Drop)]
@@ -26,56 +30,68 @@ pub struct Shown<'a> {
     pub total: &'a Figures,
 }
 
-fn push_cell(alloc: Global, out: &mut String, figure: &Option<Ratio>) -> Done {
-    out.push_str("<td>")?;
-    push_figure(alloc, out, figure)?;
-    out.push_str("</td>")?;
-    Ok(())
-}
-
 // The cells of what rows take: power, drain, beacons and pollution.
-fn push_uses(alloc: Global, out: &mut String, figures: &Figures) -> Done {
-    push_cell(alloc, out, &figures.power)?;
-    push_cell(alloc, out, &figures.drain)?;
-    push_cell(alloc, out, &figures.beacons)?;
-    push_cell(alloc, out, &figures.pollution)
+fn uses(figures: &Figures) -> [Piece<'_>; 4] {
+    [
+        Piece::Cell(&figures.power),
+        Piece::Cell(&figures.drain),
+        Piece::Cell(&figures.beacons),
+        Piece::Cell(&figures.pollution),
+    ]
 }
 
-fn push_row(
-    alloc: Global,
-    out: &mut String,
-    game: &Game,
-    row: &TableRow,
-    rate: &Ratio,
-    figures: &Figures,
-) -> Done
-    requires { IsSound game.now }
-{
-    let label = escaped(alloc, row.label.as_str())?;
-    let idle = if rate.is_zero() {
+// The mark of a row that stands still.
+fn idle(rate: &Ratio) -> &'static str {
+    if rate.is_zero() {
         " class=\"idle\""
     } else {
         ""
-    };
-    write!(out, "<tr data-f{idle}><th>{label}</th><td>")?;
-    push_activity(alloc, out, game, &row.setup)?;
-    out.push_str("</td><td>")?;
-    push_machine(alloc, out, game, row.setup.machine)?;
-    out.push_str("</td><td>")?;
-    push_number(alloc, out, rate)?;
-    out.push_str("</td>")?;
-    push_cell(alloc, out, &figures.machines)?;
-    push_cell(alloc, out, &figures.count)?;
-    push_uses(alloc, out, figures)?;
-    out.push_str("</tr>\n")?;
-    Ok(())
+    }
+}
+
+fn push_row<'a>(
+    alloc: Global,
+    out: &mut String,
+    game: &'a Game,
+    row: &'a TableRow,
+    rate: &'a Ratio,
+    figures: &'a Figures,
+) -> Done
+    requires { IsSound game.now }
+{
+    let (kind, name) = activity_parts(game, row.setup.activity);
+    put(
+        alloc,
+        out,
+        &[
+            Piece::Text("<tr data-f"),
+            Piece::Text(idle(rate)),
+            Piece::Text("><th>"),
+            Piece::Name(row.label.as_str()),
+            Piece::Text("</th><td>"),
+            Piece::Thing(kind, name),
+            Piece::Text("</td><td>"),
+            Piece::Thing(Kind::Machine, machine_name(game, row.setup.machine)),
+            Piece::Text("</td><td>"),
+            Piece::Number(rate),
+            Piece::Text("</td>"),
+            Piece::Cell(&figures.machines),
+            Piece::Cell(&figures.count),
+        ],
+    )?;
+    put(alloc, out, &uses(figures))?;
+    put(alloc, out, &[Piece::Text("</tr>\n")])
 }
 
 fn push_rows(alloc: Global, out: &mut String, shown: &Shown<'_>) -> Done
     requires { IsSound shown.now.game.now }
 {
-    out.push_str(
-        "<div class=\"wide\"><table class=\"rows\"><thead><tr><th>row</th><th>does</th><th>by</th><th>crafts/s</th><th>machines</th><th>whole</th><th>power W</th><th>drain W</th><th>beacons W</th><th>pollution/min</th></tr></thead><tbody>\n",
+    put(
+        alloc,
+        out,
+        &[Piece::Text(
+            "<div class=\"wide\"><table class=\"rows\"><thead><tr><th>row</th><th>does</th><th>by</th><th>crafts/s</th><th>machines</th><th>whole</th><th>power W</th><th>drain W</th><th>beacons W</th><th>pollution/min</th></tr></thead><tbody>\n",
+        )],
     )?;
     let rates = shown.plan.rates.as_slice();
     for (row, (rate, figures)) in shown
@@ -87,10 +103,15 @@ fn push_rows(alloc: Global, out: &mut String, shown: &Shown<'_>) -> Done
     {
         push_row(alloc, out, shown.game, row, rate, figures)?;
     }
-    out.push_str("</tbody><tfoot><tr><th>total</th><td></td><td></td><td></td><td></td><td></td>")?;
-    push_uses(alloc, out, shown.total)?;
-    out.push_str("</tr></tfoot></table></div>\n")?;
-    Ok(())
+    put(
+        alloc,
+        out,
+        &[Piece::Text(
+            "</tbody><tfoot><tr><th>total</th><td></td><td></td><td></td><td></td><td></td>",
+        )],
+    )?;
+    put(alloc, out, &uses(shown.total))?;
+    put(alloc, out, &[Piece::Text("</tr></tfoot></table></div>\n")])
 }
 
 // The rate at which a good comes in or goes out, 0 where it doesn't.
@@ -109,21 +130,76 @@ fn stream(shown: &Shown<'_>, wanted: Column) -> Ratio {
     Ratio::zero()
 }
 
-// A number, or nothing for 0.
-fn push_some(alloc: Global, out: &mut String, number: &Ratio) -> Done {
-    out.push_str("<td>")?;
-    if !number.is_zero() {
-        push_number(alloc, out, number)?;
+// A cell with a number, or with nothing for 0.
+fn push_some(alloc: Global, out: &mut String, number: Ratio) -> Done {
+    if number.is_zero() {
+        return put(alloc, out, &[Piece::Text("<td></td>")]);
     }
-    out.push_str("</td>")?;
-    Ok(())
+    put(
+        alloc,
+        out,
+        &[
+            Piece::Text("<td>"),
+            Piece::Number(&number),
+            Piece::Text("</td>"),
+        ],
+    )
+}
+
+fn push_good(alloc: Global, out: &mut String, game: &Game, good: GoodId) -> Done
+    requires { IsSound game.now }
+{
+    let (kind, name) = good_parts(game, good);
+    put(
+        alloc,
+        out,
+        &[
+            Piece::Text("<tr data-f><th>"),
+            Piece::Thing(kind, name),
+            Piece::Text("</th>"),
+        ],
+    )
+}
+
+// The last cell of a good.
+fn push_price(alloc: Global, out: &mut String, price: &Ratio) -> Done {
+    put(
+        alloc,
+        out,
+        &[
+            Piece::Text("<td>"),
+            Piece::Number(price),
+            Piece::Text("</td></tr>\n"),
+        ],
+    )
+}
+
+fn push_streams(
+    alloc: Global,
+    out: &mut String,
+    shown: &Shown<'_>,
+    good: GoodId,
+    want: &Ratio,
+    price: &Ratio,
+) -> Done
+    requires { IsSound shown.now.game.now }
+{
+    push_good(alloc, out, shown.game, good)?;
+    push_some(alloc, out, *want)?;
+    push_some(alloc, out, stream(shown, Column::Import(good)))?;
+    push_some(alloc, out, stream(shown, Column::Surplus(good)))?;
+    push_price(alloc, out, price)
 }
 
 fn push_goods(alloc: Global, out: &mut String, shown: &Shown<'_>) -> Done
     requires { IsSound shown.now.game.now }
 {
-    out.push_str(
-        "<div class=\"wide\"><table class=\"goods\"><thead><tr><th>good</th><th>wanted/s</th><th>import/s</th><th>surplus/s</th><th>price</th></tr></thead><tbody>\n",
+    put(
+        alloc,
+        out,
+        &[Piece::Text(
+            "<div class=\"wide\"><table class=\"goods\"><thead><tr><th>good</th><th>wanted/s</th><th>import/s</th><th>surplus/s</th><th>price</th></tr></thead><tbody>\n",
+        )],
     )?;
     for (good, (want, price)) in shown.linear.goods.as_slice().iter().zip(
         shown
@@ -133,41 +209,76 @@ fn push_goods(alloc: Global, out: &mut String, shown: &Shown<'_>) -> Done
             .iter()
             .zip(shown.plan.prices.as_slice()),
     ) {
-        out.push_str("<tr data-f><th>")?;
-        push_good(alloc, out, shown.game, *good)?;
-        out.push_str("</th>")?;
-        push_some(alloc, out, want)?;
-        push_some(alloc, out, &stream(shown, Column::Import(*good)))?;
-        push_some(alloc, out, &stream(shown, Column::Surplus(*good)))?;
-        out.push_str("<td>")?;
-        push_number(alloc, out, price)?;
-        out.push_str("</td></tr>\n")?;
+        push_streams(alloc, out, shown, *good, want, price)?;
     }
-    out.push_str("</tbody></table></div>\n")?;
-    Ok(())
+    put(alloc, out, &[Piece::Text("</tbody></table></div>\n")])
+}
+
+fn push_picture(alloc: Global, out: &mut String, shown: &Shown<'_>) -> Done
+    requires { IsSound shown.now.game.now }
+{
+    let mut chart = Chart::new(alloc);
+    chart.show(alloc, shown)?;
+    push_drawing(alloc, out, shown.table.name.as_str(), &chart)
 }
 
 /// A plan: its drawing, its rows and its goods with their prices.
 pub fn push_plan(alloc: Global, out: &mut String, line: u32, shown: &Shown<'_>) -> Done
     requires { IsSound shown.now.game.now }
 {
-    let name = escaped(alloc, shown.table.name.as_str())?;
-    write!(
+    put(
+        alloc,
         out,
-        "<details open class=\"plan\" id=\"line{line}\"><summary><h2>{name}</h2> <span>costs "
+        &[
+            Piece::Text("<details open class=\"plan\" id=\"line"),
+            Piece::Count(line as u64),
+            Piece::Text("\"><summary><h2>"),
+            Piece::Name(shown.table.name.as_str()),
+            Piece::Text("</h2> <span>costs "),
+            Piece::Number(&shown.plan.cost),
+            Piece::Text("</span> <small>line "),
+            Piece::Count(line as u64),
+            Piece::Text("</small></summary>\n<div class=\"wide chart\" tabindex=\"0\">"),
+        ],
     )?;
-    push_number(alloc, out, &shown.plan.cost)?;
-    write!(out, "</span> <small>line {line}</small></summary>\n")?;
-    let chart = chart_of(alloc, shown)?;
-    let picture = drawing(alloc, shown.table.name.as_str(), &chart)?;
-    write!(
-        out,
-        "<div class=\"wide chart\" tabindex=\"0\">{picture}</div>\n"
-    )?;
+    push_picture(alloc, out, shown)?;
+    put(alloc, out, &[Piece::Text("</div>\n")])?;
     push_rows(alloc, out, shown)?;
     push_goods(alloc, out, shown)?;
-    out.push_str("</details>\n")?;
+    put(alloc, out, &[Piece::Text("</details>\n")])
+}
+
+fn push_prices(
+    alloc: Global,
+    out: &mut String,
+    game: &Game,
+    goods: &[GoodId],
+    prices: &[Ratio],
+) -> Done
+    requires { IsSound game.now }
+{
+    for (good, price) in goods.iter().zip(prices) {
+        push_good(alloc, out, game, *good)?;
+        push_price(alloc, out, price)?;
+    }
     Ok(())
+}
+
+// The head of a table that has no plan.
+fn push_failed(at: &Site<'_>, out: &mut String, table: &str) -> Done {
+    put(
+        at.alloc,
+        out,
+        &[
+            Piece::Text("<details class=\"plan\" id=\"line"),
+            Piece::Count(at.line as u64),
+            Piece::Text("\"><summary><h2>"),
+            Piece::Name(table),
+            Piece::Text("</h2> <span class=\"bad\">no plan</span> <small>line "),
+            Piece::Count(at.line as u64),
+            Piece::Text(NO_PLAN),
+        ],
+    )
 }
 
 /// That a table has no plan, and the prices that show it.
@@ -180,19 +291,11 @@ pub fn push_infeasible(
 ) -> Done
     requires { IsSound at.now.game.now }
 {
-    let line = at.line;
-    let name = escaped(at.alloc, table)?;
-    write!(
+    push_failed(at, out, table)?;
+    push_prices(at.alloc, out, at.game, goods, prices)?;
+    put(
+        at.alloc,
         out,
-        "<details class=\"plan\" id=\"line{line}\"><summary><h2>{name}</h2> <span class=\"bad\">no plan</span> <small>line {line}</small></summary>\n<p>By these prices no row gains, and what is wanted is worth something: so there is no plan.</p>\n<div class=\"wide\"><table class=\"goods\"><thead><tr><th>good</th><th>price</th></tr></thead><tbody>\n"
-    )?;
-    for (good, price) in goods.iter().zip(prices) {
-        out.push_str("<tr data-f><th>")?;
-        push_good(at.alloc, out, at.game, *good)?;
-        out.push_str("</th><td>")?;
-        push_number(at.alloc, out, price)?;
-        out.push_str("</td></tr>\n")?;
-    }
-    out.push_str("</tbody></table></div></details>\n")?;
-    Ok(())
+        &[Piece::Text("</tbody></table></div></details>\n")],
+    )
 }

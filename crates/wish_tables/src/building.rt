@@ -1,19 +1,19 @@
 //! The table of a wish.
-ghost use Rattle.std.specs.Prelude.{IfOk};
+ghost use Rattle.std.specs.Prelude.{IfOk, OnOk};
 ghost use Rattle.game_types.specs.Sound.{IsSound};
 ghost use Rattle.production_table.specs.Tables.{IsSoundTable};
 ghost use Rattle.wish_tables.specs.Answers.{IsAnswer};
 
 use crate::checking::is_answer;
 use crate::choosing::{State, price_in};
-use crate::names::label_of;
+use crate::names::push_label;
 use crate::pruning::{Pruned, prune};
 use crate::reach::{is_good_marked, is_marked, mined_goods, reached_fuels};
 use crate::setups::is_fitting;
 use crate::walk::{Found, Walk, part_of, walk_back};
 use crate::{Wish, WishFault};
 use fractions::Ratio;
-use game_types::{Activity, Game, Product};
+use game_types::{Activity, Game, Product, Setup};
 use machine_rates::yield_of;
 use plan_base::{GoodId, Items, NoMemory};
 use production_table::{LIMIT, Table, TableFault};
@@ -27,28 +27,39 @@ fn fault_of(alloc: Global, fault: TableFault) -> WishFault {
     }
 }
 
-// The goods of a walk that can't be had and that no row gives; where there are none, all that can't be had.
-fn lacking(alloc: Global, walk: &Walk, had: &[bool]) -> Result<Items<GoodId>, NoMemory> {
-    let mut none = Vec::new(alloc);
-    let mut all = Vec::new(alloc);
-    for good in walk.goods.as_slice() {
-        if !is_good_marked(had, *good) {
-            all.push(*good)?;
-            if !is_given(walk.rows.as_slice(), *good) {
-                none.push(*good)?;
-            }
-        }
-    }
-    if none.is_empty() {
-        Ok(Items::from_vec(all))
-    } else {
-        Ok(Items::from_vec(none))
-    }
-}
-
 fn is_given(rows: &[Found], good: GoodId) -> bool {
     rows.iter()
         .any(|row| part_of(row.column.as_slice(), good).is_positive())
+}
+
+// The goods of a walk that can't be had, and with `none` only those of them that no row gives.
+fn add_lacking(
+    walk: &Walk,
+    had: &[bool],
+    none: bool,
+    goods: &mut Vec<GoodId>,
+) -> Result<(), NoMemory> {
+    for good in walk.goods.as_slice() {
+        if !is_good_marked(had, *good) && !(none && is_given(walk.rows.as_slice(), *good)) {
+            goods.push(*good)?;
+        }
+    }
+    Ok(())
+}
+
+fn find_lacking(walk: &Walk, had: &[bool], goods: &mut Vec<GoodId>) -> Result<(), NoMemory> {
+    add_lacking(walk, had, true, goods)?;
+    if goods.is_empty() {
+        add_lacking(walk, had, false, goods)?;
+    }
+    Ok(())
+}
+
+// The goods of a walk that can't be had and that no row gives; where there are none, all that can't be had.
+fn lacking(alloc: Global, walk: &Walk, had: &[bool]) -> Result<Items<GoodId>, NoMemory> {
+    let mut goods = Vec::new(alloc);
+    find_lacking(walk, had, &mut goods)?;
+    Ok(Items::from_vec(goods))
 }
 
 // What products give of all goods together, without productivity.
@@ -64,11 +75,14 @@ fn units_of(products: &[Product]) -> Ratio {
     units
 }
 
-// How many goods a row gives, and whether it takes any, electricity aside.
+// Whether a part of a row is one that it takes, electricity aside.
+fn is_taken(part: &(GoodId, Ratio), power: GoodId) -> bool {
+    part.0 != power && part.1.is_neg()
+}
+
+// Whether a row takes nothing, electricity aside.
 fn takes_none(column: &[(GoodId, Ratio)], power: GoodId) -> bool {
-    column
-        .iter()
-        .all(|part| part.0 == power || !part.1.is_neg())
+    !column.iter().any(|part| is_taken(part, power))
 }
 
 // What one craft of a row that takes from no other costs: 1 for each unit that it brings. None of other rows.
@@ -95,16 +109,102 @@ fn price_of(game: &Game, row: &Found) -> Option<Ratio>
     }
 }
 
-// A label of a row that the table doesn't have.
-fn free_label(alloc: Global, table: &Table, label: String) -> Result<String, NoMemory> {
-    let mut free = label.clone()?;
+// The label and a number behind it.
+fn renumber(label: &str, number: usize, free: &mut String) -> Result<(), NoMemory> {
+    free.clear();
+    free.push_str(label)?;
+    write!(free, "-{number}")?;
+    Ok(())
+}
+
+// Numbers a label of a row until it is one that the table doesn't have.
+fn make_free(table: &Table, label: &str, free: &mut String) -> Result<(), NoMemory> {
     for number in 2..=LIMIT + 1 {
         if table.find_row(free.as_str()).is_none() {
             break;
         }
-        free = format!(in alloc; "{label}-{number}")?;
+        renumber(label, number, free)?;
     }
+    Ok(())
+}
+
+// A label of a row that the table doesn't have.
+fn free_label(alloc: Global, table: &Table, label: &str) -> Result<String, NoMemory> {
+    let mut free = String::from_str(alloc, label)?;
+    make_free(table, label, &mut free)?;
     Ok(free)
+}
+
+fn row_label(alloc: Global, game: &Game, table: &Table, setup: &Setup) -> Result<String, NoMemory>
+    requires { IsSound game.now }
+{
+    let mut label = String::new(alloc);
+    push_label(game, setup, &mut label)?;
+    free_label(alloc, table, label.as_str())
+}
+
+// Too much of something, where there is.
+fn told<T: Drop>(alloc: Global, done: Result<T, TableFault>) -> Result<(), WishFault> {
+    match done {
+        Ok(_) => Ok(()),
+        Err(fault) => Err(fault_of(alloc, fault)),
+    }
+}
+
+// A set-up comes in, where it can stand in a table. Answers whether it does.
+fn add_setup(
+    alloc: Global,
+    game: &Game,
+    table: &mut Table,
+    label: &str,
+    setup: &Setup,
+) -> Result<bool, WishFault>
+    requires game { IsSound game.now }
+    requires table { IsSoundTable table.old }
+    ensures { IsSoundTable table.new }
+{
+    let setup = setup.copy(alloc)?;
+    if !is_fitting(game, &setup) {
+        return Ok(false);
+    }
+    told(alloc, table.add_row(alloc, game, label, setup))?;
+    Ok(true)
+}
+
+// The price of a row, where it has one.
+fn price_row(
+    alloc: Global,
+    game: &Game,
+    table: &mut Table,
+    label: &str,
+    row: &Found,
+) -> Result<(), WishFault>
+    requires game { IsSound game.now }
+    requires table { IsSoundTable table.old }
+    ensures { IsSoundTable table.new }
+{
+    match price_of(game, row) {
+        Some(price) => told(alloc, table.set_price(alloc, label, &price)),
+        None => Ok(()),
+    }
+}
+
+fn add_labelled(
+    alloc: Global,
+    game: &Game,
+    table: &mut Table,
+    label: &str,
+    row: &Found,
+) -> Result<(), WishFault>
+    requires game { IsSound game.now }
+    requires table { IsSoundTable table.old }
+    ensures { IsSoundTable table.new }
+{
+    if add_setup(alloc, game, table, label, &row.setup)? {
+        price_row(alloc, game, table, label, row)
+    } else {
+        Ok(())
+    }
 }
 
 // A row comes in.
@@ -113,21 +213,8 @@ fn add_row(alloc: Global, game: &Game, table: &mut Table, row: &Found) -> Result
     requires table { IsSoundTable table.old }
     ensures { IsSoundTable table.new }
 {
-    let label = label_of(alloc, game, &row.setup)?;
-    let label = free_label(alloc, table, label)?;
-    let setup = row.setup.copy(alloc)?;
-    if !is_fitting(game, &setup) {
-        return Ok(());
-    }
-    if let Err(fault) = table.add_row(alloc, game, label.as_str(), setup) {
-        return Err(fault_of(alloc, fault));
-    }
-    if let Some(price) = price_of(game, row) {
-        if let Err(fault) = table.set_price(alloc, label.as_str(), &price) {
-            return Err(fault_of(alloc, fault));
-        }
-    }
-    Ok(())
+    let label = row_label(alloc, game, table, &row.setup)?;
+    add_labelled(alloc, game, table, label.as_str(), row)
 }
 
 // The price at which a good that is taken as it is comes in.
@@ -152,10 +239,10 @@ fn add_import(
     if !is_good_marked(walk.raw.as_slice(), good) {
         return Ok(());
     }
-    match table.set_import(alloc, good, Some(import_price(wish, good))) {
-        Ok(_) => Ok(()),
-        Err(fault) => Err(fault_of(alloc, fault)),
-    }
+    told(
+        alloc,
+        table.set_import(alloc, good, Some(import_price(wish, good))),
+    )
 }
 
 // How many goods a row gives.
@@ -183,10 +270,7 @@ fn add_surplus(
     if good == wish.good || !amount.is_positive() {
         return Ok(());
     }
-    match table.set_surplus(alloc, good, Some(Ratio::zero())) {
-        Ok(_) => Ok(()),
-        Err(fault) => Err(fault_of(alloc, fault)),
-    }
+    told(alloc, table.set_surplus(alloc, good, Some(Ratio::zero())))
 }
 
 // What a row gives beside another good may go out.
@@ -266,6 +350,78 @@ fn add_rows(
     Ok(())
 }
 
+// What the pruned walk needs comes in.
+fn fill_from(
+    alloc: Global,
+    game: &Game,
+    wish: &Wish,
+    walk: &Walk,
+    pruned: &Pruned,
+    table: &mut Table,
+) -> Result<(), WishFault>
+    requires game { IsSound game.now }
+    requires table { IsSoundTable table.old }
+    ensures { IsSoundTable table.new }
+{
+    if !is_good_marked(pruned.had.as_slice(), wish.good) {
+        return Err(WishFault::Lacking(lacking(alloc, walk, pruned.had.as_slice())?));
+    }
+    told(alloc, table.set_want(alloc, wish.good, &wish.rate))?;
+    add_import(alloc, wish, walk, table, wish.good)?;
+    add_rows(alloc, game, wish, walk, pruned.rows.as_slice(), table)
+}
+
+// The walk of a wish.
+fn walk_of(alloc: Global, game: &Game, reached: &[bool], wish: &Wish) -> Result<Walk, WishFault>
+    requires { IsSound game.now }
+{
+    let mined = mined_goods(alloc, game, reached)?;
+    let fuels = reached_fuels(alloc, game, reached)?;
+    let state = State {
+        reached,
+        mined: mined.as_slice(),
+        fuels: fuels.as_slice(),
+    };
+    walk_back(alloc, game, state, wish)
+}
+
+fn fill(
+    alloc: Global,
+    game: &Game,
+    reached: &[bool],
+    wish: &Wish,
+    table: &mut Table,
+) -> Result<(), WishFault>
+    requires game { IsSound game.now }
+    requires table { IsSoundTable table.old }
+    ensures { IsSoundTable table.new }
+{
+    let walk = walk_of(alloc, game, reached, wish)?;
+    let pruned = prune(alloc, game, &walk, wish.good)?;
+    fill_from(alloc, game, wish, &walk, &pruned, table)
+}
+
+// Fills the table of a wish, and looks whether it is one for it.
+fn make(
+    alloc: Global,
+    game: &Game,
+    reached: &[bool],
+    wish: &Wish,
+    table: &mut Table,
+) -> Result<(), WishFault>
+    requires game { IsSound game.now }
+    requires table { IsSoundTable table.old }
+    ensures { OnOk result (IsAnswer game.now reached.now wish.now.good wish.now.rate table.new) }
+{
+    table.set_power(wish.power);
+    fill(alloc, game, reached, wish, table)?;
+    if is_answer(alloc, game, reached, wish.good, &wish.rate, table)? {
+        Ok(())
+    } else {
+        Err(WishFault::Lacking(Items::from_vec(Vec::new(alloc))))
+    }
+}
+
 /// The table of a name for a wish.
 ///
 /// # Errors
@@ -281,28 +437,7 @@ pub fn wish_table(
     requires { IsSound game.now }
     ensures { IfOk result (IsAnswer game.now reached.now wish.now.good wish.now.rate) }
 {
-    let mined = mined_goods(alloc, game, reached)?;
-    let fuels = reached_fuels(alloc, game, reached)?;
-    let state = State {
-        reached,
-        mined: mined.as_slice(),
-        fuels: fuels.as_slice(),
-    };
-    let walk = walk_back(alloc, game, state, wish)?;
-    let Pruned { rows, had } = prune(alloc, game, &walk, wish.good)?;
-    if !is_good_marked(had.as_slice(), wish.good) {
-        return Err(WishFault::Lacking(lacking(alloc, &walk, had.as_slice())?));
-    }
     let mut table = Table::make(alloc, name)?;
-    table.set_power(wish.power);
-    if let Err(fault) = table.set_want(alloc, wish.good, &wish.rate) {
-        return Err(fault_of(alloc, fault));
-    }
-    add_import(alloc, wish, &walk, &mut table, wish.good)?;
-    add_rows(alloc, game, wish, &walk, rows.as_slice(), &mut table)?;
-    if is_answer(alloc, game, reached, wish.good, &wish.rate, &table)? {
-        Ok(table)
-    } else {
-        Err(WishFault::Lacking(Items::from_vec(Vec::new(alloc))))
-    }
+    make(alloc, game, reached, wish, &mut table)?;
+    Ok(table)
 }

@@ -45,11 +45,18 @@ fn are_reached(game: &Game, reached: &[bool], rows: &[TableRow]) -> bool
     rows.iter().all(|row| is_row_reached(game, reached, row))
 }
 
+fn is_row_fitting(game: &Game, row: &TableRow) -> bool
+    requires { IsSound game.now }
+    ensures { OnTrue result (IsFitting game.now row.now.setup) }
+{
+    is_fitting(game, &row.setup)
+}
+
 fn are_fitting(game: &Game, rows: &[TableRow]) -> bool
     requires { IsSound game.now }
     ensures { OnTrue result (All (λ row. IsFitting game.now row.setup) rows.now) }
 {
-    rows.iter().all(|row| is_fitting(game, &row.setup))
+    rows.iter().all(|row| is_row_fitting(game, row))
 }
 
 // What one craft a second of a row adds to each good, and nothing where that is too wide.

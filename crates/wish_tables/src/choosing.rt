@@ -3,7 +3,7 @@ ghost use Rattle.game_types.specs.Sound.{IsSound};
 
 use crate::Wish;
 use crate::reach::{is_good_marked, is_reached};
-use crate::setups::{bare_setup, dressed, machines_of, takes_in};
+use crate::setups::{Bare, dressed, machines_of, setup_with, takes_in};
 use fractions::Ratio;
 use game_types::{Activity, Energy, Game, MachineKind, Setup, holds, takes_fuel};
 use plan_base::{EntityId, GoodId, Kind, NoMemory};
@@ -26,6 +26,11 @@ pub fn price_in(imports: &[(GoodId, Ratio)], good: GoodId) -> Option<Ratio> {
         }
     }
     None
+}
+
+/// Whether the wish imports a good.
+pub fn is_import(wish: &Wish, good: GoodId) -> bool {
+    price_in(wish.imports.as_slice(), good).is_some()
 }
 
 // A fuel, whether it is taken as it is, and its energy.
@@ -69,8 +74,7 @@ fn burnt(game: &Game, energy: &Energy, good: GoodId, raw: bool) -> Option<FuelCh
 fn best_fuel(game: &Game, state: State<'_>, wish: &Wish, energy: &Energy) -> Option<GoodId> {
     let mut best = None;
     for good in state.fuels {
-        let raw = is_good_marked(state.mined, *good)
-            || price_in(wish.imports.as_slice(), *good).is_some();
+        let raw = is_good_marked(state.mined, *good) || is_import(wish, *good);
         if let Some(other) = burnt(game, energy, *good, raw) {
             best = better_fuel(best, other);
         }
@@ -145,13 +149,13 @@ fn takes_those(game: &Game, setup: &Setup) -> bool
     }
 }
 
-// A set-up that can stand in a table, and what it is chosen by.
-#[derive(Drop)]
+// A machine whose set-up can stand in a table, and what it is chosen by.
+#[derive(Clone, Copy)]
 struct Candidate {
-    setup: Setup,
+    machine: EntityId,
+    fuel: Option<GoodId>,
     preferred: bool,
     machines: Ratio,
-    burns: bool,
 }
 
 // Whether a candidate comes before another: machines of the wish, then faster ones, then those that burn nothing.
@@ -162,20 +166,48 @@ fn is_better(one: &Candidate, other: &Candidate) -> bool {
     match one.machines.cmp(&other.machines) {
         Ordering::Less => true,
         Ordering::Greater => false,
-        Ordering::Equal => other.burns && !one.burns,
+        Ordering::Equal => other.fuel.is_some() && one.fuel.is_none(),
     }
 }
 
 fn better(best: Option<Candidate>, other: Candidate) -> Option<Candidate> {
     match best {
-        Some(best) => {
-            if is_better(&other, &best) {
-                Some(other)
-            } else {
-                Some(best)
-            }
-        }
-        None => Some(other),
+        Some(best) if !is_better(&other, &best) => Some(best),
+        _ => Some(other),
+    }
+}
+
+// How many machines one craft a second takes, where the set-up can stand in a table so.
+fn count_with(alloc: Global, game: &Game, bare: &Bare<'_>) -> Result<Option<Ratio>, NoMemory>
+    requires { IsSound game.now }
+{
+    let setup = setup_with(alloc, game, bare, None, None)?;
+    if takes_those(game, &setup) {
+        Ok(machines_of(game, &setup))
+    } else {
+        Ok(None)
+    }
+}
+
+// The fuel of a machine that may do something, if it burns any. None where it may not.
+fn fuel_with(
+    game: &Game,
+    state: State<'_>,
+    wish: &Wish,
+    activity: Activity,
+    number: EntityId,
+    at: &[GoodId],
+) -> Option<Option<GoodId>>
+    requires { IsSound game.now }
+{
+    if !is_reached(game, state.reached, Kind::Machine, number.0) {
+        return None;
+    }
+    let machine = game.machines.as_slice().get(number.0 as usize)?;
+    if may_do(game, number, &machine.kind, activity, at) {
+        Some(fuel_for(game, state, wish, &machine.energy))
+    } else {
+        None
     }
 }
 
@@ -186,34 +218,51 @@ fn as_candidate(
     state: State<'_>,
     wish: &Wish,
     activity: Activity,
-    number: EntityId,
+    machine: EntityId,
     at: &[GoodId],
 ) -> Result<Option<Candidate>, NoMemory>
     requires { IsSound game.now }
 {
-    if !is_reached(game, state.reached, Kind::Machine, number.0) {
-        return Ok(None);
-    }
-    let Some(machine) = game.machines.as_slice().get(number.0 as usize) else {
+    let Some(fuel) = fuel_with(game, state, wish, activity, machine, at) else {
         return Ok(None);
     };
-    if !may_do(game, number, &machine.kind, activity, at) {
+    let bare = Bare {
+        activity,
+        machine,
+        fuel,
+        at,
+    };
+    let Some(machines) = count_with(alloc, game, &bare)? else {
         return Ok(None);
+    };
+    let preferred = wish.by.as_slice().iter().any(|by| *by == machine);
+    Ok(Some(Candidate {
+        machine,
+        fuel,
+        preferred,
+        machines,
+    }))
+}
+
+// The best of the reached machines that do something.
+fn best_candidate(
+    alloc: Global,
+    game: &Game,
+    state: State<'_>,
+    wish: &Wish,
+    activity: Activity,
+    at: &[GoodId],
+) -> Result<Option<Candidate>, NoMemory>
+    requires { IsSound game.now }
+{
+    let mut best = None;
+    for number in 0..game.shape().machines {
+        let other = as_candidate(alloc, game, state, wish, activity, EntityId(number), at)?;
+        if let Some(other) = other {
+            best = better(best, other);
+        }
     }
-    let fuel = fuel_for(game, state, wish, &machine.energy);
-    let setup = bare_setup(alloc, activity, number, fuel, at)?;
-    if !takes_those(game, &setup) {
-        return Ok(None);
-    }
-    match machines_of(game, &setup) {
-        Some(machines) => Ok(Some(Candidate {
-            setup,
-            preferred: wish.by.as_slice().iter().any(|by| *by == number),
-            machines,
-            burns: fuel.is_some(),
-        })),
-        None => Ok(None),
-    }
+    Ok(best)
 }
 
 /// The set-up of the best of the reached machines that do something, with what the wish puts into it. None where no machine does it.
@@ -227,15 +276,14 @@ pub fn best_setup(
 ) -> Result<Option<Setup>, NoMemory>
     requires { IsSound game.now }
 {
-    let mut best = None;
-    for number in 0..game.shape().machines {
-        let other = as_candidate(alloc, game, state, wish, activity, EntityId(number), at)?;
-        if let Some(other) = other {
-            best = better(best, other);
-        }
-    }
-    match best {
-        Some(best) => Ok(Some(dressed(alloc, game, wish, best.setup)?)),
-        None => Ok(None),
-    }
+    let Some(best) = best_candidate(alloc, game, state, wish, activity, at)? else {
+        return Ok(None);
+    };
+    let bare = Bare {
+        activity,
+        machine: best.machine,
+        fuel: best.fuel,
+        at,
+    };
+    Ok(Some(dressed(alloc, game, wish, &bare)?))
 }

@@ -66,46 +66,76 @@ pub fn machine_text(alloc: Global, game: &Game, machine: EntityId) -> Result<Str
     )?)
 }
 
-/// What a set-up does as a word.
-pub fn activity_text(alloc: Global, game: &Game, activity: Activity) -> Result<String, NoMemory>
+// The kind of what a set-up does, and its place among those.
+fn activity_place(game: &Game, activity: Activity) -> (Kind, u32)
     requires { IsSound game.now }
 {
-    let (kind, place) = match activity {
+    match activity {
         Activity::Craft(recipe) => (Kind::Recipe, recipe.0),
         Activity::Mine(source) => (Kind::Source, source.0),
         Activity::Pump(good) => good_place(game, good),
         Activity::Boil(good) => good_place(game, good),
         Activity::Generate => (Kind::Special, 1),
         Activity::Research(tech) => (Kind::Tech, tech.0),
-    };
+    }
+}
+
+/// What a set-up does as a word.
+pub fn activity_text(alloc: Global, game: &Game, activity: Activity) -> Result<String, NoMemory>
+    requires { IsSound game.now }
+{
+    let (kind, place) = activity_place(game, activity);
     Ok(object_word(alloc, kind, name_at(game, kind, place))?)
 }
 
-/// The label of a row: the recipe's name, or what is done and with what.
-pub fn label_of(alloc: Global, game: &Game, setup: &Setup) -> Result<String, NoMemory>
+// What makes electricity is named by the fluid that it takes in, else by its machine.
+fn power_name<'a>(game: &'a Game, machine: EntityId, at: &[GoodId]) -> &'a str
     requires { IsSound game.now }
 {
-    let (verb, name) = match setup.activity {
-        Activity::Craft(recipe) => ("", name_at(game, Kind::Recipe, recipe.0)),
-        Activity::Mine(source) => ("mine:", name_at(game, Kind::Source, source.0)),
-        Activity::Pump(good) => ("pump:", good_name(game, good)),
-        Activity::Boil(good) => ("heat:", good_name(game, good)),
-        Activity::Generate => match setup.at.as_slice().first() {
-            Some(fluid) => ("power:", good_name(game, *fluid)),
-            None => ("power:", name_at(game, Kind::Machine, setup.machine.0)),
-        },
-        Activity::Research(tech) => ("study:", name_at(game, Kind::Tech, tech.0)),
-    };
-    Ok(format!(in alloc; "{verb}{name}")?)
+    match at.first() {
+        Some(fluid) => good_name(game, *fluid),
+        None => name_at(game, Kind::Machine, machine.0),
+    }
 }
 
-/// Names of a kind that have a text in them, at most eight.
-pub fn like_names(alloc: Global, game: &Game, kind: Kind, text: &str) -> Result<Vec<Text>, NoMemory>
+fn label_verb(activity: Activity) -> &'static str {
+    match activity {
+        Activity::Craft(_) => "",
+        Activity::Mine(_) => "mine:",
+        Activity::Pump(_) => "pump:",
+        Activity::Boil(_) => "heat:",
+        Activity::Generate => "power:",
+        Activity::Research(_) => "study:",
+    }
+}
+
+fn label_name<'a>(game: &'a Game, setup: &Setup) -> &'a str
     requires { IsSound game.now }
 {
-    let mut found = Vec::new(alloc);
+    match setup.activity {
+        Activity::Craft(recipe) => name_at(game, Kind::Recipe, recipe.0),
+        Activity::Mine(source) => name_at(game, Kind::Source, source.0),
+        Activity::Pump(good) => good_name(game, good),
+        Activity::Boil(good) => good_name(game, good),
+        Activity::Generate => power_name(game, setup.machine, setup.at.as_slice()),
+        Activity::Research(tech) => name_at(game, Kind::Tech, tech.0),
+    }
+}
+
+/// Writes the label of a row: the recipe's name, or what is done and with what.
+pub fn push_label(game: &Game, setup: &Setup, label: &mut String) -> Result<(), NoMemory>
+    requires { IsSound game.now }
+{
+    label.push_str(label_verb(setup.activity))?;
+    label.push_str(label_name(game, setup))?;
+    Ok(())
+}
+
+fn count_of(game: &Game, kind: Kind) -> u32
+    requires { IsSound game.now }
+{
     let shape = game.shape();
-    let count = match kind {
+    match kind {
         Kind::Special => 0,
         Kind::Item => shape.items,
         Kind::Fluid => shape.fluids,
@@ -113,12 +143,36 @@ pub fn like_names(alloc: Global, game: &Game, kind: Kind, text: &str) -> Result<
         Kind::Source => shape.sources,
         Kind::Machine => shape.machines,
         Kind::Tech => shape.techs,
-    };
-    for place in 0..count {
-        let name = name_at(game, kind, place);
-        if found.len() < 8 && name != text && name.contains(text) {
-            found.push(Text::copy(alloc, name)?)?;
-        }
     }
+}
+
+fn add_like(alloc: Global, name: &str, text: &str, found: &mut Vec<Text>) -> Result<(), NoMemory> {
+    if found.len() < 8 && name != text && name.contains(text) {
+        found.push(Text::copy(alloc, name)?)?;
+    }
+    Ok(())
+}
+
+fn add_all_like(
+    alloc: Global,
+    game: &Game,
+    kind: Kind,
+    text: &str,
+    found: &mut Vec<Text>,
+) -> Result<(), NoMemory>
+    requires { IsSound game.now }
+{
+    for place in 0..count_of(game, kind) {
+        add_like(alloc, name_at(game, kind, place), text, found)?;
+    }
+    Ok(())
+}
+
+/// Names of a kind that have a text in them, at most eight.
+pub fn like_names(alloc: Global, game: &Game, kind: Kind, text: &str) -> Result<Vec<Text>, NoMemory>
+    requires { IsSound game.now }
+{
+    let mut found = Vec::new(alloc);
+    add_all_like(alloc, game, kind, text, &mut found)?;
     Ok(found)
 }

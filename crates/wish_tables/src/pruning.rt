@@ -8,11 +8,19 @@ use game_types::{Activity, Game};
 use plan_base::{GoodId, NoMemory};
 use std::alloc::Global;
 
+// Whether a part of a row is none that it takes, or marked.
+fn is_had(marks: &[bool], part: &(GoodId, Ratio)) -> bool {
+    !part.1.is_neg() || is_good_marked(marks, part.0)
+}
+
+// Whether a part of a row is one that it gives, and marked.
+fn is_wanted(marks: &[bool], part: &(GoodId, Ratio)) -> bool {
+    part.1.is_positive() && is_good_marked(marks, part.0)
+}
+
 // Whether all that a row takes is marked.
 fn has_all(marks: &[bool], column: &[(GoodId, Ratio)]) -> bool {
-    column
-        .iter()
-        .all(|part| !part.1.is_neg() || is_good_marked(marks, part.0))
+    column.iter().all(|part| is_had(marks, part))
 }
 
 // Marks what a row gives.
@@ -35,7 +43,7 @@ fn mark_taken(marks: &mut [bool], column: &[(GoodId, Ratio)]) {
 
 // Whether a row gives something that is marked.
 fn gives_marked(marks: &[bool], column: &[(GoodId, Ratio)]) -> bool {
-    column.iter().any(|part| part.1.is_positive() && is_good_marked(marks, part.0))
+    column.iter().any(|part| is_wanted(marks, part))
 }
 
 // Marks the rows that can run by what is marked, and what they give. Answers whether there was a new one.
@@ -75,14 +83,24 @@ pub struct Pruned {
     pub had: Vec<bool>,
 }
 
-// Marks the rows that can run, one after another, from what is taken as it is and where `power` electricity. Answers them and
-// what can be had.
-fn run_all(
-    alloc: Global,
-    game: &Game,
-    walk: &Walk,
-    power: bool,
-) -> Result<(Vec<bool>, Vec<bool>), NoMemory>
+// Marks of the rows that can run, and of what can be had.
+#[derive(Drop)]
+struct Running {
+    runs: Vec<bool>,
+    had: Vec<bool>,
+}
+
+// Marks the rows that can run, one after another, and what they give.
+fn run_on(rows: &[Found], runs: &mut [bool], had: &mut [bool]) {
+    for _ in 0..=rows.len() {
+        if !run_once(rows, runs, had) {
+            break;
+        }
+    }
+}
+
+// The rows that can run from what is taken as it is and where `power` electricity, and what can be had.
+fn run_all(alloc: Global, game: &Game, walk: &Walk, power: bool) -> Result<Running, NoMemory>
     requires { IsSound game.now }
 {
     let rows = walk.rows.as_slice();
@@ -91,18 +109,65 @@ fn run_all(
         mark_good(had.as_mut_slice(), game.electricity());
     }
     let mut runs = vec![in alloc; false; rows.len()]?;
-    for _ in 0..=rows.len() {
-        if !run_once(rows, runs.as_mut_slice(), had.as_mut_slice()) {
-            break;
-        }
-    }
-    Ok((runs, had))
+    run_on(rows, runs.as_mut_slice(), had.as_mut_slice());
+    Ok(Running { runs, had })
+}
+
+// Whether a row makes electricity and runs.
+fn is_power(runs: &[bool], place: usize, row: &Found) -> bool {
+    row.setup.activity == Activity::Generate && is_marked(runs, place)
 }
 
 // Whether a row that runs makes electricity.
 fn makes_power(rows: &[Found], runs: &[bool]) -> bool {
-    rows.iter().enumerate().any(|(place, row)| row.setup.activity == Activity::Generate
-        && is_marked(runs, place))
+    rows.iter()
+        .enumerate()
+        .any(|(place, row)| is_power(runs, place, row))
+}
+
+// The rows that can run. Where one of them makes electricity it is had from the start.
+fn find_running(alloc: Global, game: &Game, walk: &Walk) -> Result<Running, NoMemory>
+    requires { IsSound game.now }
+{
+    let all = run_all(alloc, game, walk, true)?;
+    if makes_power(walk.rows.as_slice(), all.runs.as_slice()) {
+        Ok(all)
+    } else {
+        run_all(alloc, game, walk, false)
+    }
+}
+
+fn need_on(rows: &[Found], runs: &[bool], kept: &mut [bool], goods: &mut [bool]) {
+    for _ in 0..=rows.len() {
+        if !need_once(rows, runs, kept, goods) {
+            break;
+        }
+    }
+}
+
+// Marks the rows that can run and give what a good needs.
+fn mark_needed(
+    alloc: Global,
+    walk: &Walk,
+    runs: &[bool],
+    good: GoodId,
+    kept: &mut [bool],
+) -> Result<(), NoMemory> {
+    let mut goods = vec![in alloc; false; walk.raw.len()]?;
+    mark_good(goods.as_mut_slice(), good);
+    need_on(walk.rows.as_slice(), runs, kept, goods.as_mut_slice());
+    Ok(())
+}
+
+fn needed_rows(
+    alloc: Global,
+    walk: &Walk,
+    runs: &[bool],
+    good: GoodId,
+) -> Result<Vec<bool>, NoMemory> {
+    let mut kept = vec![in alloc; false; walk.rows.len()]?;
+    mark_needed(alloc, walk, runs, good, kept.as_mut_slice())?;
+    Ok(kept)
 }
 
 /// Marks what can be had from what is taken as it is, one row after another, and of the rows those that the good needs. Where
@@ -110,25 +175,7 @@ fn makes_power(rows: &[Found], runs: &[bool]) -> bool {
 pub fn prune(alloc: Global, game: &Game, walk: &Walk, good: GoodId) -> Result<Pruned, NoMemory>
     requires { IsSound game.now }
 {
-    let rows = walk.rows.as_slice();
-    let (mut runs, mut had) = run_all(alloc, game, walk, true)?;
-    if !makes_power(rows, runs.as_slice()) {
-        let (fewer, less) = run_all(alloc, game, walk, false)?;
-        runs = fewer;
-        had = less;
-    }
-    let mut kept = vec![in alloc; false; rows.len()]?;
-    let mut goods = vec![in alloc; false; walk.raw.len()]?;
-    mark_good(goods.as_mut_slice(), good);
-    for _ in 0..=rows.len() {
-        if !need_once(
-            rows,
-            runs.as_slice(),
-            kept.as_mut_slice(),
-            goods.as_mut_slice(),
-        ) {
-            break;
-        }
-    }
-    Ok(Pruned { rows: kept, had })
+    let Running { runs, had } = find_running(alloc, game, walk)?;
+    let rows = needed_rows(alloc, walk, runs.as_slice(), good)?;
+    Ok(Pruned { rows, had })
 }

@@ -75,11 +75,13 @@ pub fn is_expected(product: &Product) -> bool {
     product.probability.is_positive() && (product.low.is_positive() || product.high.is_positive())
 }
 
+fn is_some_of(product: &Product, good: GoodId) -> bool {
+    product.good == good && is_expected(product)
+}
+
 /// Whether some of a good can be expected of products.
 pub fn gives(products: &[Product], good: GoodId) -> bool {
-    products
-        .iter()
-        .any(|product| product.good == good && is_expected(product))
+    products.iter().any(|product| is_some_of(product, good))
 }
 
 fn mark_products(marks: &mut [bool], products: &[Product]) {
@@ -90,20 +92,47 @@ fn mark_products(marks: &mut [bool], products: &[Product]) {
     }
 }
 
+fn mark_mined(game: &Game, reached: &[bool], marks: &mut [bool])
+    requires { IsSound game.now }
+{
+    for place in 0..game.shape().sources {
+        if is_reached(game, reached, Kind::Source, place) {
+            if let Some(source) = game.sources.as_slice().get(place as usize) {
+                mark_products(marks, source.products.as_slice());
+            }
+        }
+    }
+}
+
 /// Marks for each item and fluid whether a reached source gives it.
 pub fn mined_goods(alloc: Global, game: &Game, reached: &[bool]) -> Result<Vec<bool>, NoMemory>
     requires { IsSound game.now }
 {
     let shape = game.shape();
     let mut marks = vec![in alloc; false; (shape.items + shape.fluids) as usize]?;
-    for place in 0..shape.sources {
-        if is_reached(game, reached, Kind::Source, place) {
-            if let Some(source) = game.sources.as_slice().get(place as usize) {
-                mark_products(marks.as_mut_slice(), source.products.as_slice());
-            }
+    mark_mined(game, reached, marks.as_mut_slice());
+    Ok(marks)
+}
+
+// Whether the item at a place is a fuel and reached.
+fn is_reached_fuel(game: &Game, reached: &[bool], place: u32) -> bool
+    requires { IsSound game.now }
+{
+    match game.items.as_slice().get(place as usize) {
+        Some(item) => item.fuel.is_some() && is_reached(game, reached, Kind::Item, place),
+        None => false,
+    }
+}
+
+fn add_fuels(game: &Game, reached: &[bool], fuels: &mut Vec<GoodId>) -> Result<(), NoMemory>
+    requires { IsSound game.now }
+{
+    for place in 0..game.shape().items {
+        if is_reached_fuel(game, reached, place) {
+            fuels.push(GoodId(place))?;
         }
     }
-    Ok(marks)
+    Ok(())
 }
 
 /// The reached items that are fuels.
@@ -111,12 +140,6 @@ pub fn reached_fuels(alloc: Global, game: &Game, reached: &[bool]) -> Result<Vec
     requires { IsSound game.now }
 {
     let mut fuels = Vec::new(alloc);
-    for place in 0..game.shape().items {
-        if let Some(item) = game.items.as_slice().get(place as usize) {
-            if item.fuel.is_some() && is_reached(game, reached, Kind::Item, place) {
-                fuels.push(GoodId(place))?;
-            }
-        }
-    }
+    add_fuels(game, reached, &mut fuels)?;
     Ok(fuels)
 }

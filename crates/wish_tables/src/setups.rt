@@ -13,22 +13,12 @@ use std::alloc::Global;
 use table_rows::{RowFault, check_setup, column_of, row_rates};
 
 /// A machine that does something, with its fuel and the fluids that it takes before others.
-pub fn bare_setup(
-    alloc: Global,
-    activity: Activity,
-    machine: EntityId,
-    fuel: Option<GoodId>,
-    at: &[GoodId],
-) -> Result<Setup, NoMemory> {
-    let at = Vec::from_slice(alloc, at)?;
-    Ok(Setup {
-        activity,
-        machine,
-        fuel,
-        modules: Items::from_vec(Vec::new(alloc)),
-        beacons: Items::from_vec(Vec::new(alloc)),
-        at: Items::from_vec(at),
-    })
+#[derive(Clone, Copy)]
+pub struct Bare<'a> {
+    pub activity: Activity,
+    pub machine: EntityId,
+    pub fuel: Option<GoodId>,
+    pub at: &'a [GoodId],
 }
 
 fn is_item(game: &Game, good: GoodId) -> bool
@@ -236,49 +226,69 @@ fn wished_beacons(
     Ok(Items::from_vec(groups))
 }
 
-// The set-up with modules and beacons, where it can stand in a table so.
-fn with_extras(
+/// The set-up of a machine with a module in its slots and with beacons.
+pub fn setup_with(
     alloc: Global,
     game: &Game,
-    setup: &Setup,
+    bare: &Bare<'_>,
     module: Option<GoodId>,
     beacon: Option<WishBeacon>,
-) -> Result<Option<Setup>, NoMemory>
-    requires { IsSound game.now }
-{
-    let modules = wished_modules(alloc, game, module, setup.machine)?;
+) -> Result<Setup, NoMemory> {
+    let modules = wished_modules(alloc, game, module, bare.machine)?;
     let beacons = wished_beacons(alloc, game, beacon)?;
-    let at = Vec::from_slice(alloc, setup.at.as_slice())?;
-    let full = Setup {
-        activity: setup.activity,
-        machine: setup.machine,
-        fuel: setup.fuel,
+    let at = Vec::from_slice(alloc, bare.at)?;
+    Ok(Setup {
+        activity: bare.activity,
+        machine: bare.machine,
+        fuel: bare.fuel,
         modules,
         beacons,
         at: Items::from_vec(at),
-    };
-    if is_fitting(game, &full) {
-        Ok(Some(full))
-    } else {
-        Ok(None)
-    }
+    })
 }
 
-/// A set-up with those of the wish's modules and beacons that it takes: both, else the modules, else the beacons, else none.
-pub fn dressed(alloc: Global, game: &Game, wish: &Wish, setup: Setup) -> Result<Setup, NoMemory>
+// Whether the set-up with modules and beacons can stand in a table.
+fn takes(
+    alloc: Global,
+    game: &Game,
+    bare: &Bare<'_>,
+    module: Option<GoodId>,
+    beacon: Option<WishBeacon>,
+) -> Result<bool, NoMemory>
+    requires { IsSound game.now }
+{
+    let setup = setup_with(alloc, game, bare, module, beacon)?;
+    Ok(is_fitting(game, &setup))
+}
+
+// Those of the wish's modules and beacons that a set-up takes: both, else the modules, else the beacons, else none.
+fn extras(
+    alloc: Global,
+    game: &Game,
+    wish: &Wish,
+    bare: &Bare<'_>,
+) -> Result<(Option<GoodId>, Option<WishBeacon>), NoMemory>
     requires { IsSound game.now }
 {
     if wish.module.is_none() && wish.beacon.is_none() {
-        return Ok(setup);
+        return Ok((None, None));
     }
-    if let Some(both) = with_extras(alloc, game, &setup, wish.module, wish.beacon)? {
-        return Ok(both);
+    if takes(alloc, game, bare, wish.module, wish.beacon)? {
+        return Ok((wish.module, wish.beacon));
     }
-    if let Some(one) = with_extras(alloc, game, &setup, wish.module, None)? {
-        return Ok(one);
+    if takes(alloc, game, bare, wish.module, None)? {
+        return Ok((wish.module, None));
     }
-    if let Some(one) = with_extras(alloc, game, &setup, None, wish.beacon)? {
-        return Ok(one);
+    if takes(alloc, game, bare, None, wish.beacon)? {
+        return Ok((None, wish.beacon));
     }
-    Ok(setup)
+    Ok((None, None))
+}
+
+/// The set-up with those of the wish's modules and beacons that it takes.
+pub fn dressed(alloc: Global, game: &Game, wish: &Wish, bare: &Bare<'_>) -> Result<Setup, NoMemory>
+    requires { IsSound game.now }
+{
+    let (module, beacon) = extras(alloc, game, wish, bare)?;
+    setup_with(alloc, game, bare, module, beacon)
 }

@@ -1,10 +1,9 @@
 //! The walk from a good back to what is taken as it is.
 ghost use Rattle.game_types.specs.Sound.{IsSound};
 
-use crate::choosing::{State, price_in};
+use crate::choosing::{State, is_import};
 use crate::reach::{is_good_marked, mark_good};
-use crate::setups::column_in;
-use crate::ways::ways_to;
+use crate::ways::{NewRows, Search, ways_to};
 use crate::{Wish, WishFault};
 use fractions::Ratio;
 use game_types::{Activity, Game, Setup};
@@ -79,8 +78,8 @@ impl Walk {
         count
     }
 
-    // Whether a set-up of this activity that takes these fluids is there.
-    fn has(&self, setup: &Setup) -> bool {
+    /// Whether a set-up of this activity that takes these fluids is there.
+    pub fn has(&self, setup: &Setup) -> bool {
         self.rows
             .as_slice()
             .iter()
@@ -89,14 +88,24 @@ impl Walk {
 
     // The row comes in, and what it takes is needed.
     fn add(&mut self, row: Found) -> Result<(), NoMemory> {
-        for part in row.column.as_slice() {
-            if part.1.is_neg() {
-                self.need(part.0)?;
-            } else {
-                self.name(part.0);
-            }
-        }
+        self.note(row.column.as_slice())?;
         self.rows.push(row)?;
+        Ok(())
+    }
+
+    // What a row takes is needed.
+    fn note(&mut self, column: &[(GoodId, Ratio)]) -> Result<(), NoMemory> {
+        for part in column {
+            self.note_part(part)?;
+        }
+        Ok(())
+    }
+
+    fn note_part(&mut self, part: &(GoodId, Ratio)) -> Result<(), NoMemory> {
+        if part.1.is_neg() {
+            return self.need(part.0);
+        }
+        self.name(part.0);
         Ok(())
     }
 }
@@ -119,30 +128,25 @@ pub fn part_of(column: &[(GoodId, Ratio)], good: GoodId) -> Ratio {
     Ratio::zero()
 }
 
-// The new rows that give a good. Answers whether any row gives it.
-fn rows_for(
-    alloc: Global,
-    game: &Game,
+// Whether a good isn't taken as it is.
+fn is_made(state: State<'_>, wish: &Wish, good: GoodId) -> bool {
+    let named = is_import(wish, good);
+    !named && (wish.dig || !is_good_marked(state.mined, good))
+}
+
+fn add_rest(
     state: State<'_>,
     wish: &Wish,
     walk: &Walk,
-    good: GoodId,
-    rows: &mut Vec<Found>,
-) -> Result<bool, NoMemory>
-    requires { IsSound game.now }
-{
-    let mut given = false;
-    for setup in ways_to(alloc, game, state, wish, good)? {
-        if walk.has(&setup) {
-            given = true;
-        } else if let Some(column) = column_in(alloc, game, wish.power, &setup)? {
-            if part_of(column.as_slice(), good).is_positive() {
-                given = true;
-                rows.push(Found { setup, column })?;
-            }
+    place: usize,
+    rest: &mut Vec<GoodId>,
+) -> Result<(), NoMemory> {
+    for good in walk.goods.iter().skip(place) {
+        if is_made(state, wish, *good) {
+            rest.push(*good)?;
         }
     }
-    Ok(given)
+    Ok(())
 }
 
 // The goods from a place on that aren't taken as they are.
@@ -154,13 +158,67 @@ fn rest_of(
     place: usize,
 ) -> Result<Items<GoodId>, NoMemory> {
     let mut rest = Vec::new(alloc);
-    for good in walk.goods.iter().skip(place) {
-        let named = price_in(wish.imports.as_slice(), *good).is_some();
-        if !named && (wish.dig || !is_good_marked(state.mined, *good)) {
-            rest.push(*good)?;
-        }
-    }
+    add_rest(state, wish, walk, place, &mut rest)?;
     Ok(Items::from_vec(rest))
+}
+
+// The new rows that give a good.
+fn find_rows(
+    alloc: Global,
+    game: &Game,
+    state: State<'_>,
+    wish: &Wish,
+    walk: &Walk,
+    good: GoodId,
+) -> Result<NewRows, NoMemory>
+    requires { IsSound game.now }
+{
+    let search = Search {
+        game,
+        state,
+        wish,
+        walk,
+        good,
+    };
+    let mut new = NewRows::new(alloc);
+    ways_to(alloc, &search, &mut new)?;
+    Ok(new)
+}
+
+// Whether there would be too many rows or goods.
+fn is_full(walk: &Walk, rows: &[Found]) -> bool {
+    let goods = walk.count.saturating_add(walk.new_goods(rows));
+    walk.rows.len().saturating_add(rows.len()) > LIMIT || goods > LIMIT
+}
+
+fn take_rows(walk: &mut Walk, rows: Vec<Found>) -> Result<(), NoMemory> {
+    for row in rows {
+        walk.add(row)?;
+    }
+    Ok(())
+}
+
+// The rows that give a good come in, where the wish doesn't import it.
+fn walk_from(
+    alloc: Global,
+    game: &Game,
+    state: State<'_>,
+    wish: &Wish,
+    walk: &mut Walk,
+    place: usize,
+    good: GoodId,
+) -> Result<(), WishFault>
+    requires { IsSound game.now }
+{
+    let new = find_rows(alloc, game, state, wish, walk, good)?;
+    if !new.given && is_good_marked(state.mined, good) {
+        mark_good(walk.raw.as_mut_slice(), good);
+    }
+    if is_full(walk, new.rows.as_slice()) {
+        return Err(WishFault::Full(rest_of(alloc, state, wish, walk, place)?));
+    }
+    take_rows(walk, new.rows)?;
+    Ok(())
 }
 
 // The rows that give the needed good at a place come in. Answers whether there is such a good.
@@ -178,23 +236,29 @@ fn walk_on(
         return Ok(false);
     };
     let good = *good;
-    if price_in(wish.imports.as_slice(), good).is_some() {
+    if is_import(wish, good) {
         mark_good(walk.raw.as_mut_slice(), good);
-        return Ok(true);
-    }
-    let mut rows = Vec::new(alloc);
-    let given = rows_for(alloc, game, state, wish, walk, good, &mut rows)?;
-    if !given && is_good_marked(state.mined, good) {
-        mark_good(walk.raw.as_mut_slice(), good);
-    }
-    let goods = walk.count.saturating_add(walk.new_goods(rows.as_slice()));
-    if walk.rows.len().saturating_add(rows.len()) > LIMIT || goods > LIMIT {
-        return Err(WishFault::Full(rest_of(alloc, state, wish, walk, place)?));
-    }
-    for row in rows {
-        walk.add(row)?;
+    } else {
+        walk_from(alloc, game, state, wish, walk, place, good)?;
     }
     Ok(true)
+}
+
+fn walk_all(
+    alloc: Global,
+    game: &Game,
+    state: State<'_>,
+    wish: &Wish,
+    walk: &mut Walk,
+) -> Result<(), WishFault>
+    requires { IsSound game.now }
+{
+    for place in 0..LIMIT {
+        if !walk_on(alloc, game, state, wish, walk, place)? {
+            break;
+        }
+    }
+    Ok(())
 }
 
 /// Walks from the wish's good back to what is taken as it is.
@@ -212,10 +276,6 @@ pub fn walk_back(
 {
     let mut walk = Walk::make(alloc, game)?;
     walk.need(wish.good)?;
-    for place in 0..LIMIT {
-        if !walk_on(alloc, game, state, wish, &mut walk, place)? {
-            break;
-        }
-    }
+    walk_all(alloc, game, state, wish, &mut walk)?;
     Ok(walk)
 }
