@@ -13,7 +13,7 @@ ghost use Rattle.number_rows.specs.Tops.{top_at, AreWithin};
 
 use crate::long::Long;
 use crate::tops::{
-    LIMIT, combine, combine_lowered, common_divisor, content, divide_all, keeps_within,
+    LIMIT, combine, combine_lowered, common_factor, content, divide_all, keeps_within,
     long_product, product_keeps_within, quotient, turn_all,
 };
 use fractions::Ratio;
@@ -244,7 +244,7 @@ impl Row {
             return false;
         }
         let top = self.tops[enter];
-        let common = common_divisor(top.unsigned_abs(), pivot_row.bottom);
+        let common = common_factor(top.unsigned_abs(), pivot_row.bottom);
         let scale = pivot_row.bottom / common;
         let factor = quotient(top, common);
         if !keeps_within(
@@ -282,7 +282,7 @@ impl Row {
             return false;
         }
         let top = self.tops[enter];
-        let common = common_divisor(top.unsigned_abs(), pivot_row.bottom);
+        let common = common_factor(top.unsigned_abs(), pivot_row.bottom);
         let scale = pivot_row.bottom / common;
         let factor = quotient(top, common);
         let Some(lowered) = combine_lowered(

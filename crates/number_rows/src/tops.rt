@@ -29,6 +29,39 @@ pub fn common_divisor(first: u64, second: u64) -> u64
     if b == 0 { a } else { 1 }
 }
 
+// The greatest common divisor, found by shifts and subtractions. To the caller it is a guess.
+fn likely_divisor(first: u64, second: u64) -> u64 {
+    if first == 0 {
+        return second;
+    }
+    let shift = (first | second).trailing_zeros() % 64;
+    let mut a = first >> (first.trailing_zeros() % 64);
+    let mut b = second >> (second.trailing_zeros() % 64);
+    for _step in 0..128 {
+        if a == b {
+            return a << shift;
+        }
+        let rest = if a < b { b - a } else { a - b };
+        b = if a < b { a } else { b };
+        a = rest >> (rest.trailing_zeros() % 64);
+    }
+    0
+}
+
+/// What two numbers have in common: the greatest common divisor, guessed and then tried.
+pub fn common_factor(first: u64, second: u64) -> u64
+    ensures positive { 0 < second → 0 < result }
+    ensures first { result ∣ first }
+    ensures second { result ∣ second }
+{
+    let guess = likely_divisor(first, second);
+    if guess > 0 && first % guess == 0 && second % guess == 0 {
+        guess
+    } else {
+        common_divisor(first, second)
+    }
+}
+
 /// A divisor that a denominator and all numbers have in common.
 pub fn content(bottom: u64, tops: &[i64]) -> u64
     requires positive { 0 < bottom }
@@ -39,7 +72,10 @@ pub fn content(bottom: u64, tops: &[i64]) -> u64
 {
     let mut common = bottom;
     for k in 0..tops.len() {
-        common = common_divisor(tops[k].unsigned_abs(), common);
+        if common == 1 {
+            break;
+        }
+        common = common_factor(tops[k].unsigned_abs(), common);
     }
     common
 }
@@ -308,7 +344,7 @@ fn shared_divisor(top: i64, scale: i64, other: i64, factor: i64, divisor: u64) -
     ensures divides { result ∣ divisor }
 {
     let number = long_combined(top, scale, other, factor);
-    common_divisor(rest_by(number, divisor), divisor)
+    common_factor(rest_by(number, divisor), divisor)
 }
 
 /// Quotients by a divisor: how great their magnitudes are at most.

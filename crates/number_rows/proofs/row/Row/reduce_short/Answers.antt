@@ -18,15 +18,15 @@ use Rattle.number_rows.proofs.row.Row.reduce_short.Goals as goal
 
 pub quotient-factor-requires-clause-small_divisor : goal.quotient-factor-requires-clause-small_divisor
 quotient-factor-requires-clause-small_divisor c =
-    omega (arith, le_of_dvd c.pivot_row.invariant.positive c.common_divisor-common.ensures.second, c.pivot_row.invariant.bottom_small)
+    omega (arith, le_of_dvd c.pivot_row.invariant.positive c.common_factor-common.ensures.second, c.pivot_row.invariant.bottom_small)
 
 -- the factor, times the divisor, is the number at the place that enters
-factor : (c : After-quotient-factor) → (c.quotient-factor.result *ℤ pos c.common_divisor-common.result ≡ top_at c.self.inside.tops.items c.args.enter) × (unsigned_abs c.quotient-factor.result < 2 ^ 62)
+factor : (c : After-quotient-factor) → (c.quotient-factor.result *ℤ pos c.common_factor-common.result ≡ top_at c.self.inside.tops.items c.args.enter) × (unsigned_abs c.quotient-factor.result < 2 ^ 62)
 factor c =
     let r = c.self.inside in
     let inside : c.args.enter < length r.tops.items = omega (arith, c.requires.inside, length_shown r.short r.bottom r.tops.items r.numbers.items c.args.self.now c.self.view_is c.self.invariant.same_length) in
-    factor_is c.index-top.result.now (top_at r.tops.items c.args.enter) c.quotient-factor.result c.unsigned_abs.result c.common_divisor-common.result (get_or_read r.tops.items c.args.enter c.index-top.result.now inside c.index-top.ensures (pos 0))
-    (omega (arith, c.self.invariant.within c.args.enter inside, c.self.invariant.bound_small)) c.unsigned_abs.ensures.value c.common_divisor-common.ensures.first c.quotient-factor.ensures.value c.quotient-factor.ensures.small
+    factor_is c.index-top.result.now (top_at r.tops.items c.args.enter) c.quotient-factor.result c.unsigned_abs.result c.common_factor-common.result (get_or_read r.tops.items c.args.enter c.index-top.result.now inside c.index-top.ensures (pos 0))
+    (omega (arith, c.self.invariant.within c.args.enter inside, c.self.invariant.bound_small)) c.unsigned_abs.ensures.value c.common_factor-common.ensures.first c.quotient-factor.ensures.value c.quotient-factor.ensures.small
 
 pub keeps_within-requires-clause-factor : goal.keeps_within-requires-clause-factor
 keeps_within-requires-clause-factor c =
@@ -38,13 +38,13 @@ invariant_of-self c =
     let r = c.self.inside in
     let p = c.pivot_row.inside in
     let d = c.combine-self-inside in
-    let a = p.bottom / c.common_divisor-common.result in
+    let a = p.bottom / c.common_factor-common.result in
     let len : length d.new.tops ≡ length r.tops.items = d.ensures.combined.length_is ∙ ap (λ (ts : List ℤ). length ts) c.deref_mut.ensures.value in
     subst (λ (ts : List ℤ). IsKept (r.bottom * a) d.result ts r.numbers.items (length r.spare.items)) (sym (with_items_is r.tops d.new.tops (len ∙ sym r.tops.ok.0)))
     (record {
       same_length = len ∙ c.self.invariant.same_length;
       room_is = c.self.invariant.room_is ∙ sym len;
-      positive = pos_product r.bottom a c.self.invariant.positive (lower_pos p.bottom c.common_divisor-common.result c.pivot_row.invariant.positive c.common_divisor-common.ensures.second);
+      positive = pos_product r.bottom a c.self.invariant.positive (lower_pos p.bottom c.common_factor-common.result c.pivot_row.invariant.positive c.common_factor-common.ensures.second);
       bottom_small = (OnTrue_at c.if-not-keeps_within.false c.keeps_within.ensures).1;
       bound_small = d.ensures.small;
       within = d.ensures.within;
@@ -55,7 +55,7 @@ returns-clause-done c =
     let r = c.self.inside in
     let p = c.pivot_row.inside in
     let d = c.combine-self-inside in
-    let g = c.common_divisor-common.result in
+    let g = c.common_factor-common.result in
     let a = p.bottom / g in
     let f = factor (goal.at.returns-clause-done c).After-quotient-factor in
     let inside : c.args.enter < length r.tops.items = omega (arith, c.requires.inside, length_shown r.short r.bottom r.tops.items r.numbers.items c.args.self.now c.self.view_is c.self.invariant.same_length) in
@@ -64,7 +64,7 @@ returns-clause-done c =
     combined_plain c.deref_mut.result.now r.tops.items p.tops.items c.deref.result.now d.new.tops _ c.quotient-factor.result a c.deref_mut.ensures.value c.deref.ensures.value
     (scale_back a (omega (arith, div-le_self p.bottom g, c.pivot_row.invariant.bottom_small))) (back c.quotient-factor.result (omega (arith, f.1))) d.ensures.combined in
     reduced_row r.short p.short r.bottom p.bottom r.bound p.bound a g (r.bottom * a) c.quotient-factor.result r.tops.items d.new.tops p.tops.items r.numbers.items p.numbers.items c.args.self.now _ c.args.pivot_row.now c.args.enter
-    c.self.view_is c.if-not-self.false c.self.invariant c.pivot_row.view_is c.if-not-pivot_row.false c.pivot_row.invariant c.requires.width inside (c.common_divisor-common.ensures.positive c.pivot_row.invariant.positive) c.common_divisor-common.ensures.second (λ i. a) f.0 (combined_tops r.bottom a c.quotient-factor.result r.tops.items p.tops.items d.new.tops t)
+    c.self.view_is c.if-not-self.false c.self.invariant c.pivot_row.view_is c.if-not-pivot_row.false c.pivot_row.invariant c.requires.width inside (c.common_factor-common.ensures.positive c.pivot_row.invariant.positive) c.common_factor-common.ensures.second (λ i. a) f.0 (combined_tops r.bottom a c.quotient-factor.result r.tops.items p.tops.items d.new.tops t)
     (ap (λ ts. shown r.short (r.bottom * a) ts r.numbers.items) (with_items_is r.tops d.new.tops (len ∙ sym r.tops.ok.0)))
   where
     shown : Bool → ℕ → List ℤ → List Fraction → Numbers
