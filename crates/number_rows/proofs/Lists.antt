@@ -4,7 +4,7 @@ use Rattle.std.specs.Int.{◌∣◌, w64}
 use Rattle.std.proofs.Common.{refl, sym, ap, subst, ◌∙◌, arith, set, below_more, to_z, of_z}
 use Rattle.std.proofs.lemmas.Int.{ints, unsigned_abs-mul, to_z-of_z, fits_signed_from_abs}
 use Rattle.std.proofs.lemmas.List.{get_or-set_same, get_or-set_other}
-use Rattle.std.proofs.Math.Nat.{mul-le-mul_right, dvd-mul_left, dvd-mul_right, div-mul_cancel, mul_assoc, mul_comm}
+use Rattle.std.proofs.Math.Nat.{mul-le-mul_right, dvd-mul_left, dvd-mul_right, one-dvd, div-mul_cancel, mul_assoc, mul_comm}
 use Rattle.fractions.specs.Fraction.{Fraction, frac, int_div-mul, lower_pos}
 use Rattle.fractions.specs.Fracs.{pos_product}
 use Rattle.fractions.specs.Gcd.{gcd, gcd_is, gcd_pos, gcd-zero}
@@ -156,3 +156,14 @@ divided_at cur d result t k et ht hd e small =
       ap (λ x. x *ℤ pos d) (r' ∙ (e ∙ ap (λ x. int_div x (pos d)) t')) ∙ int_div-mul t d hd,
       subst (λ (x : ℤ). unsigned_abs x < 2 ^ 62) (sym r') (omega (arith, le, ht)),
     )
+
+-- what is left of a number beside a divisor divides it too
+pub part_divides : (b g : ℕ) → g ∣ b → b / g ∣ b
+part_divides b g h = subst (λ (n : ℕ). b / g ∣ n) (div-mul_cancel g h) (dvd-mul_right (b / g) g)
+
+-- a number divided by 1 stays
+pub by_one : (t : ℤ) (d : ℕ) → d ≡ 1 → t ≡ int_div t (pos d)
+by_one t d e =
+    let h : int_div t (pos 1) *ℤ pos 1 ≡ t = int_div-mul t 1 (one-dvd (unsigned_abs t)) in
+    let q : t ≡ int_div t (pos 1) = omega (arith, ints, h) in
+    subst (λ (n : ℕ). t ≡ int_div t (pos n)) (sym e) q

@@ -292,6 +292,7 @@ impl Row {
             &pivot_row.tops,
             factor,
             self.bottom,
+            common,
         ) else {
             return false;
         };

@@ -31,9 +31,6 @@ pub fn common_divisor(first: u64, second: u64) -> u64
 
 // The greatest common divisor, found by shifts and subtractions. To the caller it is a guess.
 fn likely_divisor(first: u64, second: u64) -> u64 {
-    if first == 0 {
-        return second;
-    }
     let shift = (first | second).trailing_zeros() % 64;
     let mut a = first >> (first.trailing_zeros() % 64);
     let mut b = second >> (second.trailing_zeros() % 64);
@@ -41,9 +38,16 @@ fn likely_divisor(first: u64, second: u64) -> u64 {
         if a == b {
             return a << shift;
         }
-        let rest = if a < b { b - a } else { a - b };
-        b = if a < b { a } else { b };
-        a = rest >> (rest.trailing_zeros() % 64);
+        if a > b {
+            let rest = a - b;
+            a = rest >> (rest.trailing_zeros() % 64);
+        } else {
+            let rest = b - a;
+            b = rest >> (rest.trailing_zeros() % 64);
+        }
+        if a == 1 || b == 1 {
+            return 1 << shift;
+        }
     }
     0
 }
@@ -54,6 +58,9 @@ pub fn common_factor(first: u64, second: u64) -> u64
     ensures first { result ∣ first }
     ensures second { result ∣ second }
 {
+    if first == 0 {
+        return second;
+    }
     let guess = likely_divisor(first, second);
     if guess > 0 && first % guess == 0 && second % guess == 0 {
         guess
@@ -88,6 +95,9 @@ pub fn quotient(top: i64, divisor: u64) -> i64
     ensures value { result ≡ int_div top (pos divisor) }
     ensures small { unsigned_abs result ≤ unsigned_abs top }
 {
+    if divisor == 1 {
+        return top;
+    }
     top / divisor as i64
 }
 
@@ -355,7 +365,8 @@ pub struct Lowered {
 }
 
 /// Writes what `combine` makes of each number, divided by what all of these and a denominator have in common, where all are
-/// below the limit then. Each number that a divisor leaves a rest of makes it less.
+/// below the limit then. The first divisor is the denominator's part beside what it shares with `common`, which is mostly
+/// the one; each number that a divisor leaves a rest of makes it less.
 pub fn combine_lowered(
     quotients: &mut [i64],
     tops: &[i64],
@@ -363,6 +374,7 @@ pub fn combine_lowered(
     others: &[i64],
     factor: i64,
     bottom: u64,
+    common: u64,
 ) -> Option<Lowered>
     requires quotients { length quotients.old ≡ length tops.now }
     requires lengths { length tops.now ≡ length others.now }
@@ -375,7 +387,7 @@ pub fn combine_lowered(
     ensures length_is { length quotients.new ≡ length tops.now }
     ensures lowered { IfSome result (λ r. IsLowered tops.now scale others.now factor bottom r.divisor r.bound quotients.new) }
 {
-    let mut divisor = bottom;
+    let mut divisor = bottom / common_factor(common, bottom);
     for _try in 0..64 {
         match combine_over(quotients, tops, scale, others, factor, divisor) {
             Ok(bound) => return Some(Lowered { divisor, bound }),
