@@ -16,7 +16,8 @@ use Rattle.data_edit.specs.declared.edits.Edit.{Edit}
 use Rattle.data_edit.specs.declared.edits.Edit.TheVariants.{SetIngredient, DropIngredient, SetProduct, DropProduct, SetUnlock, SetTime, SetEnabled, Forbid, Permit, Grant, Revoke}
 use Rattle.data_edit.proofs.EffectLaw.{effect_law}
 use Rattle.data_edit.proofs.GameKept.{edit_keeps_game}
-use Rattle.depend_rows.specs.Alike.{AlikeBut, is_of_product, is_of_unlock, passes}
+use Rattle.node_lists.specs.Members.{passes}
+use Rattle.depend_index.specs.Alike.{AlikeBut, is_of_product, is_of_unlock}
 use Rattle.depend_rows.proofs.TouchLemmas.{any-with_entry, any-without, other_product, switched, with_at-nil, with_at-suc, with_at-zero}
 
 -- what is tested at a place, where the change doesn't show at that place

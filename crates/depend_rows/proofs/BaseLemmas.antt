@@ -5,11 +5,11 @@ use Rattle.std.specs.List.{list_any}
 use Rattle.std.proofs.lemmas.Bool.Decides.{nat_tests}
 use Rattle.game_types.specs.Temperatures.{is_base, is_good}
 use Rattle.game_types.specs.declared.games.Game.{Game}
-use Rattle.depend_rows.specs.Members.{node, those}
-use Rattle.depend_rows.specs.Lists.{list_at}
-use Rattle.depend_rows.specs.Goods.{good_count, variants}
-use Rattle.depend_rows.specs.Indexed.{IsIndex}
-use Rattle.depend_rows.specs.declared.index.Index.{Index}
+use Rattle.node_lists.specs.Members.{node, those}
+use Rattle.node_lists.specs.Lists.{list_at}
+use Rattle.depend_index.specs.Goods.{good_count, variants}
+use Rattle.depend_index.specs.Indexed.{IsIndex}
+use Rattle.depend_index.specs.declared.index.Index.{Index}
 
 some_those : {A : Type 0} (test : A → Bool) (first : ℕ) (xs : List A) → nat_lt 0 (length (those test first xs)) ≡ list_any test xs
 some_those test first [] = refl

@@ -25,9 +25,12 @@ use Rattle.game_types.specs.declared.recipes.Part.{Part}
 use Rattle.game_types.specs.declared.recipes.Recipe.{Recipe}
 use Rattle.game_types.specs.declared.recipes.Source.{Source}
 use Rattle.game_types.specs.declared.research.Tech.{Tech}
-use Rattle.depend_rows.specs.Members.{all_of, any_of, character_where, good_node, group_where, named, node, row_with, those}
-use Rattle.depend_rows.specs.Goods.{first_recipe, first_source, first_machine, first_tech, good_count, bounded_group, bounded_groups, crafters_by, fits, free_good, givers, good_row, ingredients, is_free, leavers, makers, putters, variants, crafters, unlockers, recipe_row, miners, fluid_group, source_row}
-use Rattle.depend_rows.specs.Machines.{placers, fuels_taken, burning_fluids, fluid_or_burning, energy_groups, given_input, input_groups, machine_row, labs, prerequisites, science_packs, tech_row, electricity_row, heat_row, makes_electricity, makes_heat}
+use Rattle.node_lists.specs.Members.{named, node, those}
+use Rattle.depend_rows.specs.Members.{all_of, any_of, character_where, good_node, group_where, row_with}
+use Rattle.depend_index.specs.Goods.{first_recipe, first_source, first_machine, first_tech, good_count, leavers, putters, variants, unlockers}
+use Rattle.depend_rows.specs.Goods.{bounded_group, bounded_groups, crafters_by, fits, free_good, givers, good_row, ingredients, is_free, makers, crafters, recipe_row, miners, fluid_group, source_row}
+use Rattle.depend_index.specs.Machines.{placers, burning_fluids}
+use Rattle.depend_rows.specs.Machines.{fuels_taken, fluid_or_burning, energy_groups, given_input, input_groups, machine_row, labs, prerequisites, science_packs, tech_row, electricity_row, heat_row, makes_electricity, makes_heat}
 use Rattle.depend_rows.specs.Rows.{row_of, rows_of, special_row, tech_at}
 
 all_from : {X : Type 0} (P : X → Type 0) → (xs : List X) → AllByRecursion P xs → All P xs

@@ -38,10 +38,12 @@ use Rattle.data_edit.specs.declared.edits.Edit.{Edit}
 use Rattle.data_edit.specs.declared.edits.Edit.TheVariants.{SetIngredient, DropIngredient, SetProduct, DropProduct, SetUnlock, SetTime, SetEnabled, Forbid, Permit, Grant, Revoke}
 use Rattle.data_edit.proofs.EffectLaw.{effect_law}
 use Rattle.plan_base.proofs.Places.{with_at-past}
-use Rattle.depend_rows.proofs.OrderLemmas.{those_same}
-use Rattle.depend_rows.specs.Members.{node, those}
-use Rattle.depend_rows.specs.Goods.{first_recipe, first_source, first_machine, first_tech, bounded_groups, crafters_by, fits, givers, good_row, ingredients, leavers, makers, putters, variants, crafters, unlockers, recipe_row, miners, source_row}
-use Rattle.depend_rows.specs.Machines.{placers, fuels_taken, burning_fluids, fluid_or_burning, energy_groups, input_groups, machine_row, labs, prerequisites, science_packs, tech_row, electricity_row, heat_row}
+use Rattle.node_lists.proofs.OrderLemmas.{those_same}
+use Rattle.node_lists.specs.Members.{node, those}
+use Rattle.depend_index.specs.Goods.{first_recipe, first_source, first_machine, first_tech, leavers, putters, variants, unlockers}
+use Rattle.depend_rows.specs.Goods.{bounded_groups, crafters_by, fits, givers, good_row, ingredients, makers, crafters, recipe_row, miners, source_row}
+use Rattle.depend_index.specs.Machines.{placers, burning_fluids}
+use Rattle.depend_rows.specs.Machines.{fuels_taken, fluid_or_burning, energy_groups, input_groups, machine_row, labs, prerequisites, science_packs, tech_row, electricity_row, heat_row}
 use Rattle.depend_rows.specs.Rows.{row_of, special_row, tech_at, no_tech}
 use Rattle.depend_rows.specs.Touched.{good_node_in, recipe_node, touched_by, StaysAs, TouchesAll}
 

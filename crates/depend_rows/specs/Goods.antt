@@ -1,65 +1,27 @@
 -- What goods, recipes and sources need.
-use Rattle.std.specs.Prelude.{ℕ, ◌+◌, ◌==◌, ◌&&◌, Bool, false, not, List, [], ◌∷◌, ◌++◌, Option, Some, None, is_none, length, if◌then◌else◌}
-use Rattle.std.specs.List.{filter_map, list_any}
+use Rattle.std.specs.Prelude.{ℕ, ◌+◌, ◌&&◌, Bool, not, List, [], ◌∷◌, ◌++◌, Option, Some, None, is_none, length, if◌then◌else◌}
+use Rattle.std.specs.List.{filter_map}
 use Rattle.fractions.specs.Fraction.{Fraction}
-use Rattle.plan_base.specs.Shape.{first_of}
 use Rattle.plan_base.specs.declared.ids.NodeId.{NodeId}
 use Rattle.plan_base.specs.declared.ids.EntityId.{EntityId}
 use Rattle.plan_base.specs.declared.ids.GoodId.{GoodId}
-use Rattle.plan_base.specs.declared.shape.Kind.TheVariants.{Recipe as RecipeKind, Source as SourceKind, Machine as MachineKind_, Tech as TechKind}
 use Rattle.graph_store.specs.declared.Group.{Group}
 use Rattle.graph_store.specs.declared.Row.{Row}
-use Rattle.game_types.specs.Temperatures.{fits_alone, fluid_at, is_base, is_fit_variant, is_good}
+use Rattle.game_types.specs.Temperatures.{fits_alone, fluid_at, is_base, is_fit_variant}
 use Rattle.game_types.specs.Making.{character_crafts, character_mines, gives, kind_crafts, kind_mines}
-use Rattle.game_types.specs.Nodes.{shape_of}
 use Rattle.game_types.specs.declared.games.Game.{Game}
-use Rattle.game_types.specs.declared.machinery.MachineKind.{MachineKind}
-use Rattle.game_types.specs.declared.machinery.MachineKind.TheVariants.{Pump, Boiler}
 use Rattle.game_types.specs.declared.recipes.Part.{Part}
 use Rattle.game_types.specs.declared.recipes.Recipe.{Recipe}
 use Rattle.game_types.specs.declared.recipes.Source.{Source}
-use Rattle.depend_rows.specs.Members.{all_of, any_of, character_where, good_node, group_where, named, row_with, those}
-
--- the number of the first node of each kind
-abbrev pub first_recipe : Game → ℕ
-first_recipe g = first_of (shape_of g) RecipeKind
-
-abbrev pub first_source : Game → ℕ
-first_source g = first_of (shape_of g) SourceKind
-
-abbrev pub first_machine : Game → ℕ
-first_machine g = first_of (shape_of g) MachineKind_
-
-abbrev pub first_tech : Game → ℕ
-first_tech g = first_of (shape_of g) TechKind
-
--- how many goods there are
-abbrev pub good_count : Game → ℕ
-good_count g = length g.items + length g.fluids
+use Rattle.node_lists.specs.Members.{named, those}
+use Rattle.depend_index.specs.Goods.{first_machine, first_recipe, first_source, good_count, leavers, putters, unlockers, variants}
+use Rattle.depend_rows.specs.Members.{all_of, any_of, character_where, good_node, group_where, row_with}
 
 -- ---- goods
--- a pump gives its fluid, and a boiler its output
-abbrev pub puts_out : MachineKind → ℕ → Bool
-puts_out (Pump fluid speed) good = fluid.0 == good
-puts_out (Boiler input output temperature) good = is_good output good
-puts_out kind good = false
-
--- the items that leave a good when they are burnt
-unfoldable pub leavers : Game → ℕ → List NodeId
-leavers g good = those (λ item. is_good item.burnt good) 3 g.items
-
--- the variants of a base
-unfoldable pub variants : Game → ℕ → List NodeId
-variants g good = those (λ fluid. is_good fluid.of good) (3 + length g.items) g.fluids
-
 -- the recipes and the sources that give a good
 unfoldable pub makers : Game → ℕ → List NodeId
 makers g good = those (λ recipe. gives recipe.products good) (first_recipe g) g.recipes
     ++ those (λ source. gives source.products good) (first_source g) g.sources
-
--- the machines that put a good out
-unfoldable pub putters : Game → ℕ → List NodeId
-putters g good = those (λ machine. puts_out machine.kind good) (first_machine g) g.machines
 
 -- what gives a good. A base is had as any of its variants; an item is left and is not put out, and a fluid is put out and is
 -- not left
@@ -104,10 +66,6 @@ crafters_by g number recipe (Some silo) = named (first_machine g) (length g.mach
 
 unfoldable pub crafters : Game → ℕ → Recipe → List NodeId
 crafters g number recipe = crafters_by g number recipe recipe.launch
-
--- the technologies that unlock a recipe
-unfoldable pub unlockers : Game → ℕ → List NodeId
-unlockers g number = those (λ tech. list_any (λ r. r.0 == number) tech.unlocks) (first_tech g) g.techs
 
 -- a recipe needs all its ingredients without a bound, any that fits each of the others, any that crafts it, and where it isn't known from the start any that unlocks it
 unfoldable pub recipe_row : Game → ℕ → Recipe → Row

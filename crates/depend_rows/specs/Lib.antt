@@ -1,11 +1,5 @@
 pub mod Members
 pub mod Goods
 pub mod Machines
-pub mod Lists
-pub mod Words
-pub mod Coolest
-pub mod Kinds
-pub mod Indexed
-pub mod Alike
 pub mod Rows
 pub mod Touched

@@ -1,14 +1,13 @@
 -- What machines and technologies need.
-use Rattle.std.specs.Prelude.{ℕ, ◌+◌, ◌==◌, ◌&&◌, Bool, true, false, not, is_none, List, [], ◌∷◌, ◌++◌, Option, Some, None, length, map}
-use Rattle.std.specs.List.{list_all, list_any}
+use Rattle.std.specs.Prelude.{ℕ, ◌&&◌, Bool, true, false, not, List, [], ◌∷◌, ◌++◌, Option, Some, None, length, map}
+use Rattle.std.specs.List.{list_all}
 use Rattle.fractions.specs.Fraction.{Fraction}
 use Rattle.plan_base.specs.Shape.{electricity_node, heat_node}
 use Rattle.plan_base.specs.declared.ids.NodeId.{NodeId}
-use Rattle.plan_base.specs.declared.ids.EntityId.{EntityId}
 use Rattle.plan_base.specs.declared.ids.GoodId.{GoodId}
 use Rattle.graph_store.specs.declared.Group.{Group}
 use Rattle.graph_store.specs.declared.Row.{Row}
-use Rattle.game_types.specs.Making.{takes_fuel}
+use Rattle.game_types.specs.Making.{holds, takes_fuel}
 use Rattle.fractions.specs.Signs.{is_positive}
 use Rattle.game_types.specs.declared.games.Game.{Game}
 use Rattle.game_types.specs.declared.goods.Fuel.{Fuel}
@@ -18,17 +17,16 @@ use Rattle.game_types.specs.declared.machinery.Machine.{Machine}
 use Rattle.game_types.specs.declared.machinery.MachineKind.{MachineKind}
 use Rattle.game_types.specs.declared.machinery.MachineKind.TheVariants.{Boiler, Generator, BurnerGenerator, Solar, Reactor, Lab}
 use Rattle.game_types.specs.declared.research.Tech.{Tech}
-use Rattle.depend_rows.specs.Members.{all_of, any_of, good_node, group_where, named, row_with, those}
-use Rattle.depend_rows.specs.Goods.{first_machine, first_tech, good_count}
+use Rattle.node_lists.specs.Members.{named, those}
+use Rattle.depend_rows.specs.Members.{all_of, any_of, good_node, group_where, row_with}
+use Rattle.depend_index.specs.Goods.{first_machine, first_tech, good_count}
+use Rattle.depend_index.specs.Machines.{burning_fluids, names_good, placers}
 
 -- ---- machines
-abbrev pub is_machine : Option EntityId → ℕ → Bool
-is_machine None number = false
-is_machine (Some m) number = m.0 == number
-
--- the items that are placed as a machine
-unfoldable pub placers : Game → ℕ → List NodeId
-placers g number = those (λ item. is_machine item.place number) 3 g.items
+-- a fuel of some categories that has any energy
+abbrev pub is_fuel_in : List ℕ → Option Fuel → Bool
+is_fuel_in categories None = false
+is_fuel_in categories (Some fuel) = holds categories fuel.category && is_positive fuel.value
 
 abbrev pub is_taken : Energy → Option Fuel → Bool
 is_taken energy None = false
@@ -37,10 +35,6 @@ is_taken energy (Some fuel) = takes_fuel energy fuel
 -- the items with a fuel that is taken
 unfoldable pub fuels_taken : Game → Energy → List NodeId
 fuels_taken g energy = those (λ item. is_taken energy item.fuel) 3 g.items
-
--- the fluids that burn, without the variants
-unfoldable pub burning_fluids : Game → List NodeId
-burning_fluids g = those (λ fluid. is_none fluid.of && is_positive fluid.fuel_value) (3 + length g.items) g.fluids
 
 -- all of one fluid, or any that burns
 unfoldable pub fluid_or_burning : Game → Option GoodId → Group
@@ -70,9 +64,6 @@ unfoldable pub machine_row : Game → ℕ → Machine → Row
 machine_row g number machine = row_with (any_of (placers g number) ∷ (energy_groups g machine.energy ++ input_groups g machine.kind))
 
 -- ---- technologies
-abbrev pub names_good : List GoodId → ℕ → Bool
-names_good goods good = list_any (λ g. g.0 == good) goods
-
 -- a lab whose inputs hold all that a technology takes
 abbrev pub researches : MachineKind → List (GoodId × Fraction) → Bool
 researches (Lab inputs speed) parts = list_all (λ part. names_good inputs part.0.0) parts

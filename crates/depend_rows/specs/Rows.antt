@@ -10,7 +10,8 @@ use Rattle.game_types.specs.Lookups.{machine_at, recipe_at, source_at}
 use Rattle.game_types.specs.Nodes.{shape_of}
 use Rattle.game_types.specs.declared.games.Game.{Game}
 use Rattle.game_types.specs.declared.research.Tech.{Tech}
-use Rattle.depend_rows.specs.Goods.{first_machine, first_recipe, first_source, first_tech, good_row, recipe_row, source_row}
+use Rattle.depend_index.specs.Goods.{first_machine, first_recipe, first_source, first_tech}
+use Rattle.depend_rows.specs.Goods.{good_row, recipe_row, source_row}
 use Rattle.depend_rows.specs.Machines.{character_row, electricity_row, heat_row, machine_row, tech_row}
 
 -- the technology with a number; where there is none, one that needs nothing

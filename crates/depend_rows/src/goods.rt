@@ -1,37 +1,19 @@
 //! What goods need: any that gives them.
 ghost use Rattle.std.specs.Prelude.{◌≡◌, ◌<◌, ◌++◌, IfOk, OnOk, length, nat_lt};
-ghost use Rattle.game_types.specs.Making.{expected_amount};
-ghost use Rattle.fractions.specs.Signs.{is_positive};
 ghost use Rattle.game_types.specs.Sound.{IsSound};
-ghost use Rattle.depend_rows.specs.Indexed.{IsIndex};
+ghost use Rattle.depend_index.specs.Indexed.{IsIndex};
 ghost use Rattle.game_types.specs.Temperatures.{is_base};
-ghost use Rattle.depend_rows.specs.Lists.{list_at};
-ghost use Rattle.depend_rows.specs.Goods.{givers, good_count, good_row, leavers, makers, putters, variants};
+ghost use Rattle.node_lists.specs.Lists.{list_at};
+ghost use Rattle.depend_index.specs.Goods.{good_count, leavers, putters, variants};
+ghost use Rattle.depend_rows.specs.Goods.{givers, good_row, makers};
 
-use crate::among::recipes_giving;
-use crate::index::Index;
-use crate::lists::{list_at, list_of};
 use crate::members::{any_of, row_with};
-use fractions::is_positive;
-use game_types::{Game, Product};
+use depend_index::{Index, recipes_giving};
+use game_types::Game;
 use graph_store::Row;
+use node_lists::{list_at, list_of};
 use plan_base::{NoMemory, NodeId};
 use std::alloc::Global;
-use std::cmp::Ordering;
-
-/// Whether one craft is expected to give any of a product.
-pub fn is_expected(product: &Product) -> bool
-    ensures { result ≡ is_positive (expected_amount product.now) }
-{
-    // The least and the most have a mean above 0 where the least is above the most, negated. No sum is formed, which
-    // might be too wide.
-    let high = product.high.neg();
-    match product.low.cmp(&high) {
-        Ordering::Less => is_positive(&product.probability.neg()),
-        Ordering::Equal => false,
-        Ordering::Greater => is_positive(&product.probability),
-    }
-}
 
 // Whether the list of a number has any nodes.
 fn has_nodes(lists: &[Vec<NodeId>], number: u32) -> bool

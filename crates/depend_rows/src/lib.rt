@@ -1,25 +1,14 @@
 //! What each node of a game needs: its dependency row.
 #![tactic(auto)]
 
-mod among;
-mod common;
 mod goods;
-mod index;
-mod lists;
 mod machines;
-mod marks;
 mod members;
-mod noting;
-mod places;
 mod recipes;
 mod rows;
 mod techs;
-mod temperatures;
 mod touching;
-mod unions;
-mod words;
 
-pub use index::Index;
 pub use rows::{
     MEMBER_LIMIT, RowsFault, members_are_nodes, row_of, rows_all, rows_for, rows_within,
 };

@@ -1,23 +1,19 @@
 //! What machines need, and what gives electricity and heat.
-ghost use Rattle.std.specs.Prelude.{◌&&◌, is_none, ◌≡◌, ◌<◌, ◌++◌, ◌∷◌, [], IfOk, IfSome, OnOk, length};
+ghost use Rattle.std.specs.Prelude.{◌≡◌, ◌<◌, ◌++◌, ◌∷◌, [], IfOk, IfSome, OnOk, length};
 ghost use Rattle.fractions.specs.Fraction.{Fraction};
 ghost use Rattle.game_types.specs.declared.machinery.Energy.TheVariants.{Burner};
-ghost use Rattle.fractions.specs.Signs.{is_positive};
 ghost use Rattle.game_types.specs.Sound.{IsFluid, IsSound, IsSoundEnergy, IsSoundKind, IsSoundMachine};
-ghost use Rattle.depend_rows.specs.Members.{any_of, row_with, those};
-ghost use Rattle.depend_rows.specs.Indexed.{IsIndex};
-ghost use Rattle.depend_rows.specs.Kinds.{is_fuel_in};
-ghost use Rattle.depend_rows.specs.Lists.{numbers_at, HoldInOrder};
-ghost use Rattle.depend_rows.specs.Machines.{burning_fluids, electricity_row, energy_groups, fluid_or_burning, fuels_taken, heat_row, input_groups, machine_row, makes_electricity, makes_heat};
+ghost use Rattle.node_lists.specs.Members.{those};
+ghost use Rattle.depend_rows.specs.Members.{any_of, row_with};
+ghost use Rattle.depend_index.specs.Indexed.{IsIndex};
+ghost use Rattle.node_lists.specs.Lists.{numbers_at, HoldInOrder};
+ghost use Rattle.depend_rows.specs.Machines.{electricity_row, energy_groups, fluid_or_burning, fuels_taken, heat_row, input_groups, is_fuel_in, machine_row, makes_electricity, makes_heat};
 
-use crate::index::Index;
-use crate::lists::{distinct, list_at};
-use crate::members::{Test, all_of_good, all_of_node, any_of, row_with, those};
-use crate::places::{first_fluid, first_machine};
-use crate::unions::{in_order, push_list};
-use fractions::is_positive;
-use game_types::{Energy, Fluid, Game, Machine, MachineKind};
+use crate::members::{all_of_good, all_of_node, any_of, row_with};
+use depend_index::{Index, first_machine};
+use game_types::{Energy, Game, Machine, MachineKind};
 use graph_store::{Group, Row};
+use node_lists::{Test, distinct, in_order, list_at, push_list, those};
 use plan_base::{GoodId, NoMemory, NodeId};
 use std::alloc::Global;
 
@@ -54,27 +50,6 @@ fn fuels_taken(
     let fuels = index.fuels.as_slice();
     let nodes = fuels_listed(alloc, fuels, all)?;
     Ok(nodes)
-}
-
-// Whether a fluid burns, and is no variant.
-#[derive(Drop)]
-struct Burning;
-
-impl Test<Fluid> for Burning {
-    ghost passes = { λ _ fluid. is_none fluid.of && is_positive fluid.fuel_value };
-
-    fn passes(&self, fluid: &Fluid) -> bool {
-        fluid.of.is_none() && is_positive(&fluid.fuel_value)
-    }
-}
-
-/// The fluids that burn.
-#[tactic(auto, unfolding(crate::specs::Machines::burning_fluids))]
-pub fn burning_fluids(alloc: Global, game: &Game) -> Result<Vec<NodeId>, NoMemory>
-    requires { IsSound game.now }
-    ensures { IfOk result (λ nodes. nodes.items ≡ burning_fluids game.now) }
-{
-    those(alloc, first_fluid(game), game.fluids.as_slice(), &Burning)
 }
 
 // All of one fluid, or any that burns.

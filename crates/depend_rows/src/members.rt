@@ -1,88 +1,10 @@
-//! Lists of nodes, in node order, and the groups that they are the members of.
-ghost use Rattle.std.specs.Prelude.{◌≡◌, ℕ, ◌+◌, ◌++◌, ◌^◌, ◌<◌, ◌≤◌, ◌==◌, ◌∷◌, [], All, Bool, IfOk, OnOk, filter, length};
-ghost use Rattle.std.specs.List.{list_any, range_with_len};
-ghost use Rattle.depend_rows.specs.Members.{all_of, any_of, character_where, good_node, named, row_with, those};
+//! Lists of nodes, and the groups that they are the members of.
+ghost use Rattle.std.specs.Prelude.{◌≡◌, ◌+◌, ◌++◌, ◌^◌, ◌<◌, ◌∷◌, [], IfOk};
+ghost use Rattle.depend_rows.specs.Members.{all_of, any_of, character_where, good_node, row_with};
 
 use graph_store::{Group, Row};
 use plan_base::{GoodId, Items, NoMemory, NodeId};
 use std::alloc::Global;
-
-/// A test of things.
-pub trait Test<T> {
-    /// Whether a thing passes.
-    ghost passes: { Self → T → Bool };
-
-    /// Whether a thing passes.
-    fn passes(&self, thing: &T) -> bool
-        ensures { result ≡ passes self.now thing.now };
-}
-
-/// Appends the nodes, numbered from the first on, of the things that pass a test.
-pub fn push_those<T, P: Test<T>>(
-    nodes: &mut Vec<NodeId>,
-    first: u32,
-    things: &[T],
-    test: &P,
-) -> Result<(), NoMemory>
-    requires { first + length things.now < 2 ^ 32 }
-    ensures { OnOk result (nodes.new.items ≡ nodes.old.items ++ those (P.passes test.now) first things.now) }
-{
-    let mut node = first;
-    for thing in things {
-        if test.passes(thing) {
-            nodes.push(NodeId(node))?;
-        }
-        node += 1;
-    }
-    Ok(())
-}
-
-/// The nodes, numbered from the first on, of the things that pass a test.
-pub fn those<T, P: Test<T>>(
-    alloc: Global,
-    first: u32,
-    things: &[T],
-    test: &P,
-) -> Result<Vec<NodeId>, NoMemory>
-    requires { first + length things.now < 2 ^ 32 }
-    ensures { IfOk result (λ nodes. nodes.items ≡ those (P.passes test.now) first things.now) }
-{
-    let mut nodes = Vec::new(alloc);
-    push_those(&mut nodes, first, things, test)?;
-    Ok(nodes)
-}
-
-// The numbers in order, each once.
-fn sorted_numbers(count: u32, numbers: Vec<u32>) -> Vec<u32>
-    requires { All (λ k. k < count) numbers.items }
-    ensures numbers { result.items ≡ filter (λ i. list_any (λ j. j == i) numbers.items) (range_with_len 0 count) }
-    ensures below { All (λ k. k < count) result.items }
-{
-    let mut sorted = numbers;
-    sorted.sort_unstable();
-    sorted.dedup();
-    sorted
-}
-
-/// The nodes, numbered from the first on, of the things with these numbers, in order and each once.
-pub fn named(
-    alloc: Global,
-    first: u32,
-    count: u32,
-    numbers: Vec<u32>,
-) -> Result<Vec<NodeId>, NoMemory>
-    requires numbers { All (λ k. k < count) numbers.items }
-    requires few { first + count < 2 ^ 32 }
-    ensures { IfOk result (λ nodes. nodes.items ≡ named first count numbers.items) }
-{
-    let sorted = sorted_numbers(count, numbers);
-    let all = sorted.as_slice();
-    let mut nodes = Vec::new(alloc);
-    for number in all {
-        nodes.push(NodeId(first + *number))?;
-    }
-    Ok(nodes)
-}
 
 /// The character, where it does something itself, and then machines.
 pub fn with_character(

@@ -4,23 +4,22 @@ ghost use Rattle.std.specs.List.{cons_option, filter_map, list_all};
 ghost use Rattle.game_types.specs.Temperatures.{fits_alone, fluid_at, is_fit_variant};
 ghost use Rattle.game_types.specs.Making.{character_crafts, character_mines, kind_crafts, kind_mines};
 ghost use Rattle.game_types.specs.Sound.{IsGood, IsSound, IsSoundRecipe, IsSoundSource};
-ghost use Rattle.depend_rows.specs.Indexed.{IsIndex};
-ghost use Rattle.depend_rows.specs.Lists.{list_at, AreAllLists, AreMarks, HoldInOrder};
-ghost use Rattle.depend_rows.specs.Kinds.{is_drill_of};
-ghost use Rattle.depend_rows.specs.Members.{named, those};
-ghost use Rattle.depend_rows.specs.Goods.{bounded_group, bounded_groups, crafters, crafters_by, first_machine, fits, free_good, good_count, ingredients, is_free, miners, recipe_row, source_row};
+ghost use Rattle.depend_index.specs.Indexed.{IsIndex};
+ghost use Rattle.node_lists.specs.Lists.{list_at, AreAllLists, HoldInOrder};
+ghost use Rattle.depend_index.specs.Marks.{AreMarks};
+ghost use Rattle.depend_index.specs.Kinds.{is_drill_of};
+ghost use Rattle.node_lists.specs.Members.{named, those};
+ghost use Rattle.depend_index.specs.Goods.{first_machine, good_count};
+ghost use Rattle.depend_rows.specs.Goods.{bounded_group, bounded_groups, crafters, crafters_by, fits, free_good, ingredients, is_free, miners, recipe_row, source_row};
 
-use crate::among::techs_unlocking;
 use crate::goods::is_base;
-use crate::index::Index;
-use crate::lists::{list_at, list_of};
-use crate::marks::is_marked;
-use crate::members::{all_of, all_of_good, any_of, named, row_with, with_character};
-use crate::places::{first_fluid, first_machine, good_count};
-use crate::temperatures::numbers_within;
-use crate::unions::{in_order, push_list};
+use crate::members::{all_of, all_of_good, any_of, row_with, with_character};
+use depend_index::{
+    Index, first_fluid, first_machine, good_count, is_marked, numbers_within, techs_unlocking,
+};
 use game_types::{Character, Game, Part, Product, Recipe, Source, is_within};
 use graph_store::{Group, Row};
+use node_lists::{in_order, list_at, list_of, named, push_list};
 use plan_base::{EntityId, GoodId, NoMemory, NodeId, RecipeId};
 use std::alloc::Global;
 

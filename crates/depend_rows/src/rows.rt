@@ -6,18 +6,17 @@ ghost use Rattle.game_types.specs.Sound.{IsSound, IsSoundMachine, IsSoundRecipe,
 ghost use Rattle.game_types.specs.Lookups.{machine_at, recipe_at, source_at};
 ghost use Rattle.data_edit.specs.Books.{IsSoundBook};
 ghost use Rattle.graph_store.specs.Rows.{AreMembersBelow, HasMembersBelow, member_count, row_members};
-ghost use Rattle.depend_rows.specs.Indexed.{IsIndex};
+ghost use Rattle.depend_index.specs.Indexed.{IsIndex};
 ghost use Rattle.data_edit.specs.declared.books.Book.{Book};
 ghost use Rattle.depend_rows.specs.Rows.{row_beside, row_of, rows_of, special_row, tech_at};
 
 use crate::goods::good_row;
-use crate::index::Index;
 use crate::machines::{electricity_row, heat_row, machine_row};
 use crate::members::row_with;
-use crate::places::{first_machine, first_recipe, first_source, first_tech};
 use crate::recipes::{recipe_row, source_row};
 use crate::techs::tech_row;
 use data_edit::Book;
+use depend_index::{Index, first_machine, first_recipe, first_source, first_tech};
 use game_types::{Game, Machine, Recipe, Source, Tech};
 use graph_store::Row;
 use plan_base::{EntityId, NoMemory, NodeId, RecipeId, SourceId, Steps};

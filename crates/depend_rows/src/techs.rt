@@ -1,19 +1,15 @@
 //! What technologies need.
 ghost use Rattle.std.specs.Prelude.{◌≡◌, IfOk, map};
 ghost use Rattle.game_types.specs.Sound.{IsSound, IsSoundTech};
-ghost use Rattle.depend_rows.specs.Indexed.{IsIndex};
-ghost use Rattle.depend_rows.specs.Kinds.{is_lab};
-ghost use Rattle.depend_rows.specs.Goods.{first_machine};
-ghost use Rattle.depend_rows.specs.Members.{those};
+ghost use Rattle.depend_index.specs.Indexed.{IsIndex};
 ghost use Rattle.depend_rows.specs.Machines.{labs, prerequisites, science_packs, tech_row};
 
-use crate::index::Index;
-use crate::members::{Test, all_of, any_of, named, row_with, those};
-use crate::places::{first_machine, first_tech, good_count};
-use crate::words::in_each;
+use crate::members::{all_of, any_of, row_with};
+use depend_index::{Index, first_machine, first_tech, good_count};
 use fractions::Ratio;
-use game_types::{Game, Machine, MachineKind, Tech};
+use game_types::{Game, Tech};
 use graph_store::Row;
+use node_lists::{in_each, named};
 use plan_base::{GoodId, NoMemory, NodeId, TechId};
 use std::alloc::Global;
 
@@ -55,40 +51,6 @@ fn science_packs(alloc: Global, game: &Game, tech: &Tech) -> Result<Vec<NodeId>,
 {
     let goods = goods_of_parts(alloc, tech.ingredients.as_slice())?;
     named(alloc, 3, good_count(game), goods)
-}
-
-// Whether a machine is a lab.
-#[derive(Drop)]
-struct AreLabs;
-
-fn is_lab(kind: &MachineKind) -> bool
-    ensures { result ≡ is_lab kind.now }
-{
-    match kind {
-        MachineKind::Lab { .. } => true,
-        _ => false,
-    }
-}
-
-impl Test<Machine> for AreLabs {
-    ghost passes = { λ _ machine. is_lab machine.kind };
-
-    fn passes(&self, machine: &Machine) -> bool {
-        is_lab(&machine.kind)
-    }
-}
-
-/// All labs.
-pub fn all_labs(alloc: Global, game: &Game) -> Result<Vec<NodeId>, NoMemory>
-    requires { IsSound game.now }
-    ensures { IfOk result (λ nodes. nodes.items ≡ those (λ machine. is_lab machine.kind) (first_machine game.now) game.now.machines) }
-{
-    those(
-        alloc,
-        first_machine(game),
-        game.machines.as_slice(),
-        &AreLabs,
-    )
 }
 
 // The labs that research a technology.

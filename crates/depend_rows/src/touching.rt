@@ -8,11 +8,11 @@ ghost use Rattle.data_edit.specs.Books.{IsSoundBook};
 ghost use Rattle.plan_base.specs.declared.shape.Shape.{Shape};
 ghost use Rattle.graph_store.specs.Rows.{has_node};
 ghost use Rattle.data_edit.specs.Edits.{effect};
-ghost use Rattle.depend_rows.specs.Alike.{AlikeBut};
+ghost use Rattle.depend_index.specs.Alike.{AlikeBut};
 ghost use Rattle.depend_rows.specs.Touched.{TouchesAll, good_node_in, numbers_below, recipe_node, touched_by, touched_by_all, touched_numbers};
 
-use crate::members::named;
 use data_edit::Edit;
+use node_lists::named;
 use plan_base::{GoodId, Kind, NoMemory, NodeId, RecipeId, Shape};
 use std::alloc::Global;
 

@@ -18,9 +18,9 @@ use Rattle.data_edit.specs.Names.{KeepsNames}
 use Rattle.data_edit.proofs.EffectLaw.{effect_law}
 use Rattle.data_edit.proofs.NamesKept.{edit_keeps}
 use Rattle.depend_rows.specs.Touched.{touched_by, StaysAs}
-use Rattle.depend_rows.specs.Alike.{AlikeBut}
+use Rattle.depend_index.specs.Alike.{AlikeBut}
 use Rattle.depend_rows.proofs.AlikeLaw.{alike_law}
-use Rattle.depend_rows.proofs.AlikeLemmas.{alike_more, alike_same}
+use Rattle.depend_index.proofs.AlikeLemmas.{alike_more, alike_same}
 use Rattle.depend_rows.proofs.TouchLemmas.{touches_all}
 use Rattle.edit_undo.specs.Edits.{apply_edits, apply_from, then_apply}
 use Rattle.script_reader.specs.declared.change.Change.{Change}

@@ -14,9 +14,9 @@ use Rattle.data_edit.specs.Names.{KeepsNames}
 use Rattle.data_edit.proofs.NamesKept.{edit_keeps}
 use Rattle.depend_rows.specs.Rows.{rows_of}
 use Rattle.depend_rows.specs.Touched.{touched_by, touched_by_all, StaysAs}
-use Rattle.depend_rows.specs.Alike.{AlikeBut}
+use Rattle.depend_index.specs.Alike.{AlikeBut}
 use Rattle.depend_rows.proofs.AlikeLaw.{alike_law}
-use Rattle.depend_rows.proofs.AlikeLemmas.{alike_back, alike_more, alike_same}
+use Rattle.depend_index.proofs.AlikeLemmas.{alike_back, alike_more, alike_same}
 use Rattle.depend_rows.proofs.TouchLemmas.{touches_all}
 use Rattle.milestone_masks.specs.Worlds.{AreWorlds, Kept, milestones_of, size_of_all}
 use Rattle.edit_undo.specs.Edits.{apply_from, then_apply, IsEntry, Leads}

@@ -12,7 +12,7 @@ use Rattle.data_edit.specs.declared.parts.Inverse.{Inverse}
 use Rattle.data_edit.specs.Books.{IsSoundBook}
 use Rattle.data_edit.specs.Edits.{effect, restored}
 use Rattle.data_edit.specs.Names.{KeepsNames}
-use Rattle.depend_rows.specs.Alike.{AlikeBut}
+use Rattle.depend_index.specs.Alike.{AlikeBut}
 use Rattle.depend_rows.specs.Rows.{row_of}
 use Rattle.depend_rows.specs.Touched.{touched_by, StaysAs}
 use Rattle.edit_undo.specs.Edits.{apply_edits}

@@ -5,7 +5,7 @@ ghost use Rattle.graph_store.specs.Rows.{member_count};
 ghost use Rattle.game_types.specs.Nodes.{shape_of};
 ghost use Rattle.game_types.specs.Sound.{IsSound};
 ghost use Rattle.data_edit.specs.Books.{IsSoundBook};
-ghost use Rattle.depend_rows.specs.Indexed.{IsIndex};
+ghost use Rattle.depend_index.specs.Indexed.{IsIndex};
 ghost use Rattle.depend_rows.specs.Rows.{rows_of};
 ghost use Rattle.depend_rows.specs.declared.rows.TheConstants.{MEMBER_LIMIT};
 ghost use Rattle.milestone_masks.specs.Why.{IsWhy};
@@ -25,7 +25,8 @@ use crate::names::{node_named, nodes_of};
 use crate::refusals::{ChangeFault, LoadFault, Refusal};
 use crate::undos::Undo;
 use data_edit::Book;
-use depend_rows::{Index, RowsFault, rows_within};
+use depend_index::Index;
+use depend_rows::{RowsFault, rows_within};
 use edit_undo::{Editable, EntryFault};
 use game_types::Game;
 use graph_store::{Graph, Group, Rows};
@@ -54,7 +55,7 @@ impl Model for Planning {
     ghost use Rattle.milestone_masks.specs.Worlds.{milestones_of};
     ghost use Rattle.planning_state.specs.Worlds.{IsKept};
     ghost use Rattle.planner_tables.specs.Effects.{AreSoundTables};
-    ghost use Rattle.depend_rows.specs.Indexed.{IsIndex};
+    ghost use Rattle.depend_index.specs.Indexed.{IsIndex};
 
     ghost Value = { State };
 

@@ -3,13 +3,14 @@ ghost use Rattle.std.specs.Prelude.{◌≡◌, ◌+◌, ◌*◌, ◌≤◌, ◌<
 ghost use Rattle.plan_base.specs.Shape.{node_count};
 ghost use Rattle.game_types.specs.Nodes.{shape_of};
 ghost use Rattle.data_edit.specs.Books.{IsSoundBook};
-ghost use Rattle.depend_rows.specs.Indexed.{IsIndex};
+ghost use Rattle.depend_index.specs.Indexed.{IsIndex};
 ghost use Rattle.depend_rows.specs.Rows.{rows_of};
 ghost use Rattle.milestone_masks.specs.Worlds.{milestones_of, size_of_all, AgreeInWorlds, AreWorlds};
 ghost use Rattle.planning_state.specs.Books.{AreRowsBut};
 
 use data_edit::Book;
-use depend_rows::{Index, rows_for};
+use depend_index::Index;
+use depend_rows::rows_for;
 use graph_store::ReplaceRows;
 use milestone_masks::Worlds;
 use plan_base::{NoMemory, NodeId, Steps};

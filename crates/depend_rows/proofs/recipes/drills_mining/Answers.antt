@@ -1,6 +1,6 @@
 use Rattle.std.proofs.Common.{◌∙◌, ◌≡◌, rules}
 use Rattle.std.specs.Prelude.{is_none, not}
-use Rattle.depend_rows.specs.Goods.{first_machine}
+use Rattle.depend_index.specs.Goods.{first_machine}
 use Rattle.depend_rows.proofs.CraftLemmas.{drills_of_category, no_drills, none_or_some}
 use Rattle.depend_rows.proofs.recipes.drills_mining.Goals as goal
 

@@ -1,4 +1,4 @@
-use Rattle.depend_rows.proofs.CoolestLemmas.{coolest_for, fits_by_index}
+use Rattle.depend_index.proofs.CoolestLemmas.{coolest_for, fits_by_index}
 use Rattle.depend_rows.proofs.recipes.fit_variants.Goals as goal
 
 pub numbers_within-requires : goal.numbers_within-requires

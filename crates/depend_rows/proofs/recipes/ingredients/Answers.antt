@@ -4,7 +4,8 @@ use Rattle.std.specs.Prelude.{All, IfSome, if◌then◌else◌}
 use Rattle.game_types.specs.declared.recipes.Part.{Part}
 use Rattle.game_types.specs.Sound.{IsGood}
 use Rattle.depend_rows.proofs.FoundLemmas.{all_found}
-use Rattle.depend_rows.specs.Goods.{free_good, good_count, is_free}
+use Rattle.depend_index.specs.Goods.{good_count}
+use Rattle.depend_rows.specs.Goods.{free_good, is_free}
 use Rattle.depend_rows.proofs.recipes.ingredients.Goals as goal
 
 pub named-requires-clause-numbers : goal.named-requires-clause-numbers

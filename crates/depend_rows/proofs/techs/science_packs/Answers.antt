@@ -2,9 +2,9 @@ use Rattle.std.proofs.Common.{◌<◌, arith}
 use Rattle.std.specs.Prelude.{All}
 use Rattle.plan_base.specs.declared.ids.GoodId.{GoodId}
 use Rattle.fractions.specs.Fraction.{Fraction}
-use Rattle.depend_rows.specs.Goods.{good_count}
+use Rattle.depend_index.specs.Goods.{good_count}
 use Rattle.depend_rows.specs.Machines.{science_packs}
-use Rattle.depend_rows.proofs.Walks.{numbers_below}
+use Rattle.node_lists.proofs.Walks.{numbers_below}
 use Rattle.depend_rows.proofs.techs.science_packs.Goals as goal
 
 pub named-requires-clause-numbers : goal.named-requires-clause-numbers

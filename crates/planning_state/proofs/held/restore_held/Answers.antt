@@ -1,7 +1,7 @@
 use Rattle.std.proofs.Common.{◌∙◌, ap, sym, subst}
 use Rattle.data_edit.specs.declared.books.Book.{Book}
 use Rattle.data_edit.specs.Names.{KeepsNames}
-use Rattle.depend_rows.specs.Indexed.{IsIndex}
+use Rattle.depend_index.specs.Indexed.{IsIndex}
 use Rattle.game_types.specs.Nodes.{shape_of}
 use Rattle.planner_tables.specs.Effects.{AreSoundTables}
 use Rattle.planning_state.proofs.HeldLemmas.{work-held}

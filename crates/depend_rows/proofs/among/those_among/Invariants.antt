@@ -1,7 +1,0 @@
-use Rattle.depend_rows.specs.Lists.{has_node}
-use Rattle.depend_rows.specs.Members.{those}
-use Rattle.depend_rows.proofs.CommonLemmas.{FilteredSoFar}
-use Rattle.depend_rows.proofs.among.those_among.Given as goal
-
-abbrev pub invariant-loop-node : goal.invariant-loop-node
-invariant-loop-node g l = FilteredSoFar (λ n. has_node (those (g.P.Test.passes l.test) l.first l.things) n.0) l.nodes l.node-index l.kept.items

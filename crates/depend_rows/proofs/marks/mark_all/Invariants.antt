@@ -1,5 +1,0 @@
-use Rattle.depend_rows.proofs.MarkLemmas.{MarkedSoFar}
-use Rattle.depend_rows.proofs.marks.mark_all.Given as goal
-
-abbrev pub invariant-loop-category : goal.invariant-loop-category
-invariant-loop-category l = MarkedSoFar l.categories l.initial.marks l.category-index l.marks

@@ -1,7 +1,0 @@
-use Rattle.game_types.specs.Temperatures.{is_within}
-use Rattle.depend_rows.specs.Coolest.{temperature_of}
-use Rattle.depend_rows.proofs.CoolestLemmas.{WithinSoFar}
-use Rattle.depend_rows.proofs.temperatures.numbers_within.Given as goal
-
-abbrev pub invariant-loop-place : goal.invariant-loop-place
-invariant-loop-place l = WithinSoFar (λ n. is_within l.low l.high (temperature_of l.fluids l.first n)) l.nodes l.from l.place l.numbers.items
