@@ -1,5 +1,6 @@
 //! What machines need, and what gives electricity and heat.
-ghost use Rattle.std.specs.Prelude.{◌≡◌, ◌<◌, ◌++◌, ◌∷◌, [], IfOk, IfSome, OnOk, length};
+ghost use Rattle.std.specs.Prelude.{◌≡◌, ◌<◌, ◌∷◌, [], IfOk, IfSome, length};
+ghost use Rattle.std.specs.List.{cons_option};
 ghost use Rattle.fractions.specs.Fraction.{Fraction};
 ghost use Rattle.game_types.specs.declared.machinery.Energy.TheVariants.{Burner};
 ghost use Rattle.game_types.specs.Sound.{IsFluid, IsSound, IsSoundEnergy, IsSoundKind, IsSoundMachine};
@@ -9,7 +10,7 @@ ghost use Rattle.depend_index.specs.Indexed.{IsIndex};
 ghost use Rattle.node_lists.specs.Lists.{numbers_at, HoldInOrder};
 ghost use Rattle.depend_rows.specs.Machines.{electricity_row, energy_groups, fluid_or_burning, fuels_taken, heat_row, input_groups, is_fuel_in, machine_row, makes_electricity, makes_heat};
 
-use crate::members::{all_of_good, all_of_node, any_of, row_with};
+use crate::members::{all_of_good, all_of_node, any_of, put_found, row_with};
 use depend_index::{Index, first_machine};
 use game_types::{Energy, Game, Machine, MachineKind};
 use graph_store::{Group, Row};
@@ -91,60 +92,53 @@ fn burner_group(
     Ok(any_of(nodes))
 }
 
-// What a machine takes its energy from.
+// The group of what a machine takes its energy from, where it takes any.
 #[tactic(auto, unfolding(crate::specs::Machines::energy_groups))]
-fn push_energy(
+fn energy_group(
     alloc: Global,
     game: &Game,
     index: &Index,
     energy: &Energy,
-    groups: &mut Vec<Group>,
-) -> Result<(), NoMemory>
+) -> Result<Option<Group>, NoMemory>
     requires sound { IsSound game.now }
     requires index { IsIndex game.now index.now }
     requires energy { IsSoundEnergy game.now energy.now }
-    ensures { OnOk result (groups.new.items ≡ groups.old.items ++ energy_groups game.now energy.now) }
+    ensures { IfOk result (λ group. cons_option group [] ≡ energy_groups game.now energy.now) }
 {
     match energy {
-        Energy::Electric => groups.push(all_of_node(alloc, NodeId::electricity())?)?,
+        Energy::Electric => Ok(Some(all_of_node(alloc, NodeId::electricity())?)),
         Energy::Burner { categories, .. } => {
-            groups.push(burner_group(alloc, game, index, categories.as_slice())?)?
+            Ok(Some(burner_group(alloc, game, index, categories.as_slice())?))
         }
-        Energy::Heat => groups.push(all_of_node(alloc, NodeId::heat())?)?,
-        Energy::Fluid { filter, .. } => {
-            groups.push(fluid_or_burning(alloc, game, index, *filter)?)?
-        }
-        Energy::Void => {}
+        Energy::Heat => Ok(Some(all_of_node(alloc, NodeId::heat())?)),
+        Energy::Fluid { filter, .. } => Ok(Some(fluid_or_burning(alloc, game, index, *filter)?)),
+        Energy::Void => Ok(None),
     }
-    Ok(())
 }
 
-// What a boiler heats, and what a generator runs on.
+// The group of what a boiler heats, or of what a generator runs on.
 #[tactic(auto, unfolding(crate::specs::Machines::input_groups))]
-fn push_input(
+fn input_group(
     alloc: Global,
     game: &Game,
     index: &Index,
     kind: &MachineKind,
-    groups: &mut Vec<Group>,
-) -> Result<(), NoMemory>
+) -> Result<Option<Group>, NoMemory>
     requires sound { IsSound game.now }
     requires index { IsIndex game.now index.now }
     requires kind { IsSoundKind game.now kind.now }
-    ensures { OnOk result (groups.new.items ≡ groups.old.items ++ input_groups game.now kind.now) }
+    ensures { IfOk result (λ group. cons_option group [] ≡ input_groups game.now kind.now) }
 {
     match kind {
-        MachineKind::Boiler { input, .. } => {
-            if let Some(fluid) = *input {
-                groups.push(all_of_good(alloc, fluid)?)?;
-            }
-        }
+        MachineKind::Boiler {
+            input: Some(fluid),
+            ..
+        } => Ok(Some(all_of_good(alloc, *fluid)?)),
         MachineKind::Generator { input, .. } => {
-            groups.push(fluid_or_burning(alloc, game, index, *input)?)?
+            Ok(Some(fluid_or_burning(alloc, game, index, *input)?))
         }
-        _ => {}
+        _ => Ok(None),
     }
-    Ok(())
 }
 
 /// The row of a machine.
@@ -165,8 +159,11 @@ pub fn machine_row(
     let makers = any_of(list_at(alloc, index.placers.as_slice(), number)?);
     let mut groups = Vec::new(alloc);
     groups.push(makers)?;
-    push_energy(alloc, game, index, &machine.energy, &mut groups)?;
-    push_input(alloc, game, index, &machine.kind, &mut groups)?;
+    put_found(
+        &mut groups,
+        energy_group(alloc, game, index, &machine.energy)?,
+    )?;
+    put_found(&mut groups, input_group(alloc, game, index, &machine.kind)?)?;
     Ok(row_with(groups))
 }
 

@@ -1,5 +1,6 @@
 //! Lists of nodes, and the groups that they are the members of.
 ghost use Rattle.std.specs.Prelude.{◌≡◌, ◌+◌, ◌++◌, ◌^◌, ◌<◌, ◌∷◌, [], IfOk};
+ghost use Rattle.std.specs.List.{cons_option};
 ghost use Rattle.depend_rows.specs.Members.{all_of, any_of, character_where, good_node, row_with};
 
 use graph_store::{Group, Row};
@@ -67,4 +68,14 @@ pub fn row_with(groups: Vec<Group>) -> Row
     Row {
         groups: Items::from_vec(groups),
     }
+}
+
+/// Puts one more at the end, where it is there.
+pub fn put_found<T: Drop>(list: &mut Vec<T>, found: Option<T>) -> Result<(), NoMemory>
+    ensures { IfOk result (λ done. list.new.items ≡ list.old.items ++ cons_option found []) }
+{
+    if let Some(value) = found {
+        list.push(value)?;
+    }
+    Ok(())
 }

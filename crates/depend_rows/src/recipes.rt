@@ -1,6 +1,6 @@
 //! What recipes and sources need.
-ghost use Rattle.std.specs.Prelude.{◌≡◌, ◌+◌, ◌<◌, ◌++◌, ◌∷◌, [], All, IfOk, None, Some, length, map, nat_lt, slice_get};
-ghost use Rattle.std.specs.List.{cons_option, filter_map, list_all};
+ghost use Rattle.std.specs.Prelude.{◌≡◌, ◌+◌, ◌<◌, ◌++◌, ◌∷◌, [], All, IfOk, None, OnOk, Some, length, map, nat_lt, not, slice_get};
+ghost use Rattle.std.specs.List.{filter_map, list_all};
 ghost use Rattle.game_types.specs.Temperatures.{fits_alone, fluid_at, is_fit_variant};
 ghost use Rattle.game_types.specs.Making.{character_crafts, character_mines, kind_crafts, kind_mines};
 ghost use Rattle.game_types.specs.Sound.{IsGood, IsSound, IsSoundRecipe, IsSoundSource};
@@ -9,11 +9,12 @@ ghost use Rattle.node_lists.specs.Lists.{list_at, AreAllLists, HoldInOrder};
 ghost use Rattle.depend_index.specs.Marks.{AreMarks};
 ghost use Rattle.depend_index.specs.Kinds.{is_drill_of};
 ghost use Rattle.node_lists.specs.Members.{named, those};
-ghost use Rattle.depend_index.specs.Goods.{first_machine, good_count};
+ghost use Rattle.depend_index.specs.Goods.{first_machine, good_count, unlockers};
+ghost use Rattle.depend_rows.specs.Members.{any_of, group_where};
 ghost use Rattle.depend_rows.specs.Goods.{bounded_group, bounded_groups, crafters, crafters_by, fits, free_good, ingredients, is_free, miners, recipe_row, source_row};
 
 use crate::goods::is_base;
-use crate::members::{all_of, all_of_good, any_of, row_with, with_character};
+use crate::members::{all_of, all_of_good, any_of, put_found, row_with, with_character};
 use depend_index::{
     Index, first_fluid, first_machine, good_count, is_marked, numbers_within, techs_unlocking,
 };
@@ -40,16 +41,6 @@ fn free_good(part: &Part) -> Option<u32>
     } else {
         None
     }
-}
-
-// One more at the end, where it is there.
-fn put_found<T: Drop>(list: &mut Vec<T>, found: Option<T>) -> Result<(), NoMemory>
-    ensures { IfOk result (λ done. list.new.items ≡ list.old.items ++ cons_option found []) }
-{
-    if let Some(value) = found {
-        list.push(value)?;
-    }
-    Ok(())
 }
 
 // The goods of the ingredients without a bound.
@@ -283,6 +274,48 @@ fn crafters(
     }
 }
 
+// The group of what crafts a recipe.
+fn push_crafters(
+    alloc: Global,
+    game: &Game,
+    index: &Index,
+    number: u32,
+    recipe: &Recipe,
+    groups: &mut Vec<Group>,
+) -> Result<(), NoMemory>
+    requires sound { IsSound game.now }
+    requires index { IsIndex game.now index.now }
+    requires there { slice_get game.now.recipes number ≡ Some recipe.now }
+    requires number { number < length game.now.recipes }
+    requires recipe { IsSoundRecipe game.now recipe.now }
+    ensures { OnOk result (groups.new.items ≡ groups.old.items ++ any_of (crafters game.now number recipe.now) ∷ []) }
+{
+    let nodes = crafters(alloc, game, index, number, recipe)?;
+    groups.push(any_of(nodes))?;
+    Ok(())
+}
+
+// The group of what unlocks a recipe, where it isn't known from the start.
+fn push_unlockers(
+    alloc: Global,
+    game: &Game,
+    index: &Index,
+    number: u32,
+    enabled: bool,
+    groups: &mut Vec<Group>,
+) -> Result<(), NoMemory>
+    requires sound { IsSound game.now }
+    requires index { IsIndex game.now index.now }
+    requires number { number < length game.now.recipes }
+    ensures { OnOk result (groups.new.items ≡ groups.old.items ++ group_where (not enabled) (any_of (unlockers game.now number))) }
+{
+    if !enabled {
+        let nodes = techs_unlocking(alloc, game, index, number)?;
+        groups.push(any_of(nodes))?;
+    }
+    Ok(())
+}
+
 /// The row of a recipe.
 #[tactic(auto, unfolding(crate::specs::Goods::recipe_row, crate::specs::Goods::bounded_groups))]
 pub fn recipe_row(
@@ -308,10 +341,8 @@ pub fn recipe_row(
         recipe.ingredients.as_slice(),
         &mut groups,
     )?;
-    groups.push(any_of(crafters(alloc, game, index, number, recipe)?))?;
-    if !recipe.enabled {
-        groups.push(any_of(techs_unlocking(alloc, game, index, number)?))?;
-    }
+    push_crafters(alloc, game, index, number, recipe, &mut groups)?;
+    push_unlockers(alloc, game, index, number, recipe.enabled, &mut groups)?;
     Ok(row_with(groups))
 }
 

@@ -84,13 +84,10 @@ pub fn tech_row(alloc: Global, game: &Game, index: &Index, tech: &Tech) -> Resul
     requires tech { IsSoundTech game.now tech.now }
     ensures { IfOk result (λ row. row ≡ tech_row game.now tech.now) }
 {
-    let before = all_of(prerequisites(alloc, game, tech)?);
-    let parts = all_of(science_packs(alloc, game, tech)?);
-    let makers = any_of(labs(alloc, game, index, tech)?);
     let mut groups = Vec::new(alloc);
-    groups.push(before)?;
-    groups.push(parts)?;
-    groups.push(makers)?;
+    groups.push(all_of(prerequisites(alloc, game, tech)?))?;
+    groups.push(all_of(science_packs(alloc, game, tech)?))?;
+    groups.push(any_of(labs(alloc, game, index, tech)?))?;
     if !tech.enabled {
         groups.push(any_of(Vec::new(alloc)))?;
     }
