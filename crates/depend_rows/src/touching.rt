@@ -36,6 +36,39 @@ fn push_good(nodes: &mut Vec<NodeId>, shape: &Shape, good: GoodId) -> Result<(),
     Ok(())
 }
 
+// The node of a recipe.
+fn recipe_alone(alloc: Global, shape: &Shape, recipe: RecipeId) -> Result<Vec<NodeId>, NoMemory>
+    requires { node_count shape.now < 2 ^ 32 }
+    ensures { IfOk result (λ nodes. nodes.items ≡ recipe_node shape.now recipe) }
+{
+    let mut nodes = Vec::new(alloc);
+    push_recipe(&mut nodes, shape, recipe)?;
+    Ok(nodes)
+}
+
+// The node of a recipe, and then that of a good.
+fn recipe_and_good(
+    alloc: Global,
+    shape: &Shape,
+    recipe: RecipeId,
+    good: GoodId,
+) -> Result<Vec<NodeId>, NoMemory>
+    requires { node_count shape.now < 2 ^ 32 }
+    ensures { IfOk result (λ nodes. nodes.items ≡ recipe_node shape.now recipe ++ good_node_in shape.now good) }
+{
+    let mut nodes = recipe_alone(alloc, shape, recipe)?;
+    push_good(&mut nodes, shape, good)?;
+    Ok(nodes)
+}
+
+fn one_node(alloc: Global, node: NodeId) -> Result<Vec<NodeId>, NoMemory>
+    ensures { IfOk result (λ nodes. nodes.items ≡ node ∷ []) }
+{
+    let mut nodes = Vec::new(alloc);
+    nodes.push(node)?;
+    Ok(nodes)
+}
+
 /// The nodes whose row or mark an edit may change: the recipe for an edit of its ingredients, its products, what unlocks
 /// it, and whether it is known from the start, followed by the good for an edit of products; the node for a mark; nothing
 /// for a time. An id that names nothing has no node.
@@ -47,27 +80,19 @@ pub fn touched(alloc: Global, edit: &Edit, shape: &Shape) -> Result<Vec<NodeId>,
     requires { node_count shape.now < 2 ^ 32 }
     ensures { IfOk result (λ nodes. nodes.items ≡ touched_by shape.now edit.now) }
 {
-    let mut nodes = Vec::new(alloc);
     match edit {
-        Edit::SetIngredient { recipe, .. } => push_recipe(&mut nodes, shape, *recipe)?,
-        Edit::DropIngredient { recipe, .. } => push_recipe(&mut nodes, shape, *recipe)?,
-        Edit::SetProduct { recipe, good, .. } => {
-            push_recipe(&mut nodes, shape, *recipe)?;
-            push_good(&mut nodes, shape, *good)?;
-        }
-        Edit::DropProduct { recipe, good } => {
-            push_recipe(&mut nodes, shape, *recipe)?;
-            push_good(&mut nodes, shape, *good)?;
-        }
-        Edit::SetUnlock { recipe, .. } => push_recipe(&mut nodes, shape, *recipe)?,
-        Edit::SetTime { .. } => {}
-        Edit::SetEnabled { recipe, .. } => push_recipe(&mut nodes, shape, *recipe)?,
-        Edit::Forbid(node) => nodes.push(*node)?,
-        Edit::Permit(node) => nodes.push(*node)?,
-        Edit::Grant(node) => nodes.push(*node)?,
-        Edit::Revoke(node) => nodes.push(*node)?,
+        Edit::SetIngredient { recipe, .. } => recipe_alone(alloc, shape, *recipe),
+        Edit::DropIngredient { recipe, .. } => recipe_alone(alloc, shape, *recipe),
+        Edit::SetProduct { recipe, good, .. } => recipe_and_good(alloc, shape, *recipe, *good),
+        Edit::DropProduct { recipe, good } => recipe_and_good(alloc, shape, *recipe, *good),
+        Edit::SetUnlock { recipe, .. } => recipe_alone(alloc, shape, *recipe),
+        Edit::SetTime { .. } => Ok(Vec::new(alloc)),
+        Edit::SetEnabled { recipe, .. } => recipe_alone(alloc, shape, *recipe),
+        Edit::Forbid(node) => one_node(alloc, *node),
+        Edit::Permit(node) => one_node(alloc, *node),
+        Edit::Grant(node) => one_node(alloc, *node),
+        Edit::Revoke(node) => one_node(alloc, *node),
     }
-    Ok(nodes)
 }
 
 // Appends the numbers of these nodes, of those that are nodes at all.
