@@ -85,7 +85,7 @@ pub fn wide_divisor(top: i128, bottom: u64) -> u64
     ensures top { result ∣ unsigned_abs top }
     ensures bottom { result ∣ bottom }
 {
-    common_divisor(rest_by(top, bottom), bottom)
+    common_divisor(bottom, rest_by(top, bottom))
 }
 
 /// A number divided by a natural, toward zero.
