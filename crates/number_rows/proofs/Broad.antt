@@ -150,10 +150,3 @@ factor_wide top t f g bound et ht hb gd ef hf =
       ap (λ k. k *ℤ pos g) (ef ∙ ap (λ k. int_div k (pos g)) w) ∙ int_div-mul t g (subst (λ (k : ℕ). g ∣ k) (ap unsigned_abs w) gd),
       omega (arith, hf, ap unsigned_abs w, ht),
     )
-
-pub scale_fits : (m n p : ℕ) → n ≤ p → m * p < 2 ^ 124 → m * n < 2 ^ 124
-scale_fits m n p h q = let e : n * m ≤ p * m = mul-le-mul_right m h in omega (arith, e, q)
-
-pub factor_fits : (f : ℤ) (m n : ℕ) → unsigned_abs f ≤ m → m < 2 ^ 125 → m * n < 2 ^ 124 → n * unsigned_abs (wrap128 f) < 2 ^ 124
-factor_fits f m n h hm q =
-    subst (λ (x : ℤ). n * unsigned_abs x < 2 ^ 124) (sym (whole_back f (omega (arith, h, hm)))) (let e : unsigned_abs f * n ≤ m * n = mul-le-mul_right n h in omega (arith, e, q))

@@ -65,16 +65,16 @@ pub fn fraction(top: i128, bottom: u64) -> Ratio
     }
 }
 
-/// Whether the products of a bound with another, and with a denominator, are below the limit of products.
-pub fn fits_wide(bound: u128, other_bound: u64, other_bottom: u64) -> bool
+/// Whether the products of a bound and a scale, and of another and a factor, are below the limit of products.
+pub fn fits_wide(bound: u128, scale: u64, other_bound: u64, factor: u128) -> bool
+    requires scale { scale < 2 ^ 62 }
     requires other_bound { other_bound < 2 ^ 62 }
-    requires other_bottom { other_bottom < 2 ^ 62 }
-    ensures { OnTrue result ((bound * other_bound < 2 ^ 124) × (bound * other_bottom < 2 ^ 124)) }
+    ensures { OnTrue result ((bound * scale < 2 ^ 124) × (other_bound * factor < 2 ^ 124)) }
 {
-    if bound >= WIDE {
+    if bound >= WIDE || factor >= WIDE {
         return false;
     }
-    bound * (other_bound as u128) < PRODUCT && bound * (other_bottom as u128) < PRODUCT
+    bound * (scale as u128) < PRODUCT && (other_bound as u128) * factor < PRODUCT
 }
 
 /// What a number and a natural have in common.
