@@ -4,8 +4,8 @@ use Rattle.std.specs.Int.{◌∣◌, w128}
 use Rattle.std.proofs.Common.{refl, sym, ap, subst, ◌∙◌, arith, set, below_more, to_z}
 use Rattle.std.proofs.lemmas.Int.{ints, unsigned_abs-mul, to_z_pos}
 use Rattle.std.proofs.lemmas.List.{get_or-set_same, get_or-set_other}
-use Rattle.std.proofs.Math.Nat.{mul-le-mul_right}
-use Rattle.fractions.specs.Fraction.{frac, whole_fraction, zero_fraction, int_div-mul, ◌/ʳ◌}
+use Rattle.std.proofs.Math.Nat.{mul-le-mul_right, dvd-mul_left}
+use Rattle.fractions.specs.Fraction.{frac, whole_fraction, zero_fraction, int_div-mul, mul_cancel, ◌/ʳ◌}
 use Rattle.fractions.proofs.Parts.{whole_back}
 use Rattle.number_rows.specs.Tops.{top_at}
 use Rattle.number_rows.proofs.Lists.{wrap, back}
@@ -150,3 +150,10 @@ factor_wide top t f g bound et ht hb gd ef hf =
       ap (λ k. k *ℤ pos g) (ef ∙ ap (λ k. int_div k (pos g)) w) ∙ int_div-mul t g (subst (λ (k : ℕ). g ∣ k) (ap unsigned_abs w) gd),
       omega (arith, hf, ap unsigned_abs w, ht),
     )
+
+-- ---- a quotient that was guessed and multiplied back
+pub divides_by : (t q : ℤ) (d : ℕ) → q *ℤ pos d ≡ t → d ∣ unsigned_abs t
+divides_by t q d e = subst (λ (n : ℕ). d ∣ n) (sym (unsigned_abs-mul q (pos d)) ∙ ap unsigned_abs e) (dvd-mul_left d (unsigned_abs q))
+
+pub quotient_by : (t q : ℤ) (d : ℕ) → 0 < d → q *ℤ pos d ≡ t → q ≡ int_div t (pos d)
+quotient_by t q d p e = mul_cancel q (int_div t (pos d)) d p (e ∙ sym (int_div-mul t d (divides_by t q d e)))

@@ -223,9 +223,9 @@ fn long_combined(top: i64, scale: i64, other: i64, factor: i64) -> i128
     first - second
 }
 
-// The inverse of an odd number modulo 2^64. To the caller it is a guess, like all that is computed by it: each step brings
-// twice as many bits right.
-fn likely_inverse(odd: u64) -> u64 {
+/// The inverse of an odd number modulo 2^64. To the caller it is a guess, like all that is computed by it: each step brings
+/// twice as many bits right.
+pub fn likely_inverse(odd: u64) -> u64 {
     let mut inverse = odd;
     for _step in 0..5 {
         inverse = inverse.wrapping_mul(2u64.wrapping_sub(odd.wrapping_mul(inverse)));
@@ -252,8 +252,9 @@ pub fn rest_by(number: i128, divisor: u64) -> u64
     rest as u64
 }
 
-// The quotient by a divisor, where that leaves no rest and the quotient is below the limit.
-fn exact_quotient(number: i128, divisor: u64, shift: u32, inverse: u64) -> Option<i64>
+/// The quotient by a divisor, where that leaves no rest and the quotient is below the limit. The shift is the number of
+/// zeros that the divisor ends in, and the inverse that of its part beside them.
+pub fn exact_quotient(number: i128, divisor: u64, shift: u32, inverse: u64) -> Option<i64>
     requires small_divisor { divisor < 2 ^ 62 }
     requires shift { shift < 64 }
     ensures { IfSome result (λ q. (q *ℤ pos divisor ≡ number) × (unsigned_abs q < 2 ^ 62)) }
