@@ -4,8 +4,8 @@ use Rattle.std.specs.Int.{◌∣◌, w128}
 use Rattle.std.proofs.Common.{refl, sym, ap, subst, ◌∙◌, arith, set, below_more, to_z}
 use Rattle.std.proofs.lemmas.Int.{ints, unsigned_abs-mul, to_z_pos}
 use Rattle.std.proofs.lemmas.List.{get_or-set_same, get_or-set_other}
-use Rattle.std.proofs.Math.Nat.{mul-le-mul_right}
-use Rattle.fractions.specs.Fraction.{frac, whole_fraction, zero_fraction, int_div-mul, ◌/ʳ◌}
+use Rattle.std.proofs.Math.Nat.{mul-le-mul_right, dvd-mul_left}
+use Rattle.fractions.specs.Fraction.{frac, whole_fraction, zero_fraction, int_div-mul, mul_cancel, ◌/ʳ◌}
 use Rattle.fractions.proofs.Parts.{whole_back}
 use Rattle.number_rows.specs.Tops.{top_at}
 use Rattle.number_rows.proofs.Lists.{wrap, back}
@@ -151,9 +151,9 @@ factor_wide top t f g bound et ht hb gd ef hf =
       omega (arith, hf, ap unsigned_abs w, ht),
     )
 
-pub scale_fits : (m n p : ℕ) → n ≤ p → m * p < 2 ^ 124 → m * n < 2 ^ 124
-scale_fits m n p h q = let e : n * m ≤ p * m = mul-le-mul_right m h in omega (arith, e, q)
+-- ---- a quotient that was guessed and multiplied back
+pub divides_by : (t q : ℤ) (d : ℕ) → q *ℤ pos d ≡ t → d ∣ unsigned_abs t
+divides_by t q d e = subst (λ (n : ℕ). d ∣ n) (sym (unsigned_abs-mul q (pos d)) ∙ ap unsigned_abs e) (dvd-mul_left d (unsigned_abs q))
 
-pub factor_fits : (f : ℤ) (m n : ℕ) → unsigned_abs f ≤ m → m < 2 ^ 125 → m * n < 2 ^ 124 → n * unsigned_abs (wrap128 f) < 2 ^ 124
-factor_fits f m n h hm q =
-    subst (λ (x : ℤ). n * unsigned_abs x < 2 ^ 124) (sym (whole_back f (omega (arith, h, hm)))) (let e : unsigned_abs f * n ≤ m * n = mul-le-mul_right n h in omega (arith, e, q))
+pub quotient_by : (t q : ℤ) (d : ℕ) → 0 < d → q *ℤ pos d ≡ t → q ≡ int_div t (pos d)
+quotient_by t q d p e = mul_cancel q (int_div t (pos d)) d p (e ∙ sym (int_div-mul t d (divides_by t q d e)))

@@ -5,7 +5,7 @@ use Rattle.std.specs.Int.{◌∣◌, w64}
 use Rattle.std.specs.Int.Signed.{lt_z}
 use Rattle.std.proofs.Common.{refl, sym, ap, subst, ◌∙◌, arith, to_z}
 use Rattle.std.proofs.lemmas.Int.{ints, to_z_pos}
-use Rattle.std.proofs.Math.Nat.{div-mul_cancel, mul-le-mul_right}
+use Rattle.std.proofs.Math.Nat.{div-mul_cancel, div-le_self, mul-le-mul_right}
 use borrow.Author.Differences.{below_in, lt-true}
 use Rattle.fractions.specs.Fraction.{Fraction, frac, zero_fraction, int_div-mul, lower_pos, ◌/ʳ◌, ◌-ʳ◌, ◌*ʳ◌}
 use Rattle.fractions.specs.Fracs.{frac_scale, zero-frac, pos_product}
@@ -18,7 +18,7 @@ use Rattle.number_rows.specs.Row.{kept, IsKept, IsKeptLong}
 use Rattle.number_rows.specs.Tops.{top_at, AreWithin, IsDividedBy, IsTurned, IsCombined, IsCombinedOver, AreOver, AreSame}
 use Rattle.number_rows.proofs.Kept.{short_at, length_shown, same_numbers, kept_at, kept_length, shown_over}
 use Rattle.number_rows.proofs.Lists.{wrap, back}
-use Rattle.number_rows.proofs.Short.{less_fits, less_fits_by, less_is, narrow_over, quotient_is}
+use Rattle.number_rows.proofs.Short.{less_fits, less_fits_out, less_is, narrow_over, quotient_is}
 
 -- ---- taking out what all have in common
 same_over : (t u : ℤ) (b c : ℕ) → 0 < b → 0 < c → c ∣ b → u *ℤ pos c ≡ t → frac u (b / c) ≡ frac t b
@@ -182,7 +182,7 @@ over_shown s b ts us ns xs ex es h =
       numbers = λ k q. short_at s b ts ns xs k ex es (omega (arith, q, h.length_is)) ∙ ap (λ t. frac t b) (sym (h.numbers k (omega (arith, q, h.length_is))));
     }
 
-pub reduced_wide : (s : Bool) (b b' bound bound' a g m : ℕ) (f : ℤ) (ts us vs : List ℤ) (ns : List Fraction) (xs ys : Numbers) (k : ℕ) → record { items = kept s b ts ns } ≡ xs → s ≡ true → IsKeptLong b bound ts ns → 0 < b' → b' < 2 ^ 62 → AreWithin vs bound' → length xs.items ≡ length vs → k < length ts → bound * bound' < 2 ^ 124 → bound * b' < 2 ^ 124 → 0 < g → g ∣ b' → a ≡ b' / g → f *ℤ pos g ≡ top_at ts k → AreReducedTops b a m f ts vs us → ys ≡ record { items = kept s m us ns } →
+pub reduced_wide : (s : Bool) (b b' bound bound' a g m : ℕ) (f : ℤ) (ts us vs : List ℤ) (ns : List Fraction) (xs ys : Numbers) (k : ℕ) → record { items = kept s b ts ns } ≡ xs → s ≡ true → IsKeptLong b bound ts ns → 0 < b' → b' < 2 ^ 62 → AreWithin vs bound' → length xs.items ≡ length vs → k < length ts → bound * a < 2 ^ 124 → bound' * unsigned_abs f < 2 ^ 124 → 0 < g → g ∣ b' → a ≡ b' / g → f *ℤ pos g ≡ top_at ts k → AreReducedTops b a m f ts vs us → ys ≡ record { items = kept s m us ns } →
     IsReducedRow xs.items (number_at xs.items k) (kept true b' vs []) ys.items
 reduced_wide s b b' bound bound' a g m f ts us vs ns xs ys k ex es h pb' hb' hv width lt first second pg gb ea ef t ey =
     let at : (j : ℕ) → j < length ts → number_at xs.items j ≡ frac (top_at ts j) b = λ j q. short_at s b ts ns xs j ex es q in
@@ -192,13 +192,14 @@ reduced_wide s b b' bound bound' a g m f ts us vs ns xs ys k ex es h pb' hb' hv 
     let new : (j : ℕ) → j < length ts → number_at ys.items j ≡ frac (top_at us j) m = λ j q. short_at s m us ns ys j (sym ey) es (omega (arith, q, t.length_is)) in
     let pa : 0 < a = subst (λ (n : ℕ). 0 < n) (sym ea) (lower_pos b' g pb' gb) in
     let ag : a * g ≡ b' = ap (λ n. n * g) ea ∙ div-mul_cancel g gb in
+    let small : a < 2 ^ 62 = omega (arith, ea, div-le_self b' g, hb') in
     let fits : (j : ℕ) → j < length ts → LessFits (number_at xs.items j) (number_at xs.items k) (number_at (kept true b' vs []) j) =
     λ j q. subst (λ (x : Fraction). LessFits x (number_at xs.items k) (number_at (kept true b' vs []) j)) (sym (at j q))
     (subst (λ (x : Fraction). LessFits (frac (top_at ts j) b) x (number_at (kept true b' vs []) j)) (sym (at k lt))
     (subst (λ (x : Fraction). LessFits (frac (top_at ts j) b) (frac (top_at ts k) b) x) (sym (other j q))
-    (less_fits_by (top_at ts j) (top_at ts k) (top_at vs j) b b' h.positive pb' h.bottom_small hb'
-    (times_most (unsigned_abs (top_at ts j)) bound b' (h.within j q) second)
-    (times_both (unsigned_abs (top_at ts k)) (unsigned_abs (top_at vs j)) bound bound' (h.within k lt) (hv j (omega (arith, q, both))) first)))) in
+    (less_fits_out (top_at ts j) (top_at ts k) (top_at vs j) f b b' a g h.positive pa pg h.bottom_small small ef ag
+    (times_most (unsigned_abs (top_at ts j)) bound a (h.within j q) first)
+    (times_most' (unsigned_abs (top_at vs j)) bound' (unsigned_abs f) (hv j (omega (arith, q, both))) second)))) in
     let is : (j : ℕ) → j < length ts → frac (top_at us j) m ≡ number_at xs.items j -ʳ number_at xs.items k *ʳ number_at (kept true b' vs []) j =
     λ j q. t.numbers j q
     ∙ (less_is (top_at ts j) (top_at ts k) (top_at vs j) f b b' a g h.positive pa pg ef ag
@@ -213,8 +214,8 @@ reduced_wide s b b' bound bound' a g m f ts us vs ns xs ys k ex es h pb' hb' hv 
     times_most : (n m s : ℕ) → n ≤ m → m * s < 2 ^ 124 → n * s < 2 ^ 124
     times_most n m s h q = omega (arith, mul-le-mul_right s h, q)
 
-    times_both : (n p m q : ℕ) → n ≤ m → p ≤ q → m * q < 2 ^ 124 → n * p < 2 ^ 124
-    times_both n p m q h k l = let e : n * p ≤ n * q = (let x : p * n ≤ q * n = mul-le-mul_right n k in omega (arith, x)) in omega (arith, e, mul-le-mul_right q h, l)
+    times_most' : (n m s : ℕ) → n ≤ m → m * s < 2 ^ 124 → s * n < 2 ^ 124
+    times_most' n m s h q = omega (arith, mul-le-mul_right s h, q)
 
 -- what is said of other names of the same lists
 pub reduced_shown : (r : Bool) (xs xs' ps ps' ys : List Fraction) (k : ℕ) → xs' ≡ xs → ps' ≡ ps → OnTrue r (IsReducedRow xs' (number_at xs' k) ps' ys) → OnTrue r (IsReducedRow xs (number_at xs k) ps ys)

@@ -10,7 +10,7 @@ use Rattle.fractions.specs.Fracs.{pos_product}
 use Rattle.fractions.specs.Gcd.{gcd, gcd_is, gcd_pos, gcd-zero}
 use Rattle.fractions.proofs.Printed.{gcd-one}
 use Rattle.linear_table.specs.Plans.{number_at}
-use Rattle.number_rows.specs.Tops.{top_at}
+use Rattle.number_rows.specs.Tops.{top_at, AreWithinBelow}
 
 -- ---- numbers of 64 bits
 abbrev pub wrap : ℤ → ℤ
@@ -32,9 +32,6 @@ pub product_back : (t s : ℤ) (n : ℕ) → wrap t ≡ t → wrap s ≡ s → u
 product_back t s n et es h = ap (λ a. wrap (a *ℤ wrap s)) et ∙ (ap (λ a. wrap (t *ℤ a)) es ∙ back (t *ℤ s) (omega (arith, abs_product t s n h)))
 
 -- ---- one place more
-pub record AreWithinBelow (tops : List ℤ) (bound k : ℕ) : Type 0 where
-  pub within : (j : ℕ) → j < k → unsigned_abs (top_at tops j) ≤ bound
-
 pub within_none : (tops : List ℤ) (bound : ℕ) → AreWithinBelow tops bound 0
 within_none tops bound = record { within = λ j h. absurd (omega arith) }
 
@@ -167,3 +164,20 @@ by_one t d e =
     let h : int_div t (pos 1) *ℤ pos 1 ≡ t = int_div-mul t 1 (one-dvd (unsigned_abs t)) in
     let q : t ≡ int_div t (pos 1) = omega (arith, ints, h) in
     subst (λ (n : ℕ). t ≡ int_div t (pos n)) (sym e) q
+
+-- ---- numbers before a place, each times a factor
+pub record IsRaisedBelow (old : List ℤ) (factor : ℤ) (tops : List ℤ) (k : ℕ) : Type 0 where
+  pub done : (j : ℕ) → j < k → top_at tops j ≡ top_at old j *ℤ factor
+  pub rest : (j : ℕ) → k ≤ j → top_at tops j ≡ top_at old j
+
+pub raised_none : (old : List ℤ) (f : ℤ) → IsRaisedBelow old f old 0
+raised_none old f = record { done = λ j h. absurd (omega arith); rest = λ j h. refl }
+
+pub raised_more : (old : List ℤ) (f : ℤ) (tops : List ℤ) (k : ℕ) (t : ℤ) → k < length tops → t ≡ top_at old k *ℤ f → IsRaisedBelow old f tops k → IsRaisedBelow old f (set tops k t) (k + 1)
+raised_more old f tops k t lt e h =
+    record {
+      done = below_more (λ j. top_at (set tops k t) j ≡ top_at old j *ℤ f) k
+          (λ j q. get_or-set_other tops k j t (pos 0) (λ e. omega arith) ∙ h.done j q)
+          (get_or-set_same tops k t (pos 0) lt ∙ e);
+      rest = λ j q. get_or-set_other tops k j t (pos 0) (λ e. omega arith) ∙ h.rest j (omega arith);
+    }

@@ -84,6 +84,33 @@ less_fits_by t u v d p pd pp hd hp htp huv =
       sum_fits_over (frac t d) (negated (frac u d *ʳ frac v p)) (t *ℤ pos p) (neg_ℤ (u *ℤ v)) (d * p) pm (sym (frac_scale t d p pd pp)) nw m tp (subst (λ (k : ℕ). k < 2 ^ 124) (sym (abs_neg (u *ℤ v))) uv),
     )
 
+-- as where a divisor of the second's top and of the third's denominator is left out of both
+cross_out : (f v : ℤ) (d a g : ℕ) → f *ℤ pos g *ℤ v *ℤ pos (d * a) ≡ f *ℤ v *ℤ pos (d * (a * g))
+cross_out f v d a g = same_value (int f ⊗ nat g ⊗ int v ⊗ nat (d * a)) (int f ⊗ int v ⊗ nat (d * (a * g))) (omega arith)
+
+product_out : (f v : ℤ) (d a g : ℕ) → 0 < d → 0 < a → 0 < g → frac (f *ℤ pos g) d *ʳ frac v (a * g) ≡ frac (f *ℤ v) (d * a)
+product_out f v d a g pd pa pg =
+    let pag : 0 < a * g = pos_product a g pa pg in
+    mul-frac (f *ℤ pos g) v d (a * g) pd pag ∙ frac_eq (f *ℤ pos g *ℤ v) (f *ℤ v) (d * (a * g)) (d * a) (pos_product d (a * g) pd pag) (pos_product d a pd pa) (cross_out f v d a g)
+
+fits_out : (t f v : ℤ) (d a g : ℕ) → 0 < d → 0 < a → 0 < g → d < 2 ^ 62 → a < 2 ^ 62 → unsigned_abs t * a < 2 ^ 124 → unsigned_abs f * unsigned_abs v < 2 ^ 124 → LessFits (frac t d) (frac (f *ℤ pos g) d) (frac v (a * g))
+fits_out t f v d a g pd pa pg hd ha hta hfv =
+    let u : ℤ = f *ℤ pos g in
+    let p : ℕ = a * g in
+    let w : frac u d *ʳ frac v p ≡ frac (f *ℤ v) (d * a) = product_out f v d a g pd pa pg in
+    let m : d * a < 2 ^ 124 = product_small d a hd ha in
+    let pm : 0 < d * a = pos_product d a pd pa in
+    let fv : unsigned_abs (f *ℤ v) < 2 ^ 124 = subst (λ (k : ℕ). k < 2 ^ 124) (sym (unsigned_abs-mul f v)) hfv in
+    let ta : unsigned_abs (t *ℤ pos a) < 2 ^ 124 = subst (λ (k : ℕ). k < 2 ^ 124) (sym (unsigned_abs-mul t (pos a))) hta in
+    let nw : negated (frac u d *ʳ frac v p) ≡ frac (neg_ℤ (f *ℤ v)) (d * a) = ap negated w ∙ negated-frac (f *ℤ v) (d * a) pm in (
+      subst IsNarrow (sym w) (narrow_over (f *ℤ v) (d * a) pm m fv),
+      sum_fits_over (frac t d) (negated (frac u d *ʳ frac v p)) (t *ℤ pos a) (neg_ℤ (f *ℤ v)) (d * a) pm (sym (frac_scale t d a pd pa)) nw m ta (subst (λ (k : ℕ). k < 2 ^ 124) (sym (abs_neg (f *ℤ v))) fv),
+    )
+
+pub less_fits_out : (t u v f : ℤ) (d p a g : ℕ) → 0 < d → 0 < a → 0 < g → d < 2 ^ 62 → a < 2 ^ 62 → f *ℤ pos g ≡ u → a * g ≡ p → unsigned_abs t * a < 2 ^ 124 → unsigned_abs f * unsigned_abs v < 2 ^ 124 → LessFits (frac t d) (frac u d) (frac v p)
+less_fits_out t u v f d p a g pd pa pg hd ha eu ep hta hfv =
+    subst (λ (x : ℤ). LessFits (frac t d) (frac x d) (frac v p)) eu (subst (λ (n : ℕ). LessFits (frac t d) (frac (f *ℤ pos g) d) (frac v n)) ep (fits_out t f v d a g pd pa pg hd ha hta hfv))
+
 -- as where all are below 2 ^ 62
 pub less_fits : (t u v : ℤ) (d p : ℕ) → 0 < d → 0 < p → d < 2 ^ 62 → p < 2 ^ 62 → unsigned_abs t < 2 ^ 62 → unsigned_abs u < 2 ^ 62 → unsigned_abs v < 2 ^ 62 → LessFits (frac t d) (frac u d) (frac v p)
 less_fits t u v d p pd pp hd hp ht hu hv = less_fits_by t u v d p pd pp hd hp (product_small _ _ ht hp) (product_small _ _ hu hv)

@@ -1,10 +1,13 @@
 -- Numbers of 128 bits that are made of numbers of 64.
-use Rattle.std.specs.Prelude.{◌≡◌, ℕ, ◌+◌, ◌<◌, ◌^◌, ℤ, pos, ◌*ℤ◌, ◌-ℤ◌, unsigned_abs, List, length, Option, Some, None, IfSome}
-use Rattle.std.proofs.Common.{sym, ap, subst, ◌∙◌, arith, set, below_more}
-use Rattle.std.proofs.lemmas.Int.{ints}
+use Rattle.std.specs.Prelude.{◌≡◌, ℕ, ◌+◌, ◌*◌, ◌/◌, ◌<◌, ◌≤◌, ◌^◌, ℤ, pos, ◌*ℤ◌, ◌-ℤ◌, unsigned_abs, List, length, Option, Some, None, IfSome}
+use Rattle.std.specs.Int.{◌∣◌, w64}
+use Rattle.std.proofs.Common.{sym, ap, subst, ◌∙◌, arith, set, below_more, to_z}
+use Rattle.std.proofs.Math.Nat.{div-mul_cancel, mul-le-mul_right}
+use Rattle.std.proofs.lemmas.Int.{ints, to_z_pos, unsigned_abs-mul}
+use Rattle.fractions.specs.Ring.{int, nat, ◌⊗◌, same_value}
 use Rattle.fractions.proofs.Parts.{whole_back}
 use Rattle.std.proofs.lemmas.List.{get_or-set_same, get_or-set_other}
-use Rattle.number_rows.specs.Tops.{top_at}
+use Rattle.number_rows.specs.Tops.{top_at, AreWithinBelow, IsOverBelow}
 use Rattle.number_rows.proofs.Lists.{wrap, back}
 use Rattle.number_rows.proofs.Over.{wrap128}
 
@@ -33,9 +36,6 @@ pub small_at : (t : ℤ) → unsigned_abs t < 2 ^ 62 → unsigned_abs (wrap t) <
 small_at t h = subst (λ (x : ℤ). unsigned_abs x < 2 ^ 62) (sym (back t (omega (arith, h)))) h
 
 -- ---- one quotient more
-pub record IsOverBelow (old : List ℤ) (scale : ℤ) (other : List ℤ) (factor : ℤ) (d : ℕ) (quotients : List ℤ) (k : ℕ) : Type 0 where
-  pub done : (j : ℕ) → j < k → top_at quotients j *ℤ pos d ≡ top_at old j *ℤ scale -ℤ top_at other j *ℤ factor
-
 pub over_none : (old : List ℤ) (s : ℤ) (other : List ℤ) (f : ℤ) (d : ℕ) (quotients : List ℤ) → IsOverBelow old s other f d quotients 0
 over_none old s other f d quotients = record { done = λ j h. absurd (omega arith) }
 
@@ -70,3 +70,21 @@ quotient_told t s o f n d (Some q) ht hs ho hf en hn h = (
   h.0 ∙ (whole_back n (omega (arith, hn)) ∙ (en ∙ (ap (λ x. x -ℤ wrap o *ℤ wrap f) (product_plain t s ht hs) ∙ ap (λ x. t *ℤ s -ℤ x) (product_plain o f ho hf)))),
   h.1,
 )
+
+-- ---- quotients by a lesser divisor
+times_times : (q : ℤ) (m e : ℕ) → q *ℤ pos m *ℤ pos e ≡ q *ℤ pos (m * e)
+times_times q m e = same_value (int q ⊗ nat m ⊗ nat e) (int q ⊗ nat (m * e)) (omega arith)
+
+pub over_raised : (old : List ℤ) (s : ℤ) (other : List ℤ) (f : ℤ) (d e : ℕ) (quotients raised : List ℤ) (k : ℕ) → e ∣ d → ((j : ℕ) → j < k → top_at raised j ≡ top_at quotients j *ℤ pos (d / e)) → IsOverBelow old s other f d quotients k → IsOverBelow old s other f e raised k
+over_raised old s other f d e quotients raised k divides r h =
+    record { done = λ j lt. ap (λ x. x *ℤ pos e) (r j lt) ∙ (times_times (top_at quotients j) (d / e) e ∙ (ap (λ n. top_at quotients j *ℤ pos n) (div-mul_cancel e divides) ∙ h.done j lt)) }
+
+pub within_raised : (quotients raised : List ℤ) (bound more k : ℕ) → ((j : ℕ) → j < k → top_at raised j ≡ top_at quotients j *ℤ pos more) → AreWithinBelow quotients bound k → AreWithinBelow raised (bound * more) k
+within_raised quotients raised bound more k r h =
+    record { within = λ j lt. subst (λ (x : ℤ). unsigned_abs x ≤ bound * more) (sym (r j lt)) (subst (λ (n : ℕ). n ≤ bound * more) (sym (unsigned_abs-mul (top_at quotients j) (pos more))) (mul-le-mul_right more (h.within j lt))) }
+
+-- the product that the code computes
+pub raised_at : (cur : ℤ) (q : ℤ) (m : ℕ) → cur ≡ q → unsigned_abs q < 2 ^ 62 → m < 2 ^ 62 → unsigned_abs q * m < 2 ^ 62 → wrap (wrap cur *ℤ to_z w64 m) ≡ q *ℤ pos m
+raised_at cur q m e hq hm h =
+    let size : unsigned_abs (q *ℤ pos m) < 2 ^ 62 = subst (λ (n : ℕ). n < 2 ^ 62) (sym (unsigned_abs-mul q (pos m))) h in
+    ap (λ x. wrap (wrap x *ℤ to_z w64 m)) e ∙ (ap (λ x. wrap (x *ℤ to_z w64 m)) (back q (omega (arith, hq))) ∙ (ap (λ x. wrap (q *ℤ x)) (to_z_pos w64 m (omega (arith, hm))) ∙ back (q *ℤ pos m) (omega (arith, size))))

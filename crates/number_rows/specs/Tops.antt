@@ -61,3 +61,11 @@ pub record AreSame (old new : List ℤ) : Type 0 where
 -- the divisor divides each of the numbers that are combined
 abbrev pub DividesCombined : List ℤ → ℤ → List ℤ → ℤ → ℕ → Type 0
 DividesCombined tops scale others factor d = (k : ℕ) → k < length tops → d ∣ unsigned_abs (top_at tops k *ℤ scale -ℤ top_at others k *ℤ factor)
+
+-- no magnitude before the place is greater than the bound
+pub record AreWithinBelow (tops : List ℤ) (bound k : ℕ) : Type 0 where
+  pub within : (j : ℕ) → j < k → unsigned_abs (top_at tops j) ≤ bound
+
+-- each number before the place, times the divisor, is the old one times the scale less the other row's times the factor
+pub record IsOverBelow (old : List ℤ) (scale : ℤ) (other : List ℤ) (factor : ℤ) (d : ℕ) (quotients : List ℤ) (k : ℕ) : Type 0 where
+  pub done : (j : ℕ) → j < k → top_at quotients j *ℤ pos d ≡ top_at old j *ℤ scale -ℤ top_at other j *ℤ factor

@@ -273,13 +273,13 @@ impl Long {
         if !self.whole {
             return false;
         }
-        if !fits_wide(self.bound, other_bound, other_bottom) {
-            return false;
-        }
         let top = self.tops[enter];
         let common = wide_divisor(top, other_bottom);
         let scale = other_bottom / common;
         let factor = wide_quotient(top, common);
+        if !fits_wide(self.bound, scale, other_bound, factor.unsigned_abs()) {
+            return false;
+        }
         let divisor = wide_content(
             self.bottom,
             &self.tops,

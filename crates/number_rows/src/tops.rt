@@ -1,11 +1,11 @@
 //! Whole numbers of 64 bits that stand over one denominator.
 
-ghost use Rattle.std.specs.Prelude.{◌≡◌, ℕ, ◌<◌, ◌≤◌, ◌+◌, ◌*◌, ◌%◌, ◌^◌, ℤ, pos, ◌*ℤ◌, ◌-ℤ◌, neg_ℤ, int_div, unsigned_abs, length, IfSome, IfErr, IfOk};
+ghost use Rattle.std.specs.Prelude.{◌≡◌, ℕ, ◌<◌, ◌≤◌, ◌+◌, ◌*◌, ◌%◌, ◌^◌, ℤ, pos, ◌*ℤ◌, ◌-ℤ◌, neg_ℤ, int_div, unsigned_abs, length, IfSome};
 ghost use Rattle.std.specs.Bool.{OnTrue};
 ghost use Rattle.std.specs.Int.{◌∣◌};
 ghost use Rattle.fractions.specs.Fraction.{frac};
 ghost use Rattle.fractions.specs.Gcd.{gcd};
-ghost use Rattle.number_rows.specs.Tops.{top_at, AreWithin, DividesAll, IsDividedBy, IsCombined, IsCombinedOver, IsTurned, IsLowered, AreOver, DividesInto};
+ghost use Rattle.number_rows.specs.Tops.{top_at, AreWithin, DividesAll, IsDividedBy, IsCombined, IsCombinedOver, IsTurned, IsLowered, AreOver, DividesInto, AreWithinBelow, IsOverBelow};
 
 use fractions::Ratio;
 
@@ -29,7 +29,8 @@ pub fn common_divisor(first: u64, second: u64) -> u64
     if b == 0 { a } else { 1 }
 }
 
-// The greatest common divisor, found by shifts and subtractions. To the caller it is a guess.
+// The greatest common divisor, found by shifts and subtractions, whose steps have no branch that depends on the numbers. To
+// the caller it is a guess.
 fn likely_divisor(first: u64, second: u64) -> u64 {
     let shift = (first | second).trailing_zeros() % 64;
     let mut a = first >> (first.trailing_zeros() % 64);
@@ -38,16 +39,10 @@ fn likely_divisor(first: u64, second: u64) -> u64 {
         if a == b {
             return a << shift;
         }
-        if a > b {
-            let rest = a - b;
-            a = rest >> (rest.trailing_zeros() % 64);
-        } else {
-            let rest = b - a;
-            b = rest >> (rest.trailing_zeros() % 64);
-        }
-        if a == 1 || b == 1 {
-            return 1 << shift;
-        }
+        let zeros = a.wrapping_sub(b).trailing_zeros() % 64;
+        let rest = if a < b { b - a } else { a - b };
+        b = if a < b { a } else { b };
+        a = rest >> zeros;
     }
     0
 }
@@ -228,9 +223,9 @@ fn long_combined(top: i64, scale: i64, other: i64, factor: i64) -> i128
     first - second
 }
 
-// The inverse of an odd number modulo 2^64. To the caller it is a guess, like all that is computed by it: each step brings
-// twice as many bits right.
-fn likely_inverse(odd: u64) -> u64 {
+/// The inverse of an odd number modulo 2^64. To the caller it is a guess, like all that is computed by it: each step brings
+/// twice as many bits right.
+pub fn likely_inverse(odd: u64) -> u64 {
     let mut inverse = odd;
     for _step in 0..5 {
         inverse = inverse.wrapping_mul(2u64.wrapping_sub(odd.wrapping_mul(inverse)));
@@ -238,19 +233,13 @@ fn likely_inverse(odd: u64) -> u64 {
     inverse
 }
 
-// A number divided by a divisor whose even part is that of the shift, and whose odd part has the inverse. To the caller it is
-// a guess, which it multiplies back.
+// A number divided by a divisor whose even part is that of the shift, and whose odd part has the inverse, both modulo 2^64. To
+// the caller it is a guess, which it multiplies back.
 fn likely_quotient(number: i128, shift: u32, inverse: u64) -> i64
     requires { shift < 64 }
-    ensures { unsigned_abs result < 2 ^ 62 }
 {
-    let part = (number.unsigned_abs() >> shift) % (1 << 64);
-    let magnitude = (part as u64).wrapping_mul(inverse) % LIMIT;
-    if number < 0 {
-        -(magnitude as i64)
-    } else {
-        magnitude as i64
-    }
+    let part = (number.cast_unsigned() >> shift) % (1 << 64);
+    (part as u64).wrapping_mul(inverse).cast_signed()
 }
 
 // What a division of a number's magnitude leaves.
@@ -263,14 +252,15 @@ pub fn rest_by(number: i128, divisor: u64) -> u64
     rest as u64
 }
 
-// The quotient by a divisor, where that leaves no rest and the quotient is below the limit.
-fn exact_quotient(number: i128, divisor: u64, shift: u32, inverse: u64) -> Option<i64>
+/// The quotient by a divisor, where that leaves no rest and the quotient is below the limit. The shift is the number of
+/// zeros that the divisor ends in, and the inverse that of its part beside them.
+pub fn exact_quotient(number: i128, divisor: u64, shift: u32, inverse: u64) -> Option<i64>
     requires small_divisor { divisor < 2 ^ 62 }
     requires shift { shift < 64 }
     ensures { IfSome result (λ q. (q *ℤ pos divisor ≡ number) × (unsigned_abs q < 2 ^ 62)) }
 {
     let quotient = likely_quotient(number, shift, inverse);
-    if long_product(quotient, divisor as i64) == number {
+    if quotient.unsigned_abs() < LIMIT && long_product(quotient, divisor as i64) == number {
         Some(quotient)
     } else {
         None
@@ -307,16 +297,24 @@ fn combined_over(
     )
 }
 
-// Writes what `combine` makes of each number, divided by a divisor, where nothing is left and all are below the limit. Says
-// how great their magnitudes are at most, or which number is the first that isn't so.
-fn combine_over(
+// How far quotients by a divisor were written, and how great their magnitudes are at most.
+#[derive(Clone, Copy)]
+struct Reached {
+    place: usize,
+    bound: u64,
+}
+
+// Writes what `combine` makes of each number from a place on, divided by a divisor, up to the first of which something is left
+// or that is past the limit.
+fn combine_from(
     quotients: &mut [i64],
     tops: &[i64],
     scale: i64,
     others: &[i64],
     factor: i64,
     divisor: u64,
-) -> Result<u64, usize>
+    from: Reached,
+) -> Reached
     requires quotients { length quotients.old ≡ length tops.now }
     requires lengths { length tops.now ≡ length others.now }
     requires tops { (k : ℕ) → k < length tops.now → unsigned_abs (top_at tops.now k) < 2 ^ 62 }
@@ -324,23 +322,49 @@ fn combine_over(
     requires scale { unsigned_abs scale < 2 ^ 62 }
     requires factor { unsigned_abs factor < 2 ^ 62 }
     requires small_divisor { divisor < 2 ^ 62 }
+    requires inside { from.place ≤ length tops.now }
+    requires written { IsOverBelow tops.now scale others.now factor divisor quotients.old from.place }
+    requires within { AreWithinBelow quotients.old from.bound from.place }
+    requires bound { from.bound < 2 ^ 62 }
     ensures length_is { length quotients.new ≡ length tops.now }
-    ensures combined { IfOk result (λ bound. IsCombinedOver tops.now scale others.now factor divisor quotients.new × AreWithin quotients.new bound × (bound < 2 ^ 62)) }
-    ensures inside { IfErr result (λ k. k < length tops.now) }
+    ensures inside { result.place ≤ length tops.now }
+    ensures written { IsOverBelow tops.now scale others.now factor divisor quotients.new result.place }
+    ensures within { AreWithinBelow quotients.new result.bound result.place }
+    ensures bound { result.bound < 2 ^ 62 }
 {
     let shift = divisor.trailing_zeros() % 64;
     let inverse = likely_inverse(divisor >> shift);
-    let mut most = 0;
-    for k in 0..tops.len() {
+    let mut most = from.bound;
+    for k in from.place..tops.len() {
         let Some(quotient) = combined_over(
             tops[k], scale, others[k], factor, divisor, shift, inverse,
         ) else {
-            return Err(k);
+            return Reached {
+                place: k,
+                bound: most,
+            };
         };
         most = greater(most, quotient.unsigned_abs());
         quotients[k] = quotient;
     }
-    Ok(most)
+    Reached {
+        place: tops.len(),
+        bound: most,
+    }
+}
+
+// Makes of the first quotients by a divisor those by its part beside a factor.
+fn raise_first(quotients: &mut [i64], count: usize, factor: u64)
+    requires count { count ≤ length quotients.old }
+    requires factor { factor < 2 ^ 62 }
+    requires below { (k : ℕ) → k < count → unsigned_abs (top_at quotients.old k) < 2 ^ 62 }
+    requires small { (k : ℕ) → k < count → unsigned_abs (top_at quotients.old k) * factor < 2 ^ 62 }
+    ensures length_is { length quotients.new ≡ length quotients.old }
+    ensures numbers { (k : ℕ) → k < count → top_at quotients.new k ≡ top_at quotients.old k *ℤ pos factor }
+{
+    for k in 0..count {
+        quotients[k] = quotients[k] * factor as i64;
+    }
 }
 
 // What a divisor has in common with a number that `combine` makes.
@@ -366,7 +390,7 @@ pub struct Lowered {
 
 /// Writes what `combine` makes of each number, divided by what all of these and a denominator have in common, where all are
 /// below the limit then. The first divisor is the denominator's part beside what it shares with `common`, which is mostly
-/// the one; each number that a divisor leaves a rest of makes it less.
+/// the one; each number that a divisor leaves a rest of makes it less, and the quotients that stand before it greater.
 pub fn combine_lowered(
     quotients: &mut [i64],
     tops: &[i64],
@@ -388,17 +412,27 @@ pub fn combine_lowered(
     ensures lowered { IfSome result (λ r. IsLowered tops.now scale others.now factor bottom r.divisor r.bound quotients.new) }
 {
     let mut divisor = bottom / common_factor(common, bottom);
+    let mut from = Reached { place: 0, bound: 0 };
     for _try in 0..64 {
-        match combine_over(quotients, tops, scale, others, factor, divisor) {
-            Ok(bound) => return Some(Lowered { divisor, bound }),
-            Err(place) => {
-                let shared = shared_divisor(tops[place], scale, others[place], factor, divisor);
-                if shared == divisor {
-                    return None;
-                }
-                divisor = shared;
-            }
+        let reached = combine_from(quotients, tops, scale, others, factor, divisor, from);
+        let place = reached.place;
+        if place == tops.len() {
+            return Some(Lowered {
+                divisor,
+                bound: reached.bound,
+            });
         }
+        let shared = shared_divisor(tops[place], scale, others[place], factor, divisor);
+        let more = divisor / shared;
+        if shared == divisor || !product_keeps_within(reached.bound, more) {
+            return None;
+        }
+        raise_first(quotients, place, more);
+        divisor = shared;
+        from = Reached {
+            place,
+            bound: reached.bound * more,
+        };
     }
     None
 }

@@ -7,7 +7,7 @@ ghost use Rattle.number_rows.specs.Row.{kept};
 ghost use Rattle.number_rows.specs.Tops.{top_at, AreWithin, AreSame, AreOver, IsCombinedOver, DividesCombined};
 ghost use Rattle.fractions.specs.Fraction.{frac};
 
-use crate::tops::{common_divisor, rest_by};
+use crate::tops::{common_divisor, exact_quotient, likely_inverse, rest_by};
 use fractions::Ratio;
 use plan_base::NoMemory;
 use std::alloc::Global;
@@ -65,16 +65,16 @@ pub fn fraction(top: i128, bottom: u64) -> Ratio
     }
 }
 
-/// Whether the products of a bound with another, and with a denominator, are below the limit of products.
-pub fn fits_wide(bound: u128, other_bound: u64, other_bottom: u64) -> bool
+/// Whether the products of a bound and a scale, and of another and a factor, are below the limit of products.
+pub fn fits_wide(bound: u128, scale: u64, other_bound: u64, factor: u128) -> bool
+    requires scale { scale < 2 ^ 62 }
     requires other_bound { other_bound < 2 ^ 62 }
-    requires other_bottom { other_bottom < 2 ^ 62 }
-    ensures { OnTrue result ((bound * other_bound < 2 ^ 124) × (bound * other_bottom < 2 ^ 124)) }
+    ensures { OnTrue result ((bound * scale < 2 ^ 124) × (other_bound * factor < 2 ^ 124)) }
 {
-    if bound >= WIDE {
+    if bound >= WIDE || factor >= WIDE {
         return false;
     }
-    bound * (other_bound as u128) < PRODUCT && bound * (other_bottom as u128) < PRODUCT
+    bound * (scale as u128) < PRODUCT && (other_bound as u128) * factor < PRODUCT
 }
 
 /// What a number and a natural have in common.
@@ -85,7 +85,32 @@ pub fn wide_divisor(top: i128, bottom: u64) -> u64
     ensures top { result ∣ unsigned_abs top }
     ensures bottom { result ∣ bottom }
 {
-    common_divisor(rest_by(top, bottom), bottom)
+    common_divisor(bottom, rest_by(top, bottom))
+}
+
+// The same, where the divisor mostly divides the number, which its shift and inverse show.
+fn likely_wide_divisor(top: i128, bottom: u64, shift: u32, inverse: u64) -> u64
+    requires small { unsigned_abs top < 2 ^ 125 }
+    requires positive { 0 < bottom }
+    requires small_bottom { bottom < 2 ^ 62 }
+    requires shift { shift < 64 }
+    ensures positive { 0 < result }
+    ensures top { result ∣ unsigned_abs top }
+    ensures bottom { result ∣ bottom }
+{
+    match exact_quotient(top, bottom, shift, inverse) {
+        Some(_) => bottom,
+        None => wide_divisor(top, bottom),
+    }
+}
+
+// The inverse of the odd part of a number, which is known of another.
+fn next_inverse(next: u64, last: u64, inverse: u64) -> u64 {
+    if next == last {
+        inverse
+    } else {
+        likely_inverse(next >> (next.trailing_zeros() % 64))
+    }
 }
 
 /// A number divided by a natural, toward zero.
@@ -97,6 +122,21 @@ pub fn wide_quotient(top: i128, divisor: u64) -> i128
     ensures small { unsigned_abs result ≤ unsigned_abs top }
 {
     top / divisor as i128
+}
+
+// The same, where the divisor mostly divides the number, which its shift and inverse show.
+fn likely_wide_quotient(top: i128, divisor: u64, shift: u32, inverse: u64) -> i128
+    requires small { unsigned_abs top < 2 ^ 125 }
+    requires positive { 0 < divisor }
+    requires small_divisor { divisor < 2 ^ 62 }
+    requires shift { shift < 64 }
+    ensures value { result ≡ int_div top (pos divisor) }
+    ensures small { unsigned_abs result ≤ unsigned_abs top }
+{
+    match exact_quotient(top, divisor, shift, inverse) {
+        Some(quotient) => quotient as i128,
+        None => wide_quotient(top, divisor),
+    }
 }
 
 /// One number times a scale, less another times a factor.
@@ -124,6 +164,7 @@ pub fn wide_content(
     other_bound: u64,
 ) -> u64
     requires positive { 0 < bottom }
+    requires small { bottom < 2 ^ 62 }
     requires lengths { length tops.now ≡ length others.now }
     requires within { AreWithin tops.now bound }
     requires others_within { AreWithin others.now other_bound }
@@ -138,9 +179,12 @@ pub fn wide_content(
     ensures divides { DividesCombined tops.now (pos scale) others.now factor result }
 {
     let mut common = bottom;
+    let mut inverse = likely_inverse(bottom >> (bottom.trailing_zeros() % 64));
     for k in 0..tops.len() {
         let number = wide_combined(tops[k], scale, others[k], factor);
-        common = wide_divisor(number, common);
+        let next = likely_wide_divisor(number, common, common.trailing_zeros() % 64, inverse);
+        inverse = next_inverse(next, common, inverse);
+        common = next;
     }
     common
 }
@@ -181,10 +225,12 @@ pub fn divide_wide(
     ensures within { AreWithin tops.new result }
     ensures small { result < 2 ^ 125 }
 {
+    let shift = divisor.trailing_zeros() % 64;
+    let inverse = likely_inverse(divisor >> shift);
     let mut most = 0;
     for k in 0..tops.len() {
         let number = wide_combined(tops[k], scale, others[k], factor);
-        let quotient = wide_quotient(number, divisor);
+        let quotient = likely_wide_quotient(number, divisor, shift, inverse);
         most = wide_greater(most, quotient.unsigned_abs());
         tops[k] = quotient;
     }

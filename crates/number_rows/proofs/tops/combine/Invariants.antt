@@ -1,5 +1,6 @@
 use Rattle.std.proofs.Common.{◌<◌, ◌^◌}
-use Rattle.number_rows.proofs.Lists.{IsCombinedBelow, AreWithinBelow}
+use Rattle.number_rows.proofs.Lists.{IsCombinedBelow}
+use Rattle.number_rows.specs.Tops.{AreWithinBelow}
 use Rattle.number_rows.proofs.tops.combine.Given as goal
 
 abbrev pub invariant-loop-k : goal.invariant-loop-k

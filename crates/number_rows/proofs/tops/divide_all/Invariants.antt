@@ -1,5 +1,6 @@
 use Rattle.std.proofs.Common.{◌<◌, ◌^◌}
-use Rattle.number_rows.proofs.Lists.{IsDividedBelow, AreWithinBelow}
+use Rattle.number_rows.proofs.Lists.{IsDividedBelow}
+use Rattle.number_rows.specs.Tops.{AreWithinBelow}
 use Rattle.number_rows.proofs.tops.divide_all.Given as goal
 
 abbrev pub invariant-loop-k : goal.invariant-loop-k

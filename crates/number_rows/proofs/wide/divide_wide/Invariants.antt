@@ -1,6 +1,6 @@
 use Rattle.std.proofs.Common.{◌<◌, ◌^◌, pos}
-use Rattle.number_rows.proofs.Lists.{AreWithinBelow}
 use Rattle.number_rows.proofs.Broad.{IsDividedTo}
+use Rattle.number_rows.specs.Tops.{AreWithinBelow}
 use Rattle.number_rows.proofs.wide.divide_wide.Given as goal
 
 abbrev pub invariant-loop-k : goal.invariant-loop-k

@@ -12,7 +12,7 @@ use Rattle.number_rows.specs.Tops.{top_at, IsCombinedOver, DividesCombined}
 use Rattle.number_rows.proofs.Kept.{length_shown}
 use Rattle.number_rows.proofs.Over.{wrap128}
 use Rattle.number_rows.proofs.Exchanged.{reduced_wide, divided_tops}
-use Rattle.number_rows.proofs.Broad.{factor_wide, factor_small, factor_fits}
+use Rattle.number_rows.proofs.Broad.{factor_wide, factor_small}
 use Rattle.number_rows.proofs.long.Long.reduce_whole.Goals.{After-wide_quotient-factor}
 use Rattle.number_rows.proofs.long.Long.reduce_whole.Goals as goal
 
@@ -30,9 +30,6 @@ factor c =
 factor_size : (c : After-wide_quotient-factor) → unsigned_abs (wrap128 c.wide_quotient-factor.result) < 2 ^ 125
 factor_size c = factor_small c.wide_quotient-factor.result (omega (arith, (factor c).1, c.self.invariant.bound_small))
 
-product_size : (c : After-wide_quotient-factor) → c.args.other_bound * unsigned_abs (wrap128 c.wide_quotient-factor.result) < 2 ^ 124
-product_size c = factor_fits c.wide_quotient-factor.result c.self.inside.bound c.args.other_bound (factor c).1 c.self.invariant.bound_small (OnTrue_at c.if-not-fits_wide.false c.fits_wide.ensures).0
-
 pub wide_quotient-factor-requires-clause-small_divisor : goal.wide_quotient-factor-requires-clause-small_divisor
 wide_quotient-factor-requires-clause-small_divisor c = omega (arith, le_of_dvd c.requires.positive c.wide_divisor-common.ensures.bottom, c.requires.small)
 
@@ -40,13 +37,13 @@ pub wide_content-divisor-requires-clause-factor : goal.wide_content-divisor-requ
 wide_content-divisor-requires-clause-factor c = factor_size (goal.at.wide_content-divisor-requires-clause-factor c).After-wide_quotient-factor
 
 pub wide_content-divisor-requires-clause-second : goal.wide_content-divisor-requires-clause-second
-wide_content-divisor-requires-clause-second c = product_size (goal.at.wide_content-divisor-requires-clause-second c).After-wide_quotient-factor
+wide_content-divisor-requires-clause-second c = subst (λ (n : ℕ). c.args.other_bound * n < 2 ^ 124) c.unsigned_abs.ensures.value (OnTrue_at c.if-not-fits_wide.false c.fits_wide.ensures).1
 
 pub divide_wide-self-inside-requires-clause-factor : goal.divide_wide-self-inside-requires-clause-factor
 divide_wide-self-inside-requires-clause-factor c = factor_size (goal.at.divide_wide-self-inside-requires-clause-factor c).After-wide_quotient-factor
 
 pub divide_wide-self-inside-requires-clause-second : goal.divide_wide-self-inside-requires-clause-second
-divide_wide-self-inside-requires-clause-second c = product_size (goal.at.divide_wide-self-inside-requires-clause-second c).After-wide_quotient-factor
+divide_wide-self-inside-requires-clause-second c = subst (λ (n : ℕ). c.args.other_bound * n < 2 ^ 124) c.unsigned_abs.ensures.value (OnTrue_at c.if-not-fits_wide.false c.fits_wide.ensures).1
 
 pub divide_wide-self-inside-requires-clause-small_divisor : goal.divide_wide-self-inside-requires-clause-small_divisor
 divide_wide-self-inside-requires-clause-small_divisor c = omega (arith, le_of_dvd c.self.invariant.positive c.wide_content-divisor.ensures.bottom, c.self.invariant.bottom_small)
@@ -83,13 +80,15 @@ returns-clause-done c =
     let w = (goal.at.returns-clause-done c).After-wide_quotient-factor in
     let known = factor w in
     let both = OnTrue_at c.if-not-fits_wide.false c.fits_wide.ensures in
+    let plain = whole_back f (omega (arith, known.1, c.self.invariant.bound_small)) in
+    let second : c.args.other_bound * unsigned_abs f < 2 ^ 124 = subst (λ (n : ℕ). c.args.other_bound * n < 2 ^ 124) (c.unsigned_abs.ensures.value ∙ ap unsigned_abs plain) both.1 in
     let len : length us ≡ length r.tops.items = d.ensures.combined.length_is ∙ ap (λ (ts : List ℤ). length ts) c.deref_mut.ensures.value in
     let t : IsCombinedOver r.tops.items (pos a) c.args.others.now f e us =
     subst (λ (ts : List ℤ). IsCombinedOver ts (pos a) c.args.others.now f e us) c.deref_mut.ensures.value
-    (subst (λ (x : ℤ). IsCombinedOver c.deref_mut.result.now (pos a) c.args.others.now x e us) (whole_back f (omega (arith, known.1, c.self.invariant.bound_small))) d.ensures.combined) in
+    (subst (λ (x : ℤ). IsCombinedOver c.deref_mut.result.now (pos a) c.args.others.now x e us) plain d.ensures.combined) in
     let pa : 0 < a = lower_pos c.args.other_bottom g c.requires.positive c.wide_divisor-common.ensures.bottom in
     reduced_wide r.whole r.bottom c.args.other_bottom r.bound c.args.other_bound a g m f r.tops.items us c.args.others.now r.numbers.items c.args.self.now _ c.args.enter
-    c.self.view_is c.if-not-self.false c.self.invariant c.requires.positive c.requires.small c.requires.within c.requires.width (inside w) both.0 both.1
+    c.self.view_is c.if-not-self.false c.self.invariant c.requires.positive c.requires.small c.requires.within c.requires.width (inside w) both.0 second
     c.wide_divisor-common.ensures.positive c.wide_divisor-common.ensures.bottom refl known.0
     (divided_tops r.bottom e a f r.tops.items c.args.others.now us c.self.invariant.positive c.wide_content-divisor.ensures.positive c.wide_content-divisor.ensures.bottom pa t)
     (ap (λ ts. shown r.whole m ts r.numbers.items) (with_items_is r.tops us (len ∙ sym r.tops.ok.0)))

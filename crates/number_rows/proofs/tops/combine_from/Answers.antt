@@ -2,7 +2,7 @@ use Rattle.std.proofs.Common.{arith}
 use Rattle.number_rows.specs.Tops.{top_at}
 use Rattle.number_rows.proofs.Lists.{wrap, size_below, within_more}
 use Rattle.number_rows.proofs.Wider.{IsQuotientAt, quotient_at, over_more}
-use Rattle.number_rows.proofs.tops.combine_over.Goals as goal
+use Rattle.number_rows.proofs.tops.combine_from.Goals as goal
 
 pub loop-k-preserved : goal.loop-k-preserved
 loop-k-preserved c =
