@@ -1,5 +1,5 @@
 -- What the texts of names tell of flights that are taken.
-use Rattle.std.proofs.Common.{◌≡◌, ◌≢◌, ◌∙◌, ◌<◌, ◌+◌, ◌-◌, ◌++◌, ℕ, Bool, true, false, List, [], ◌∷◌, Option, Some, None, length, drop, refl, sym, ap, append_assoc, arith}
+use Rattle.std.proofs.Common.{◌≡◌, ◌≢◌, ◌∙◌, ◌+◌, ◌-◌, ◌++◌, ℕ, Bool, true, false, List, [], ◌∷◌, Option, Some, None, length, drop, refl, sym, ap, append_assoc, arith}
 use Rattle.std.specs.Prelude.{codes, eqb, option_and_then, if◌then◌else◌}
 use Rattle.std.specs.List.{starts_with}
 use Rattle.std.specs.Option.{MatchOption}
@@ -10,10 +10,10 @@ use Rattle.std.proofs.lemmas.List.{append_cancel_left}
 use Rattle.std.proofs.lemmas.Slice.Eq.{starts_is}
 use Rattle.plan_base.specs.declared.ids.GoodId.{GoodId}
 use Rattle.game_types.specs.declared.games.Game.{Game}
-use Rattle.rocket_launches.specs.declared.silos.Flight.{Flight}
+use Rattle.rocket_launches.specs.declared.middles.Ends.{Ends}
 use Rattle.rocket_launches.specs.declared.silos.Silo.{Silo}
 use Rattle.rocket_launches.specs.Launches.{begins_as_launch, flight, name_at}
-use Rattle.rocket_launches.specs.Clashes.{cargo_named, clash_with, dumped_flight, flight_cut, later_of, least_below}
+use Rattle.rocket_launches.specs.Clashes.{cargo_named, clash_with, dumped_flight, ends_with, flight_cut, later_of, later_with, least_below}
 use Rattle.rocket_launches.proofs.Cuts.{drop_cut, drop_front}
 
 pub begins : (rest : List ℕ) → begins_as_launch (codes "launch:" ++ rest) ≡ true
@@ -45,27 +45,21 @@ behind_front text front rest None is told = λ t same. told t (append_cancel_lef
 behind_front text front rest (Some x) is told = is ∙ ap (λ t. front ++ t) told
 
 -- ---- cargo that begins with a middle and a colon
-module _ (g : Game) (short long : Silo) (cargo : GoodId) (middle : List ℕ) where
+module _ (g : Game) (cargo : GoodId) (middle : List ℕ) where
   abbrev cargo_name : List ℕ
   cargo_name = name_at g.item_names cargo.0
 
-  abbrev of_other : Option GoodId → Option Flight
-  of_other found = option_and_then (λ rest. Some (later_of (flight short cargo) (flight long rest))) found
+  abbrev of_rest : Option GoodId → Option Ends
+  of_rest found = option_and_then (λ rest. Some (record { whole = cargo; rest = rest })) found
 
-  with_rest : (rest : List ℕ) (found : Option GoodId) → cargo_name ≡ middle ++ (58 ∷ rest) → cargo_named g rest ≡ found → clash_with g short long middle cargo ≡ of_other found
-  unfolding clash_with
-  with_rest rest found cut other_is =
+  pub ends_rest : (rest : List ℕ) (found : Option GoodId) → cargo_name ≡ middle ++ (58 ∷ rest) → cargo_named g rest ≡ found → ends_with g middle cargo ≡ of_rest found
+  unfolding ends_with
+  ends_rest rest found cut other_is =
       let started : starts_with eqb cargo_name (middle ++ 58 ∷ []) ≡ true =
       (starts_is Decides-eqb cargo_name (middle ++ 58 ∷ []) (starts_with eqb cargo_name (middle ++ 58 ∷ [])) refl).1 rest (cut ∙ sym (append_assoc middle (58 ∷ []) rest)) in
       let left : drop (length middle + 1) cargo_name ≡ rest = ap (drop (length middle + 1)) cut ∙ drop_cut middle rest in
-      ap (λ b. if b then of_other (cargo_named g (drop (length middle + 1) cargo_name)) else None) started
-      ∙ ap (λ t. of_other (cargo_named g t)) left ∙ ap of_other other_is
-
-  pub with_found : (other : GoodId) (rest : List ℕ) → cargo_name ≡ middle ++ (58 ∷ rest) → cargo_named g rest ≡ Some other → clash_with g short long middle cargo ≡ Some (later_of (flight short cargo) (flight long other))
-  with_found other rest cut other_is = with_rest rest (Some other) cut other_is
-
-  pub with_none : (rest : List ℕ) → cargo_name ≡ middle ++ (58 ∷ rest) → cargo_named g rest ≡ None → clash_with g short long middle cargo ≡ None
-  with_none rest cut other_is = with_rest rest None cut other_is
+      ap (λ b. if b then of_rest (cargo_named g (drop (length middle + 1) cargo_name)) else None) started
+      ∙ ap (λ t. of_rest (cargo_named g t)) left ∙ ap of_rest other_is
 
   longer : (middle : List ℕ) → length (middle ++ 58 ∷ []) ≡ length middle + 1
   longer middle = grind (arith, common_steps)
@@ -76,10 +70,16 @@ module _ (g : Game) (short long : Silo) (cargo : GoodId) (middle : List ℕ) whe
       ∙ append_assoc middle (58 ∷ []) (drop (length (middle ++ 58 ∷ [])) cargo_name)
       ∙ ap (λ n. middle ++ (58 ∷ drop n cargo_name)) (longer middle)
 
-  pub with_past : ((rest : List ℕ) → cargo_name ≢ middle ++ (58 ∷ rest)) → clash_with g short long middle cargo ≡ None
-  unfolding clash_with
-  with_past never = by_start (starts_with eqb cargo_name (middle ++ 58 ∷ [])) refl
+  pub ends_past : ((rest : List ℕ) → cargo_name ≢ middle ++ (58 ∷ rest)) → ends_with g middle cargo ≡ None
+  unfolding ends_with
+  ends_past never = by_start (starts_with eqb cargo_name (middle ++ 58 ∷ [])) refl
     where
-      by_start : (b : Bool) → starts_with eqb cargo_name (middle ++ 58 ∷ []) ≡ b → (if b then of_other (cargo_named g (drop (length middle + 1) cargo_name)) else None) ≡ None
+      by_start : (b : Bool) → starts_with eqb cargo_name (middle ++ 58 ∷ []) ≡ b → (if b then of_rest (cargo_named g (drop (length middle + 1) cargo_name)) else None) ≡ None
       by_start true told = absurd (never (drop (length middle + 1) cargo_name) (with_start told))
       by_start false told = refl
+
+-- ---- two flights with one name
+pub with_found : (g : Game) (short long : Silo) (cargo : GoodId) (middle : List ℕ) (other : GoodId) (rest : List ℕ) → name_at g.item_names cargo.0 ≡ middle ++ (58 ∷ rest) → cargo_named g rest ≡ Some other
+    → clash_with g short long middle cargo ≡ Some (later_of (flight short cargo) (flight long other))
+unfolding clash_with
+with_found g short long cargo middle other rest cut other_is = ap (option_and_then (later_with short long)) (ends_rest g cargo middle rest (Some other) cut other_is)

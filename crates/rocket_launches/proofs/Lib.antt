@@ -10,4 +10,6 @@ pub mod Earliest
 pub mod Cuts
 pub mod FirstTaken
 pub mod Clashing
+pub mod MiddleEnds
+pub mod ToldClashes
 pub mod TakenFlights

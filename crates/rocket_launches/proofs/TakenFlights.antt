@@ -1,6 +1,6 @@
 -- The earliest flight of a taken name, by what names are made of, is the first whose name is taken.
-use Rattle.std.proofs.Common.{◌≡◌, ◌∙◌, ◌<◌, ◌≤◌, ◌+◌, ◌-◌, ◌++◌, ◌⊎◌, ℕ, Bool, true, false, List, [], ◌∷◌, Option, Some, None, length, take, drop, map, ◌*◌, refl, sym, ap, subst, append_assoc, arith, inl, inr}
-use Rattle.std.specs.Prelude.{All, IfSome, codes, eqb, is_some, option_and_then, option_map, slice_get, slice_index_or, ◌==◌, if◌then◌else◌}
+use Rattle.std.proofs.Common.{◌≡◌, ◌∙◌, ◌<◌, ◌+◌, ◌-◌, ◌++◌, ◌⊎◌, ℕ, Bool, true, false, List, [], ◌∷◌, Option, Some, None, length, take, drop, map, ◌*◌, refl, sym, ap, subst, append_assoc, arith, inl, inr}
+use Rattle.std.specs.Prelude.{IfSome, codes, eqb, is_some, option_and_then, option_map, slice_get, slice_index_or, ◌==◌, if◌then◌else◌}
 use Rattle.std.specs.List.{starts_with}
 use Rattle.std.proofs.lemmas.Bool.Decides.{Decides-eqb, nat_tests}
 use Rattle.std.proofs.lemmas.Grind.{common_steps}
@@ -16,9 +16,9 @@ use Rattle.game_types.specs.declared.games.Game.{Game}
 use Rattle.rocket_launches.specs.declared.silos.Flight.{Flight}
 use Rattle.rocket_launches.specs.declared.silos.Silo.{Silo}
 use Rattle.rocket_launches.specs.Launches.{begins_as_launch, cargo_in, cargo_of, first_taken, flight, flight_taken, flights, launch_name, name_at, silo_of, silos_in}
-use Rattle.rocket_launches.specs.Clashes.{cargo_named, clash_cut, clash_of, clash_with, dumped_flight, earliest_taken, flight_cut, flight_named, is_before, later_of, least_below, least_in, silo_named, sooner}
+use Rattle.rocket_launches.specs.Clashes.{cargo_named, clash_cut, clash_of, clash_with, dumped_flight, earliest_taken, ends_with, flight_cut, flight_named, is_before, later_of, later_with, least_below, least_in, silo_named}
 use Rattle.rocket_launches.proofs.Clashing.{dumped_some, with_found, with_start}
-use Rattle.rocket_launches.proofs.Cuts.{Longer, TwoCuts, colon_cut, cut_at, drop_cut, drop_front, never_longer, take_cut, two_cuts, within_cut}
+use Rattle.rocket_launches.proofs.Cuts.{TwoCuts, colon_cut, cut_at, drop_cut, drop_front, never_longer, take_cut, two_cuts, within_cut}
 use Rattle.rocket_launches.proofs.Earliest.{Covers, below_covers, below_holds, in_covers, in_holds, not_itself, one_way, sooner_covers, sooner_holds}
 use Rattle.rocket_launches.proofs.FirstTaken.{IsHeld, first_held, none_held, place_some}
 use Rattle.rocket_launches.proofs.FlightOrder.{Stands, flies, in_order, stands, which_first}
@@ -168,16 +168,16 @@ module _ (g : Game) (sound : IsSound g) (machines : AreDifferent g.machine_names
 
   with_known : (long : Silo) (q : ℕ) (short : Silo) (before middle : List ℕ) → slice_get (silos_in g) q ≡ Some long → silo_named g before ≡ Some short → silo_name long ≡ before ++ (58 ∷ middle)
       → (r : ℕ) (cargo : GoodId) → slice_get (cargo_in g) r ≡ Some cargo → IfSome (clash_with g short long middle cargo) Known
-  unfolding clash_with
+  unfolding clash_with ends_with
   with_known long q short before middle here short_is long_cut r cargo there = by_start (starts_with eqb (cargo_name cargo) (middle ++ 58 ∷ [])) refl
     where
       by_other : starts_with eqb (cargo_name cargo) (middle ++ 58 ∷ []) ≡ true → (found : Option GoodId) → cargo_named g (drop (length middle + 1) (cargo_name cargo)) ≡ found
-          → IfSome (option_and_then (λ other. Some (later_of (flight short cargo) (flight long other))) found) Known
+          → IfSome (option_and_then (later_with short long) (option_and_then (λ rest. Some (record { whole = cargo; rest = rest })) found)) Known
       by_other told None other_is = tt
-      by_other told (Some other) other_is = twins_known long q cargo r short other before middle (drop (length middle + 1) (cargo_name cargo)) here there short_is other_is long_cut (with_start g short long cargo middle told)
+      by_other told (Some other) other_is = twins_known long q cargo r short other before middle (drop (length middle + 1) (cargo_name cargo)) here there short_is other_is long_cut (with_start g cargo middle told)
 
       by_start : (b : Bool) → starts_with eqb (cargo_name cargo) (middle ++ 58 ∷ []) ≡ b
-          → IfSome (if b then option_and_then (λ other. Some (later_of (flight short cargo) (flight long other))) (cargo_named g (drop (length middle + 1) (cargo_name cargo))) else None) Known
+          → IfSome (option_and_then (later_with short long) (if b then option_and_then (λ rest. Some (record { whole = cargo; rest = rest })) (cargo_named g (drop (length middle + 1) (cargo_name cargo))) else None)) Known
       by_start true told = by_other told (cargo_named g (drop (length middle + 1) (cargo_name cargo))) refl
       by_start false told = tt
 

@@ -150,8 +150,14 @@ struct Refusal {
     flight: Flight,
 }
 
-// Why a game with more flights than there is room for is refused. It takes no memory.
-fn why_refused(game: &Game, silos: &[Silo], cargo: &[GoodId], beyond: &Flight) -> Refusal
+// Why a game with more flights than there is room for is refused. Memory only makes it faster: a fault is told without any.
+fn why_refused(
+    alloc: Global,
+    game: &Game,
+    silos: &[Silo],
+    cargo: &[GoodId],
+    beyond: &Flight,
+) -> Refusal
     requires sound { IsSound game.now }
     requires silos { silos.now ≡ silos_in game.now }
     requires cargo { cargo.now ≡ cargo_in game.now }
@@ -159,7 +165,7 @@ fn why_refused(game: &Game, silos: &[Silo], cargo: &[GoodId], beyond: &Flight) -
     ensures refused { with_launches game.now ≡ Err (launch_fault game.now result.code result.flight) }
     ensures named { result.flight.silo.machine.0 < length game.now.machine_names }
 {
-    match flight_taken(game, silos, cargo) {
+    match flight_taken(alloc, game, silos, cargo) {
         Some(flight) => Refusal {
             code: FieldCode::Twice,
             flight,
@@ -171,7 +177,7 @@ fn why_refused(game: &Game, silos: &[Silo], cargo: &[GoodId], beyond: &Flight) -
     }
 }
 
-// The fault of a game with more flights than there is room for. Memory is wanted for its text alone.
+// The fault of a game with more flights than there is room for. Want of memory can only take its text.
 fn refused(
     alloc: Global,
     game: &Game,
@@ -187,7 +193,7 @@ fn refused(
     // One of them is sure, with or without memory for its text.
     ensures sure { IsErr (with_launches game.now) }
 {
-    let refusal = why_refused(game, silos, cargo, beyond);
+    let refusal = why_refused(alloc, game, silos, cargo, beyond);
     launch_fault(alloc, game, refusal.code, &refusal.flight)
 }
 

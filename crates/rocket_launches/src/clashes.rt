@@ -1,16 +1,19 @@
 //! Which launch is the first whose name is taken, told by what the names are made of: no launch and no name is made.
-ghost use Rattle.std.specs.Prelude.{◌≡◌, ◌≢◌, ◌<◌, ◌+◌, ◌∷◌, ◌++◌, All, Some, None, drop, length, take, slice_index_or, ℕ, List};
+ghost use Rattle.std.specs.Prelude.{◌≡◌, ◌≢◌, ◌<◌, ◌+◌, ◌∷◌, ◌++◌, ◌==◌, if◌then◌else◌, All, IfOk, IfSome, IsSomeAnd, Some, None, drop, length, option_and_then, take, slice_index_or, ℕ, List};
+ghost use Rattle.std.specs.Bool.{OnTrue};
 ghost use Rattle.std.specs.Option.{MatchOption};
 ghost use Rattle.name_table.specs.Names.{AreDifferent};
 ghost use Rattle.game_types.specs.Sound.{IsSound};
 ghost use Rattle.rocket_launches.specs.Launches.{cargo_in, flight_taken, name_at, silos_in};
-ghost use Rattle.rocket_launches.specs.Clashes.{cargo_named, clash_cut, clash_of, clash_with, dumped_flight, earlier_of, earliest_taken, flight_cut, flight_named, is_before, later_of, least_below, least_in, silo_named, sooner};
+ghost use Rattle.rocket_launches.specs.Clashes.{IsWithin, Tells, cargo_named, clash_cut, clash_of, clash_with, dumped_flight, earlier_of, earliest_taken, ends_at, ends_with, flight_cut, flight_named, is_before, joined, later_of, later_with, least_below, least_in, silo_named, sooner};
 
 use crate::launches::name_at;
+use crate::middles::{Ends, Middles, ends_of, is_beyond, no_middles, put};
 use crate::silos::{Flight, Silo, cargo_of, silo_of};
 use game_types::Game;
 use name_table::{NAME_LIMIT, Names};
-use plan_base::{EntityId, GoodId};
+use plan_base::{EntityId, GoodId, NoMemory};
+use std::alloc::Global;
 
 // Whether a flight comes before another.
 #[tactic(auto, unfolding(crate::specs::Clashes::is_before))]
@@ -169,34 +172,125 @@ fn behind<'a>(text: &'a str, front: &str) -> Option<&'a str>
     }
 }
 
-// The later of two flights with one name, of two silos and of a cargo that begins with the middle.
-fn clash_with(game: &Game, short: &Silo, long: &Silo, middle: &str, cargo: GoodId) -> Option<Flight>
+// Cargo whose name is a middle, a colon and the name of other cargo.
+fn ends_with(game: &Game, middle: &str, cargo: GoodId) -> Option<Ends>
     requires sound { IsSound game.now }
     requires within { cargo.0 < length game.now.item_names }
-    ensures { result ≡ clash_with game.now short.now long.now middle.now cargo }
+    ensures { result ≡ ends_with game.now middle.now cargo }
 {
     let name = name_at(&game.item_names, cargo.0);
     match behind(name, middle) {
         Some(rest) => match cargo_named(game, rest) {
-            Some(other) => Some(later_of(
-                Flight {
-                    silo: *short,
-                    cargo,
-                },
-                Flight {
-                    silo: *long,
-                    cargo: other,
-                },
-            )),
+            Some(other) => Some(Ends {
+                whole: cargo,
+                rest: other,
+            }),
             None => None,
         },
         None => None,
     }
 }
 
-// The earliest of them for all cargo.
+// ---- A table of what all cargo gives for each middle.
+
+// Puts what cargo gives for the text in front of a place of its name.
+fn put_cut<'a>(
+    game: &Game,
+    table: &mut Middles<'a>,
+    cargo: GoodId,
+    name: &'a str,
+    place: usize,
+) -> Result<(), NoMemory>
+    requires sound { IsSound game.now }
+    requires name { name.now ≡ name_at game.now.item_names cargo.0 }
+    requires place { place < length name.now }
+    requires within { IsWithin table.old }
+    ensures within { IfOk result (λ done. IsWithin table.new) }
+    ensures put { IfOk result (λ done. (middle : List ℕ) → ends_at table.new middle ≡ (if length middle == place then joined (ends_at table.old middle) (ends_with game.now middle cargo) else ends_at table.old middle)) }
+{
+    match cut(name, place) {
+        Some((middle, behind)) => match cargo_named(game, behind) {
+            Some(rest) => put(table, middle, Ends { whole: cargo, rest }),
+            None => Ok(()),
+        },
+        None => Ok(()),
+    }
+}
+
+// Puts what cargo gives for each middle.
+fn put_cargo<'a>(game: &'a Game, table: &mut Middles<'a>, cargo: GoodId) -> Result<(), NoMemory>
+    requires sound { IsSound game.now }
+    requires cargo { cargo.0 < length game.now.item_names }
+    requires within { IsWithin table.old }
+    ensures within { IfOk result (λ done. IsWithin table.new) }
+    ensures put { IfOk result (λ done. (middle : List ℕ) → ends_at table.new middle ≡ joined (ends_at table.old middle) (ends_with game.now middle cargo)) }
+{
+    let name = name_at(&game.item_names, cargo.0);
+    for place in 0..name.len() {
+        put_cut(game, table, cargo, name, place)?;
+    }
+    Ok(())
+}
+
+// What all cargo gives for each middle.
+fn middles_of<'a>(alloc: Global, game: &'a Game, cargo: &[GoodId]) -> Result<Middles<'a>, NoMemory>
+    requires sound { IsSound game.now }
+    requires cargo { All (λ good. good.0 < length game.now.item_names) cargo.now }
+    ensures { IfOk result (Tells game.now cargo.now) }
+{
+    let mut table = no_middles(alloc);
+    for good in cargo {
+        put_cargo(game, &mut table, *good)?;
+    }
+    Ok(table)
+}
+
+// The same, or none where memory for it can't be had.
+fn known_middles<'a>(alloc: Global, game: &'a Game, cargo: &[GoodId]) -> Option<Middles<'a>>
+    requires sound { IsSound game.now }
+    requires cargo { All (λ good. good.0 < length game.now.item_names) cargo.now }
+    ensures { IfSome result (Tells game.now cargo.now) }
+{
+    match middles_of(alloc, game, cargo) {
+        Ok(table) => Some(table),
+        Err(NoMemory) => None,
+    }
+}
+
+// ---- Flights of two silos.
+
+// The later of two flights with one name, of two silos and of cargo that has the middle of their names.
+fn later_with(short: &Silo, long: &Silo, ends: Option<Ends>) -> Option<Flight>
+    ensures { result ≡ option_and_then (later_with short.now long.now) ends }
+{
+    match ends {
+        Some(ends) => Some(later_of(
+            Flight {
+                silo: *short,
+                cargo: ends.whole,
+            },
+            Flight {
+                silo: *long,
+                cargo: ends.rest,
+            },
+        )),
+        None => None,
+    }
+}
+
+// The same for one cargo, where it has the middle.
+#[tactic(auto, unfolding(crate::specs::Clashes::clash_with))]
+fn clash_with(game: &Game, short: &Silo, long: &Silo, middle: &str, cargo: GoodId) -> Option<Flight>
+    requires sound { IsSound game.now }
+    requires within { cargo.0 < length game.now.item_names }
+    ensures { result ≡ clash_with game.now short.now long.now middle.now cargo }
+{
+    later_with(short, long, ends_with(game, middle, cargo))
+}
+
+// The earliest of them for all cargo, each of which is looked at.
 #[tactic(auto, using(crate::proofs::Earliest::none_yet))]
-fn clash_between(
+fn clash_among(
     game: &Game,
     cargo: &[GoodId],
     short: &Silo,
@@ -214,64 +308,125 @@ fn clash_between(
     least
 }
 
-// The earliest of them for a silo whose name is cut at a place.
-#[tactic(auto, unfolding(crate::specs::Clashes::clash_cut))]
-fn clash_cut(game: &Game, cargo: &[GoodId], long: &Silo, name: &str, place: usize) -> Option<Flight>
+// The earliest of them for all cargo. With a table one look is enough.
+fn clash_between(
+    game: &Game,
+    cargo: &[GoodId],
+    table: &Option<Middles>,
+    short: &Silo,
+    long: &Silo,
+    middle: &str,
+) -> Option<Flight>
     requires sound { IsSound game.now }
     requires cargo { All (λ good. good.0 < length game.now.item_names) cargo.now }
+    requires table { IfSome table.now (Tells game.now cargo.now) }
+    requires apart { short.now.machine.0 ≢ long.now.machine.0 }
+    ensures { result ≡ least_in (clash_with game.now short.now long.now middle.now) cargo.now }
+{
+    match table {
+        Some(middles) => later_with(short, long, ends_of(middles, middle)),
+        None => clash_among(game, cargo, short, long, middle),
+    }
+}
+
+// Whether a table tells by its length that no cargo gives anything for a middle.
+fn has_none(table: &Option<Middles>, middle: &str) -> bool
+    requires { IfSome table.now IsWithin }
+    ensures { OnTrue result (IsSomeAnd table.now (λ middles. ends_at middles middle.now ≡ None)) }
+{
+    match table {
+        Some(middles) => is_beyond(middles, middle),
+        None => false,
+    }
+}
+
+// The earliest of them for a silo whose name is cut at a place.
+#[tactic(auto, unfolding(crate::specs::Clashes::clash_cut))]
+fn clash_cut(
+    game: &Game,
+    cargo: &[GoodId],
+    table: &Option<Middles>,
+    long: &Silo,
+    name: &str,
+    place: usize,
+) -> Option<Flight>
+    requires sound { IsSound game.now }
+    requires cargo { All (λ good. good.0 < length game.now.item_names) cargo.now }
+    requires table { IfSome table.now (Tells game.now cargo.now) }
     requires name { name.now ≡ name_at game.now.machine_names long.now.machine.0 }
     requires within { place < length name.now }
     ensures { result ≡ clash_cut game.now cargo.now long.now place }
 {
     match cut(name, place) {
-        Some((before, middle)) => match silo_named(game, before) {
-            Some(short) => clash_between(game, cargo, &short, long, middle),
-            None => None,
-        },
+        Some((before, middle)) => {
+            if has_none(table, middle) {
+                return None;
+            }
+            match silo_named(game, before) {
+                Some(short) => clash_between(game, cargo, table, &short, long, middle),
+                None => None,
+            }
+        }
         None => None,
     }
 }
 
 // The earliest of them for a silo with the longer name.
 #[tactic(auto, unfolding(crate::specs::Clashes::clash_of), using(crate::proofs::Earliest::none_yet, crate::proofs::Earliest::one_further))]
-fn clash_of(game: &Game, cargo: &[GoodId], long: &Silo) -> Option<Flight>
+fn clash_of(game: &Game, cargo: &[GoodId], table: &Option<Middles>, long: &Silo) -> Option<Flight>
     requires sound { IsSound game.now }
     requires cargo { All (λ good. good.0 < length game.now.item_names) cargo.now }
+    requires table { IfSome table.now (Tells game.now cargo.now) }
     requires long { long.now.machine.0 < length game.now.machine_names }
     ensures { result ≡ clash_of game.now cargo.now long.now }
 {
     let name = name_at(&game.machine_names, long.machine.0);
     let mut least = None;
     for place in 0..name.len() {
-        least = sooner(least, clash_cut(game, cargo, long, name, place));
+        least = sooner(least, clash_cut(game, cargo, table, long, name, place));
     }
     least
 }
 
 // The earliest of them for all silos.
 #[tactic(auto, using(crate::proofs::Earliest::none_yet))]
-fn earliest_clash(game: &Game, silos: &[Silo], cargo: &[GoodId]) -> Option<Flight>
+fn earliest_clash(
+    game: &Game,
+    silos: &[Silo],
+    cargo: &[GoodId],
+    table: &Option<Middles>,
+) -> Option<Flight>
     requires sound { IsSound game.now }
     requires cargo { All (λ good. good.0 < length game.now.item_names) cargo.now }
+    requires table { IfSome table.now (Tells game.now cargo.now) }
     requires silos { All (λ silo. silo.machine.0 < length game.now.machine_names) silos.now }
     ensures { result ≡ least_in (clash_of game.now cargo.now) silos.now }
 {
     let mut least = None;
     for silo in silos {
-        least = sooner(least, clash_of(game, cargo, silo));
+        least = sooner(least, clash_of(game, cargo, table, silo));
     }
     least
 }
 
 // The earliest flight whose launch has the name of a recipe of the dump or of an earlier flight, by what names are made of.
 #[tactic(auto, unfolding(crate::specs::Clashes::earliest_taken))]
-fn earliest_taken(game: &Game, silos: &[Silo], cargo: &[GoodId]) -> Option<Flight>
+fn earliest_taken(
+    game: &Game,
+    silos: &[Silo],
+    cargo: &[GoodId],
+    table: &Option<Middles>,
+) -> Option<Flight>
     requires sound { IsSound game.now }
     requires cargo { All (λ good. good.0 < length game.now.item_names) cargo.now }
+    requires table { IfSome table.now (Tells game.now cargo.now) }
     requires silos { All (λ silo. silo.machine.0 < length game.now.machine_names) silos.now }
     ensures { result ≡ earliest_taken game.now silos.now cargo.now }
 {
-    sooner(earliest_dumped(game), earliest_clash(game, silos, cargo))
+    sooner(
+        earliest_dumped(game),
+        earliest_clash(game, silos, cargo, table),
+    )
 }
 
 // No two machines have the same name, and no two items.
@@ -283,13 +438,15 @@ fn names_differ(game: &Game)
     prove!(game.item_names.len() as usize <= NAME_LIMIT);
 }
 
-/// The first flight whose launch has the name of a recipe of the dump or of an earlier flight. It takes no memory.
-pub fn flight_taken(game: &Game, silos: &[Silo], cargo: &[GoodId]) -> Option<Flight>
+/// The first flight whose launch has the name of a recipe of the dump or of an earlier flight. Without memory it is found too, by more
+/// looks.
+pub fn flight_taken(alloc: Global, game: &Game, silos: &[Silo], cargo: &[GoodId]) -> Option<Flight>
     requires sound { IsSound game.now }
     requires silos { silos.now ≡ silos_in game.now }
     requires cargo { cargo.now ≡ cargo_in game.now }
     ensures { result ≡ flight_taken game.now }
 {
     names_differ(game);
-    earliest_taken(game, silos, cargo)
+    let table = known_middles(alloc, game, cargo);
+    earliest_taken(game, silos, cargo, &table)
 }

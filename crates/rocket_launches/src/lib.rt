@@ -4,6 +4,7 @@
 mod adding;
 mod clashes;
 mod launches;
+mod middles;
 mod silos;
 
 pub use adding::add_launches;

@@ -1,12 +1,10 @@
-use Rattle.std.proofs.Common.{◌∙◌, ap, sym}
-use Rattle.std.specs.Prelude.{option_and_then, slice_get}
-use Rattle.rocket_launches.specs.Clashes.{clash_with, least_below, sooner}
-use Rattle.rocket_launches.proofs.Earliest.{one_at}
+use Rattle.std.proofs.Common.{◌∙◌, ap}
+use Rattle.std.specs.Prelude.{option_and_then}
+use Rattle.rocket_launches.specs.Clashes.{later_with}
+use Rattle.rocket_launches.proofs.ToldClashes.{told_between}
 use Rattle.rocket_launches.proofs.clashes.clash_between.Goals as goal
 
-pub loop-good-preserved : goal.loop-good-preserved
-loop-good-preserved c =
-    c.sooner-least.ensures
-    ∙ ap (λ a. sooner a c.clash_with.result) c.loop-good.invariant
-    ∙ ap (sooner (least_below (λ k. option_and_then (clash_with c.args.game.now c.args.short.now c.args.long.now c.args.middle.now) (slice_get c.args.cargo.now k)) c.loop-good.good-index)) c.clash_with.ensures
-    ∙ sym (one_at (clash_with c.args.game.now c.args.short.now c.args.long.now c.args.middle.now) c.args.cargo.now c.loop-good.good-index (record { 0 = 0 }) c.loop-good-test.true)
+pub returns-in-Some : goal.returns-in-Some
+returns-in-Some c =
+    c.later_with.ensures ∙ ap (option_and_then (later_with c.args.short.now c.args.long.now)) c.ends_of.ensures
+    ∙ told_between c.args.game.now c.args.short.now c.args.long.now c.args.middle.now c.args.cargo.now c.args.table.now c.in-Some.middles c.in-Some.is c.requires.table c.requires.apart

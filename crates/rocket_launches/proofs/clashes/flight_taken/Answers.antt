@@ -6,6 +6,9 @@ use Rattle.rocket_launches.proofs.Flights.{cargo_named, silos_named}
 use Rattle.rocket_launches.proofs.TakenFlights.{taken_first_of_all}
 use Rattle.rocket_launches.proofs.clashes.flight_taken.Goals as goal
 
+pub known_middles-table-requires-clause-cargo : goal.known_middles-table-requires-clause-cargo
+known_middles-table-requires-clause-cargo c = subst (λ (xs : List GoodId). All (λ (good : GoodId). good.0 < length c.args.game.now.item_names) xs) (sym c.requires.cargo) (cargo_named c.args.game.now c.requires.sound)
+
 pub earliest_taken-requires-clause-cargo : goal.earliest_taken-requires-clause-cargo
 earliest_taken-requires-clause-cargo c = subst (λ (xs : List GoodId). All (λ (good : GoodId). good.0 < length c.args.game.now.item_names) xs) (sym c.requires.cargo) (cargo_named c.args.game.now c.requires.sound)
 
