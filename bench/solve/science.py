@@ -6,8 +6,8 @@ two productivity modules.
     python3 science.py [PROGRAM]
 
 It prints the rows and goods of the table, the processor time of a whole run with the table and of one that only reads
-the dump, and that of `glpsol --exact` on the same table: the least of fifteen each. The costs have to agree in every
-digit that glpsol prints.
+the dump, and that of `glpsol --exact` on the same table: the least of 45 each, in turns, and the median of the turns'
+ratios. The costs have to agree in every digit that glpsol prints.
 
     (cd ../../crates/solve_tables && rt run < stdin > /dev/null)      builds out/solve_tables
     python3 science.py linear [SOLVE_TABLES]
@@ -22,6 +22,7 @@ import sys
 import tempfile
 from fractions import Fraction
 from pathlib import Path
+from statistics import median
 
 from reference import text
 
@@ -35,7 +36,7 @@ PACKS = ["automation", "logistic", "military", "chemical", "production", "utilit
 PRICES = {"item:iron-ore": "1", "item:copper-ore": "1", "item:coal": "1/2", "item:stone": "1/3", "item:wood": "2",
           "item:uranium-ore": "5", "fluid:crude-oil": "1/10", "fluid:water": "1/1000"}
 MODULES = ["productivity-module", "productivity-module-3"]
-ROUNDS = 15
+ROUNDS = 45
 
 
 def part(entry):
@@ -138,19 +139,22 @@ class Science:
         return "\n".join(lines + ["end", ""])
 
 
-def spent(words, given=os.devnull):
-    """The least processor time of a program in milliseconds, and what it printed."""
-    least, printed = None, ""
-    for _ in range(ROUNDS):
-        with open(given) as source:
-            child = subprocess.Popen(words, stdin=source, stdout=subprocess.PIPE, text=True)
-        printed = child.stdout.read()
-        _, status, usage = os.wait4(child.pid, 0)
-        if status != 0:
-            sys.exit("%s: status %d\n%s" % (words[0], os.waitstatus_to_exitcode(status), printed))
-        time = 1000 * (usage.ru_utime + usage.ru_stime)
-        least = time if least is None else min(least, time)
-    return least, printed
+def once(words, given):
+    """The processor time of a program in milliseconds, and what it printed."""
+    with open(given) as source:
+        child = subprocess.Popen(words, stdin=source, stdout=subprocess.PIPE, text=True)
+    printed = child.stdout.read()
+    _, status, usage = os.wait4(child.pid, 0)
+    if status != 0:
+        sys.exit("%s: status %d\n%s" % (words[0], os.waitstatus_to_exitcode(status), printed))
+    return 1000 * (usage.ru_utime + usage.ru_stime), printed
+
+
+def spent(*programs):
+    """For each program, as its words and its input, the times of all rounds, and what it printed. They run in turns, since the speed of a
+    machine that does other work changes."""
+    turns = [[once(*program) for program in programs] for _ in range(ROUNDS)]
+    return [([time for time, _ in each], each[-1][1]) for each in zip(*turns)]
 
 
 def agree(cost, printed):
@@ -158,13 +162,13 @@ def agree(cost, printed):
     return "%.*g" % (digits, Fraction(cost)) == "%.*g" % (digits, Fraction(printed))
 
 
-def theirs(folder, science):
-    """The time that glpsol takes, and the cost that it prints."""
+def peer(folder, science):
+    """The words that run glpsol on the table, and the cost that it finds."""
     linear, result = Path(folder, "science.lp"), Path(folder, "result.txt")
     linear.write_text(science.linear_program())
-    time, _ = spent(["glpsol", "--exact", "--lp", linear])
-    subprocess.run(["glpsol", "--exact", "--lp", linear, "-o", result], stdout=subprocess.DEVNULL, check=True)
-    return time, re.search(r"Objective:\s+cost = (\S+)", result.read_text()).group(1)
+    words = ["glpsol", "--exact", "--lp", linear]
+    subprocess.run([*words, "-o", result], stdout=subprocess.DEVNULL, check=True)
+    return words, re.search(r"Objective:\s+cost = (\S+)", result.read_text()).group(1)
 
 
 def compare(science, cost, report, printed):
@@ -177,24 +181,27 @@ def compare(science, cost, report, printed):
 
 def whole(science, program):
     with tempfile.TemporaryDirectory() as folder:
-        script, nothing = Path(folder, "science.txt"), Path(folder, "nothing.txt")
+        script, empty = Path(folder, "science.txt"), Path(folder, "nothing.txt")
         script.write_text(science.script())
-        nothing.write_text("")
-        ours, report = spent([program, "run", DUMP, script])
-        reading, _ = spent([program, "run", DUMP, nothing])
-        time, printed = theirs(folder, science)
+        empty.write_text("")
+        words, printed = peer(folder, science)
+        (ours, report), (reading, _), (theirs, _) = spent(
+            ([program, "run", DUMP, script], os.devnull), ([program, "run", DUMP, empty], os.devnull), (words, os.devnull))
     compare(science, re.search(r"^\d+ plan science cost (\S+)", report, re.M), report, printed)
-    print("factoplan: %.1f ms, of which reading %.1f; glpsol --exact: %.1f ms" % (ours, reading, time))
+    beyond = [with_table - without for with_table, without in zip(ours, reading)]
+    print("factoplan: %.1f ms, of which reading %.1f; glpsol --exact: %.1f ms; beyond reading, median of the turns: %.2f of glpsol's" % (
+        min(ours), min(reading), min(theirs), median(x / y for x, y in zip(beyond, theirs))))
 
 
 def linear(science, program):
     with tempfile.TemporaryDirectory() as folder:
         table = Path(folder, "science.txt")
         table.write_text(science.linear_table())
-        ours, report = spent([program], table)
-        time, printed = theirs(folder, science)
+        words, printed = peer(folder, science)
+        (ours, report), (theirs, _) = spent(([program], table), (words, os.devnull))
     compare(science, re.search(r"^plan (\S+)", report), report, printed)
-    print("solve_tables: %.1f ms; glpsol --exact: %.1f ms" % (ours, time))
+    print("solve_tables: %.1f ms; glpsol --exact: %.1f ms; median of the turns: %.2f of glpsol's" % (
+        min(ours), min(theirs), median(x / y for x, y in zip(ours, theirs))))
 
 
 def main(words):
