@@ -4,8 +4,6 @@ ghost use Rattle.game_types.specs.Sound.{IsSound};
 ghost use Rattle.production_table.specs.Tables.{IsSoundTable};
 ghost use Rattle.wish_setups.specs.Answers.{IsAnswer};
 
-use crate::pruning::{Pruned, prune};
-use crate::walk::{Found, Walk, part_of, walk_back};
 use fractions::Ratio;
 use game_types::{Activity, Game, Product, Setup};
 use machine_rates::yield_of;
@@ -17,6 +15,7 @@ use wish_setups::{
     State, Wish, WishFault, is_answer, is_fitting, is_good_marked, is_marked, mined_goods,
     price_in, reached_fuels,
 };
+use wish_walk::{Found, Pruned, Walk, part_of, prune, walk_back};
 
 // Too many of something in a table, which the walk counts before.
 fn fault_of(alloc: Global, fault: TableFault) -> WishFault {

@@ -3,9 +3,6 @@
 #![tactic(auto)]
 
 mod building;
-mod pruning;
-mod walk;
-mod ways;
 
 pub use building::wish_table;
 pub use wish_lines::{good_text, like_names, table_text};
