@@ -2,22 +2,20 @@
 ghost use Rattle.std.specs.Prelude.{IfOk, OnOk};
 ghost use Rattle.game_types.specs.Sound.{IsSound};
 ghost use Rattle.production_table.specs.Tables.{IsSoundTable};
-ghost use Rattle.wish_tables.specs.Answers.{IsAnswer};
+ghost use Rattle.wish_setups.specs.Answers.{IsAnswer};
 
-use crate::checking::is_answer;
-use crate::choosing::{State, price_in};
-use crate::names::push_label;
-use crate::pruning::{Pruned, prune};
-use crate::reach::{is_good_marked, is_marked, mined_goods, reached_fuels};
-use crate::setups::is_fitting;
-use crate::walk::{Found, Walk, part_of, walk_back};
-use crate::{Wish, WishFault};
 use fractions::Ratio;
 use game_types::{Activity, Game, Product, Setup};
 use machine_rates::yield_of;
 use plan_base::{GoodId, Items, NoMemory};
 use production_table::{LIMIT, Table, TableFault};
 use std::alloc::Global;
+use wish_lines::push_label;
+use wish_setups::{
+    State, Wish, WishFault, is_answer, is_fitting, is_good_marked, is_marked, mined_goods,
+    price_in, reached_fuels,
+};
+use wish_walk::{Found, Pruned, Walk, part_of, prune, walk_back};
 
 // Too many of something in a table, which the walk counts before.
 fn fault_of(alloc: Global, fault: TableFault) -> WishFault {

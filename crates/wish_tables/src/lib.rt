@@ -3,19 +3,7 @@
 #![tactic(auto)]
 
 mod building;
-mod checking;
-mod choosing;
-mod lines;
-mod names;
-mod pruning;
-mod reach;
-mod setups;
-mod undoing;
-mod walk;
-mod ways;
-mod wish;
 
 pub use building::wish_table;
-pub use lines::table_text;
-pub use names::{good_text, like_names};
-pub use wish::{Wish, WishBeacon, WishFault};
+pub use wish_lines::{good_text, like_names, table_text};
+pub use wish_setups::{Wish, WishBeacon, WishFault};

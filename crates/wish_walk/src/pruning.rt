@@ -1,12 +1,12 @@
 //! Which rows of a walk can run, and which of these are needed.
 ghost use Rattle.game_types.specs.Sound.{IsSound};
 
-use crate::reach::{is_good_marked, is_marked, mark, mark_good};
 use crate::walk::{Found, Walk};
 use fractions::Ratio;
 use game_types::{Activity, Game};
 use plan_base::{GoodId, NoMemory};
 use std::alloc::Global;
+use wish_setups::{is_good_marked, is_marked, mark, mark_good};
 
 // Whether a part of a row is none that it takes, or marked.
 fn is_had(marks: &[bool], part: &(GoodId, Ratio)) -> bool {

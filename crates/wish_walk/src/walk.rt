@@ -1,15 +1,13 @@
 //! The walk from a good back to what is taken as it is.
 ghost use Rattle.game_types.specs.Sound.{IsSound};
 
-use crate::choosing::{State, is_import};
-use crate::reach::{is_good_marked, mark_good};
 use crate::ways::{NewRows, Search, ways_to};
-use crate::{Wish, WishFault};
 use fractions::Ratio;
 use game_types::{Activity, Game, Setup};
 use plan_base::{GoodId, Items, NoMemory};
 use production_table::LIMIT;
 use std::alloc::Global;
+use wish_setups::{State, Wish, WishFault, is_good_marked, is_import, mark_good};
 
 /// A set-up that gives a needed good, and what one craft of it adds to each good.
 #[derive(Drop)]

@@ -1,16 +1,15 @@
 //! The ways to a good: what gives it, each by its best machine.
 ghost use Rattle.game_types.specs.Sound.{IsSound};
 
-use crate::Wish;
-use crate::choosing::{State, best_setup, is_import};
-use crate::reach::{gives, is_good_marked, is_good_reached, is_reached};
-use crate::setups::column_in;
-use crate::undoing::is_undoing;
 use crate::walk::{Found, Walk, part_of};
 use fractions::Ratio;
 use game_types::{Activity, Game, Part, Recipe, Setup, choice_of};
 use plan_base::{GoodId, Kind, NoMemory, RecipeId, SourceId, TechId};
 use std::alloc::Global;
+use wish_setups::{
+    State, Wish, best_setup, column_in, gives, is_good_marked, is_good_reached, is_import,
+    is_reached, is_undoing,
+};
 
 /// What is looked for: ways to a good, beside the rows of a walk.
 #[derive(Clone, Copy)]

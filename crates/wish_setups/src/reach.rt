@@ -2,7 +2,7 @@
 ghost use Rattle.std.specs.Prelude.{◌≡◌, false, slice_index_or};
 ghost use Rattle.plan_base.specs.Shape.{count_of};
 ghost use Rattle.game_types.specs.Sound.{IsSound};
-ghost use Rattle.wish_tables.specs.Answers.{is_reached};
+ghost use Rattle.wish_setups.specs.Answers.{is_reached};
 
 use game_types::{Game, Product};
 use plan_base::{GoodId, Kind, NoMemory, Shape};

@@ -5,7 +5,7 @@ ghost use Rattle.std.specs.List.{list_all, list_any};
 ghost use Rattle.game_types.specs.Sound.{IsSound};
 ghost use Rattle.production_table.specs.Tables.{IsSoundTable};
 ghost use Rattle.table_rows.specs.Setups.{IsFitting};
-ghost use Rattle.wish_tables.specs.Answers.{IsAnswer, all_supplied, brings, column_supplied, gives, is_activity_reached, is_row_reached, is_supplied, part_supplied, row_column};
+ghost use Rattle.wish_setups.specs.Answers.{IsAnswer, all_supplied, brings, column_supplied, gives, is_activity_reached, is_row_reached, is_supplied, part_supplied, row_column};
 
 use crate::reach::{is_marked, is_reached};
 use crate::setups::is_fitting;
