@@ -1,13 +1,10 @@
 //! A plan as cards, each with what flows into it and out of it.
 ghost use Rattle.game_types.specs.Sound.{IsSound};
 
-use crate::Done;
-use crate::amounts::{Amount, Flow};
-use crate::flows::column_flows;
-use crate::names::{good_parts, machine_name};
 use crate::plans::Shown;
 use fractions::Ratio;
 use linear_table::{Column, LinearColumn};
+use page_parts::{Amount, Done, Flow, column_flows, good_parts, machine_name};
 use plan_base::{Kind, NoMemory, Text};
 use plan_report::Figures;
 use std::alloc::Global;

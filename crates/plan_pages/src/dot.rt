@@ -1,8 +1,6 @@
 //! A chart as a graph for Graphviz.
-use crate::Done;
-use crate::amounts::Flow;
 use crate::cards::{Card, CardKind, Chart};
-use crate::writing::{Piece, put};
+use page_parts::{Done, Flow, Piece, put};
 use plan_base::NoMemory;
 use std::alloc::Global;
 

@@ -1,9 +1,7 @@
 //! A chart as a drawing.
-use crate::Done;
-use crate::amounts::Flow;
 use crate::cards::{Card, CardKind, Chart};
-use crate::layout::{Arrow, Graph, Layout, at, laid_out, last_layer};
-use crate::writing::{Piece, put};
+use page_parts::layout::{Arrow, Graph, Layout, at, laid_out, last_layer};
+use page_parts::{Done, Flow, Piece, put};
 use plan_base::{Kind, NoMemory};
 use plan_report::kind_word;
 use std::alloc::Global;

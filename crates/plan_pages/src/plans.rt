@@ -1,15 +1,12 @@
 //! A plan as tables and a drawing.
 ghost use Rattle.game_types.specs.Sound.{IsSound};
 
-use crate::Done;
-use crate::answers::Site;
 use crate::cards::Chart;
 use crate::drawings::push_drawing;
-use crate::names::{activity_parts, good_parts, machine_name};
-use crate::writing::{Piece, put};
 use fractions::Ratio;
 use game_types::Game;
 use linear_table::{Column, Linear, Plan};
+use page_parts::{Done, Piece, Site, activity_parts, good_parts, machine_name, put};
 use plan_base::{GoodId, Kind};
 use plan_report::Figures;
 use production_table::{Table, TableRow};

@@ -1,7 +1,7 @@
 -- A fraction as a decimal of three places: the nearest one, halves away from 0.
 use Rattle.std.specs.Prelude.{ℕ, ℤ, pos, negsuc, true, false, ◌+◌, ◌*◌, ◌/◌, ◌%◌, ◌<◌, ◌≤◌, Bool, List, [], ◌++◌, if◌then◌else◌, codes, decimal, unsigned_abs}
 use Rattle.fractions.specs.Fraction.{Fraction}
-use Rattle.plan_pages.specs.declared.decimals.Nearest.{Nearest}
+use Rattle.page_parts.specs.declared.decimals.Nearest.{Nearest}
 
 -- how many thousandths
 abbrev pub thousandths : Nearest → ℕ

@@ -7,8 +7,8 @@ use Rattle.fractions.specs.Limits.{IsNarrow}
 use Rattle.game_types.specs.Steps.{is_narrow}
 use Rattle.game_types.proofs.StepLemmas.{narrow_decided}
 use Rattle.game_types.proofs.Walks.{next as next_of, drop_all}
-use Rattle.plan_pages.specs.declared.amounts.Amount.TheVariants.{Exact, Wide}
-use Rattle.plan_pages.specs.Flows.{flow_of, flows_of, product}
+use Rattle.page_parts.specs.declared.amounts.Amount.TheVariants.{Exact, Wide}
+use Rattle.page_parts.specs.Flows.{flow_of, flows_of, product}
 
 some_if : {P : Type 0} (fits : Bool) (x y : Fraction) → Decides fits P → P → y ≡ x → Exact y ≡ (if fits then Exact x else Wide)
 some_if true x y d p e = ap Exact e

@@ -3,9 +3,9 @@ use Rattle.std.specs.Prelude.{ℕ, List, if◌then◌else◌, map}
 use Rattle.fractions.specs.Fraction.{Fraction, ◌*ʳ◌}
 use Rattle.fractions.specs.Signs.{is_positive}
 use Rattle.game_types.specs.Steps.{is_narrow}
-use Rattle.plan_pages.specs.declared.amounts.Amount.{Amount}
-use Rattle.plan_pages.specs.declared.amounts.Amount.TheVariants.{Exact, Wide}
-use Rattle.plan_pages.specs.declared.amounts.Flow.{Flow}
+use Rattle.page_parts.specs.declared.amounts.Amount.{Amount}
+use Rattle.page_parts.specs.declared.amounts.Amount.TheVariants.{Exact, Wide}
+use Rattle.page_parts.specs.declared.amounts.Flow.{Flow}
 
 -- the product, where it is within the limits of fractions
 unfoldable pub product : Fraction → Fraction → Amount

@@ -7,7 +7,7 @@ use Rattle.std.proofs.lemmas.List.Folds.{list_all-append}
 use Rattle.std.proofs.lemmas.Str.{encode_ascii, inside_one}
 use Rattle.std.proofs.lemmas.List.Concat.{flat_map-cons}
 use lib.Utf8.{encode}
-use Rattle.plan_pages.specs.Escape.{escaped, is_harmless, reference}
+use Rattle.page_parts.specs.Escape.{escaped, is_harmless, reference}
 
 high_byte : (byte : ℕ) → 128 ≤ byte → reference byte ≡ byte ∷ []
 high_byte byte high = grind (arith, common_steps, high)

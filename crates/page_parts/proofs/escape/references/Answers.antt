@@ -2,9 +2,9 @@ use Rattle.std.proofs.Common.{◌++◌, ◌∙◌, List, ℕ, ap, sym, string_by
 use Rattle.std.specs.List.{flat_map}
 use Rattle.std.specs.Str.Iter.{chars_rest}
 use Rattle.std.proofs.lemmas.Str.{IsUtf8-past_char}
-use Rattle.plan_pages.specs.Escape.{reference}
-use Rattle.plan_pages.proofs.EscapeLemmas.{letter_more}
-use Rattle.plan_pages.proofs.escape.references.Goals as goal
+use Rattle.page_parts.specs.Escape.{reference}
+use Rattle.page_parts.proofs.EscapeLemmas.{letter_more}
+use Rattle.page_parts.proofs.escape.references.Goals as goal
 
 pub loop-letter-preserved : goal.loop-letter-preserved
 loop-letter-preserved c =

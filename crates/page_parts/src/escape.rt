@@ -1,7 +1,7 @@
 //! Text that stands for itself on a page, between the quotes of an attribute, in a drawing and in a graph.
 ghost use Rattle.std.specs.Prelude.{◌≡◌, ◌++◌, true, IfOk, OnOk, encode_utf8, string_bytes};
 ghost use Rattle.std.specs.List.{flat_map, list_all};
-ghost use Rattle.plan_pages.specs.Escape.{escaped, is_harmless, reference};
+ghost use Rattle.page_parts.specs.Escape.{escaped, is_harmless, reference};
 
 use crate::Done;
 use plan_base::NoMemory;

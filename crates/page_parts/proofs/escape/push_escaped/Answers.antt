@@ -1,7 +1,7 @@
 use Rattle.std.proofs.Common.{rules, arith}
 use Rattle.std.proofs.lemmas.Grind.{common_steps}
-use Rattle.plan_pages.proofs.EscapeLemmas.{stands_alone}
-use Rattle.plan_pages.proofs.escape.push_escaped.Goals as goal
+use Rattle.page_parts.proofs.EscapeLemmas.{stands_alone}
+use Rattle.page_parts.proofs.escape.push_escaped.Goals as goal
 
 pub returns-in_default : goal.returns-in_default
 returns-in_default c =

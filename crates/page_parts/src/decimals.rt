@@ -1,6 +1,6 @@
 //! Decimals beside fractions.
 ghost use Rattle.std.specs.Prelude.{◌≡◌, ◌+◌, ◌*◌, ◌^◌, ◌<◌, ◌≤◌, IfOk, string_bytes, unsigned_abs};
-ghost use Rattle.plan_pages.specs.Decimals.{decimal_text, is_below_zero, magnitude_text, IsNearest};
+ghost use Rattle.page_parts.specs.Decimals.{decimal_text, is_below_zero, magnitude_text, IsNearest};
 
 use fractions::Ratio;
 use plan_base::NoMemory;

@@ -3,8 +3,8 @@ use Rattle.std.proofs.Common.{◌≡◌, ◌∙◌, ℕ, ◌+◌, ◌-◌, ◌*�
 use Rattle.std.specs.Prelude.{unsigned_abs}
 use Rattle.std.proofs.lemmas.Bool.{cases_lt}
 use Rattle.fractions.specs.Fraction.{Fraction}
-use Rattle.plan_pages.specs.declared.decimals.Nearest.{Nearest}
-use Rattle.plan_pages.specs.Decimals.{IsNearest, thousandths}
+use Rattle.page_parts.specs.declared.decimals.Nearest.{Nearest}
+use Rattle.page_parts.specs.Decimals.{IsNearest, thousandths}
 
 -- twice
 pub twice : (count rest divisor all : ℕ) → all ≡ (count + count) * divisor + rest + rest → all ≡ 2 * (count * divisor + rest)

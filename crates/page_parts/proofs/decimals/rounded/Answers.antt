@@ -1,8 +1,8 @@
 use Rattle.std.proofs.Common.{rules, ◌≡◌, ◌∙◌, ◌+◌, ◌*◌, ◌<◌, ◌≤◌, ◌/◌, ◌%◌, ℕ, pos, ℤ, sym, ap, ap₂}
 use Rattle.std.proofs.lemmas.Nat.{div-add-mod'}
-use Rattle.plan_pages.specs.Decimals.{thousandths}
-use Rattle.plan_pages.proofs.DecimalLemmas.{nearest, rounds, thousand_times}
-use Rattle.plan_pages.proofs.decimals.rounded.Goals as goal
+use Rattle.page_parts.specs.Decimals.{thousandths}
+use Rattle.page_parts.proofs.DecimalLemmas.{nearest, rounds, thousand_times}
+use Rattle.page_parts.proofs.decimals.rounded.Goals as goal
 
 pub returns : goal.returns
 returns c =

@@ -1,8 +1,8 @@
 use Rattle.std.proofs.Common.{◌≡◌, ◌++◌, ◌∷◌, IsUtf8, string_bytes}
 use Rattle.std.specs.Str.Iter.{chars_rest}
 use Rattle.std.specs.List.{flat_map}
-use Rattle.plan_pages.specs.Escape.{reference}
-use Rattle.plan_pages.proofs.escape.references.Given as goal
+use Rattle.page_parts.specs.Escape.{reference}
+use Rattle.page_parts.proofs.escape.references.Given as goal
 
 abbrev pub invariant-loop-letter : goal.invariant-loop-letter
 invariant-loop-letter l = record {

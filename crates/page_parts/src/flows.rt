@@ -1,6 +1,6 @@
 //! What a column of a plan gives and takes.
 ghost use Rattle.std.specs.Prelude.{◌≡◌, IfOk};
-ghost use Rattle.plan_pages.specs.Flows.{flows_of, product};
+ghost use Rattle.page_parts.specs.Flows.{flows_of, product};
 
 use crate::amounts::{Amount, Flow};
 use fractions::{Ratio, is_positive};

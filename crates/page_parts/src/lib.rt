@@ -1,0 +1,27 @@
+//! What pages and graphs are put together from: pieces of text, names, decimals and flows, the places of cards, and the answers to a line.
+//!
+//! Names come from dumps and scripts of others. Each goes through `escaped` before it stands on a page or in a graph.
+#![tactic(auto)]
+
+mod amounts;
+mod answers;
+mod decimals;
+mod escape;
+mod flows;
+pub mod layout;
+mod meanings;
+mod names;
+mod writing;
+
+use plan_base::NoMemory;
+
+/// What is written to a text in memory, or that none could be had.
+pub type Done = Result<(), NoMemory>;
+
+pub use amounts::{Amount, Flow};
+pub use answers::{Site, push_answer, push_refusal};
+pub use decimals::{Nearest, decimal, rounded};
+pub use escape::{cut, escaped};
+pub use flows::column_flows;
+pub use names::{activity_parts, good_parts, machine_name};
+pub use writing::{Piece, put};
