@@ -46,13 +46,13 @@ fn idle(rate: &Ratio) -> &'static str {
     }
 }
 
-fn push_row<'a>(
+// What a row does, by what, and how often.
+fn push_work<'a>(
     alloc: Global,
     out: &mut String,
     game: &'a Game,
     row: &'a TableRow,
     rate: &'a Ratio,
-    figures: &'a Figures,
 ) -> Done
     requires { IsSound game.now }
 {
@@ -72,12 +72,63 @@ fn push_row<'a>(
             Piece::Text("</td><td>"),
             Piece::Number(rate),
             Piece::Text("</td>"),
-            Piece::Cell(&figures.machines),
-            Piece::Cell(&figures.count),
         ],
+    )
+}
+
+// How many machines a row has, and what they take.
+fn push_figures(alloc: Global, out: &mut String, figures: &Figures) -> Done {
+    put(
+        alloc,
+        out,
+        &[Piece::Cell(&figures.machines), Piece::Cell(&figures.count)],
     )?;
     put(alloc, out, &uses(figures))?;
     put(alloc, out, &[Piece::Text("</tr>\n")])
+}
+
+fn push_row(
+    alloc: Global,
+    out: &mut String,
+    game: &Game,
+    row: &TableRow,
+    rate: &Ratio,
+    figures: &Figures,
+) -> Done
+    requires { IsSound game.now }
+{
+    push_work(alloc, out, game, row, rate)?;
+    push_figures(alloc, out, figures)
+}
+
+// A line for each row.
+fn push_row_lines(alloc: Global, out: &mut String, shown: &Shown<'_>) -> Done
+    requires { IsSound shown.now.game.now }
+{
+    let rates = shown.plan.rates.as_slice();
+    for (row, (rate, figures)) in shown
+        .table
+        .rows
+        .as_slice()
+        .iter()
+        .zip(rates.iter().zip(shown.rows))
+    {
+        push_row(alloc, out, shown.game, row, rate, figures)?;
+    }
+    Ok(())
+}
+
+// What all rows take together.
+fn push_total(alloc: Global, out: &mut String, total: &Figures) -> Done {
+    put(
+        alloc,
+        out,
+        &[Piece::Text(
+            "</tbody><tfoot><tr><th>total</th><td></td><td></td><td></td><td></td><td></td>",
+        )],
+    )?;
+    put(alloc, out, &uses(total))?;
+    put(alloc, out, &[Piece::Text("</tr></tfoot></table></div>\n")])
 }
 
 fn push_rows(alloc: Global, out: &mut String, shown: &Shown<'_>) -> Done
@@ -90,25 +141,8 @@ fn push_rows(alloc: Global, out: &mut String, shown: &Shown<'_>) -> Done
             "<div class=\"wide\"><table class=\"rows\"><thead><tr><th>row</th><th>does</th><th>by</th><th>crafts/s</th><th>machines</th><th>whole</th><th>power W</th><th>drain W</th><th>beacons W</th><th>pollution/min</th></tr></thead><tbody>\n",
         )],
     )?;
-    let rates = shown.plan.rates.as_slice();
-    for (row, (rate, figures)) in shown
-        .table
-        .rows
-        .as_slice()
-        .iter()
-        .zip(rates.iter().zip(shown.rows))
-    {
-        push_row(alloc, out, shown.game, row, rate, figures)?;
-    }
-    put(
-        alloc,
-        out,
-        &[Piece::Text(
-            "</tbody><tfoot><tr><th>total</th><td></td><td></td><td></td><td></td><td></td>",
-        )],
-    )?;
-    put(alloc, out, &uses(shown.total))?;
-    put(alloc, out, &[Piece::Text("</tr></tfoot></table></div>\n")])
+    push_row_lines(alloc, out, shown)?;
+    push_total(alloc, out, shown.total)
 }
 
 // The rate at which a good comes in or goes out, 0 where it doesn't.
@@ -188,16 +222,10 @@ fn push_streams(
     push_price(alloc, out, price)
 }
 
-fn push_goods(alloc: Global, out: &mut String, shown: &Shown<'_>) -> Done
+// A line for each good.
+fn push_good_lines(alloc: Global, out: &mut String, shown: &Shown<'_>) -> Done
     requires { IsSound shown.now.game.now }
 {
-    put(
-        alloc,
-        out,
-        &[Piece::Text(
-            "<div class=\"wide\"><table class=\"goods\"><thead><tr><th>good</th><th>wanted/s</th><th>import/s</th><th>surplus/s</th><th>price</th></tr></thead><tbody>\n",
-        )],
-    )?;
     for (good, (want, price)) in shown.linear.goods.as_slice().iter().zip(
         shown
             .linear
@@ -208,6 +236,20 @@ fn push_goods(alloc: Global, out: &mut String, shown: &Shown<'_>) -> Done
     ) {
         push_streams(alloc, out, shown, *good, want, price)?;
     }
+    Ok(())
+}
+
+fn push_goods(alloc: Global, out: &mut String, shown: &Shown<'_>) -> Done
+    requires { IsSound shown.now.game.now }
+{
+    put(
+        alloc,
+        out,
+        &[Piece::Text(
+            "<div class=\"wide\"><table class=\"goods\"><thead><tr><th>good</th><th>wanted/s</th><th>import/s</th><th>surplus/s</th><th>price</th></tr></thead><tbody>\n",
+        )],
+    )?;
+    push_good_lines(alloc, out, shown)?;
     put(alloc, out, &[Piece::Text("</tbody></table></div>\n")])
 }
 
