@@ -24,4 +24,4 @@ pub use decimals::{Nearest, decimal, rounded};
 pub use escape::{cut, escaped};
 pub use flows::column_flows;
 pub use names::{activity_parts, good_parts, machine_name};
-pub use writing::{Piece, put};
+pub use writing::{Piece, push_text, put};

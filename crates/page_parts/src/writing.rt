@@ -66,7 +66,8 @@ fn push_figure(alloc: Global, out: &mut String, piece: &Piece<'_>) -> Done {
     }
 }
 
-fn push_text(out: &mut String, text: &str) -> Done {
+/// Writes a text of this program, as it is.
+pub fn push_text(out: &mut String, text: &str) -> Done {
     out.push_str(text)?;
     Ok(())
 }

@@ -1,6 +1,6 @@
 //! A chart as a graph for Graphviz.
 use crate::cards::{Card, CardKind, Chart};
-use page_parts::{Done, Flow, Piece, put};
+use page_parts::{Done, Flow, Piece, push_text, put};
 use plan_base::NoMemory;
 use std::alloc::Global;
 
@@ -125,7 +125,7 @@ fn push_graph(alloc: Global, out: &mut String, table: &str, chart: &Chart) -> Do
     )?;
     push_goods(alloc, out, chart)?;
     push_cards(alloc, out, chart)?;
-    put(alloc, out, &[Piece::Text("}\n")])
+    push_text(out, "}\n")
 }
 
 /// The graph of a chart: boxes for what is done, ellipses for goods, and on each edge how much flows per second.

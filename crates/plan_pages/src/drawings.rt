@@ -1,7 +1,7 @@
 //! A chart as a drawing.
 use crate::cards::{Card, CardKind, Chart};
 use page_parts::layout::{Arrow, Graph, Layout, at, laid_out, last_layer};
-use page_parts::{Done, Flow, Piece, put};
+use page_parts::{Done, Flow, Piece, push_text, put};
 use plan_base::{Kind, NoMemory};
 use plan_report::kind_word;
 use std::alloc::Global;
@@ -373,7 +373,7 @@ fn push_card(
     push_card_head(alloc, out, card, left, top)?;
     push_about(alloc, out, card.about.as_str())?;
     push_card_lines(alloc, out, chart, card)?;
-    put(alloc, out, &[Piece::Text("</g>\n")])
+    push_text(out, "</g>\n")
 }
 
 fn push_cards(alloc: Global, out: &mut String, chart: &Chart, layout: &Layout) -> Done {
@@ -463,7 +463,7 @@ fn push_laid_out(
     push_curves(alloc, out, chart, layout)?;
     push_joints(alloc, out, chart, layout, graph.arrows.as_slice())?;
     push_cards(alloc, out, chart, layout)?;
-    put(alloc, out, &[Piece::Text("</svg>\n")])
+    push_text(out, "</svg>\n")
 }
 
 /// Writes the drawing of a chart.

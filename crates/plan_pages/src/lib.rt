@@ -1,6 +1,6 @@
 //! Plans as pictures: the replies to a script as a page, and the plan of a table as a graph.
 //!
-//! Names come from dumps and scripts of others. They are written by `put` of `page_parts` alone, which escapes each.
+//! Names come from dumps and scripts of others. Each is a piece of its kind, which `put` of `page_parts` escapes.
 #![tactic(auto)]
 
 mod cards;

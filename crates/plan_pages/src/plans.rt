@@ -6,7 +6,7 @@ use crate::drawings::push_drawing;
 use fractions::Ratio;
 use game_types::Game;
 use linear_table::{Column, Linear, Plan};
-use page_parts::{Done, Piece, Site, activity_parts, good_parts, machine_name, put};
+use page_parts::{Done, Piece, Site, activity_parts, good_parts, machine_name, push_text, put};
 use plan_base::{GoodId, Kind};
 use plan_report::Figures;
 use production_table::{Table, TableRow};
@@ -84,7 +84,7 @@ fn push_figures(alloc: Global, out: &mut String, figures: &Figures) -> Done {
         &[Piece::Cell(&figures.machines), Piece::Cell(&figures.count)],
     )?;
     put(alloc, out, &uses(figures))?;
-    put(alloc, out, &[Piece::Text("</tr>\n")])
+    push_text(out, "</tr>\n")
 }
 
 fn push_row(
@@ -120,26 +120,20 @@ fn push_row_lines(alloc: Global, out: &mut String, shown: &Shown<'_>) -> Done
 
 // What all rows take together.
 fn push_total(alloc: Global, out: &mut String, total: &Figures) -> Done {
-    put(
-        alloc,
+    push_text(
         out,
-        &[Piece::Text(
-            "</tbody><tfoot><tr><th>total</th><td></td><td></td><td></td><td></td><td></td>",
-        )],
+        "</tbody><tfoot><tr><th>total</th><td></td><td></td><td></td><td></td><td></td>",
     )?;
     put(alloc, out, &uses(total))?;
-    put(alloc, out, &[Piece::Text("</tr></tfoot></table></div>\n")])
+    push_text(out, "</tr></tfoot></table></div>\n")
 }
 
 fn push_rows(alloc: Global, out: &mut String, shown: &Shown<'_>) -> Done
     requires { IsSound shown.now.game.now }
 {
-    put(
-        alloc,
+    push_text(
         out,
-        &[Piece::Text(
-            "<div class=\"wide\"><table class=\"rows\"><thead><tr><th>row</th><th>does</th><th>by</th><th>crafts/s</th><th>machines</th><th>whole</th><th>power W</th><th>drain W</th><th>beacons W</th><th>pollution/min</th></tr></thead><tbody>\n",
-        )],
+        "<div class=\"wide\"><table class=\"rows\"><thead><tr><th>row</th><th>does</th><th>by</th><th>crafts/s</th><th>machines</th><th>whole</th><th>power W</th><th>drain W</th><th>beacons W</th><th>pollution/min</th></tr></thead><tbody>\n",
     )?;
     push_row_lines(alloc, out, shown)?;
     push_total(alloc, out, shown.total)
@@ -164,7 +158,7 @@ fn stream(shown: &Shown<'_>, wanted: Column) -> Ratio {
 // A cell with a number, or with nothing for 0.
 fn push_some(alloc: Global, out: &mut String, number: Ratio) -> Done {
     if number.is_zero() {
-        return put(alloc, out, &[Piece::Text("<td></td>")]);
+        return push_text(out, "<td></td>");
     }
     put(
         alloc,
@@ -242,15 +236,12 @@ fn push_good_lines(alloc: Global, out: &mut String, shown: &Shown<'_>) -> Done
 fn push_goods(alloc: Global, out: &mut String, shown: &Shown<'_>) -> Done
     requires { IsSound shown.now.game.now }
 {
-    put(
-        alloc,
+    push_text(
         out,
-        &[Piece::Text(
-            "<div class=\"wide\"><table class=\"goods\"><thead><tr><th>good</th><th>wanted/s</th><th>import/s</th><th>surplus/s</th><th>price</th></tr></thead><tbody>\n",
-        )],
+        "<div class=\"wide\"><table class=\"goods\"><thead><tr><th>good</th><th>wanted/s</th><th>import/s</th><th>surplus/s</th><th>price</th></tr></thead><tbody>\n",
     )?;
     push_good_lines(alloc, out, shown)?;
-    put(alloc, out, &[Piece::Text("</tbody></table></div>\n")])
+    push_text(out, "</tbody></table></div>\n")
 }
 
 fn push_picture(alloc: Global, out: &mut String, shown: &Shown<'_>) -> Done
@@ -261,10 +252,8 @@ fn push_picture(alloc: Global, out: &mut String, shown: &Shown<'_>) -> Done
     push_drawing(alloc, out, shown.table.name.as_str(), &chart)
 }
 
-/// A plan: its drawing, its rows and its goods with their prices.
-pub fn push_plan(alloc: Global, out: &mut String, line: u32, shown: &Shown<'_>) -> Done
-    requires { IsSound shown.now.game.now }
-{
+// The head of a plan.
+fn push_plan_head(alloc: Global, out: &mut String, line: u32, shown: &Shown<'_>) -> Done {
     put(
         alloc,
         out,
@@ -279,12 +268,19 @@ pub fn push_plan(alloc: Global, out: &mut String, line: u32, shown: &Shown<'_>) 
             Piece::Count(line as u64),
             Piece::Text("</small></summary>\n<div class=\"wide chart\" tabindex=\"0\">"),
         ],
-    )?;
+    )
+}
+
+/// A plan: its drawing, its rows and its goods with their prices.
+pub fn push_plan(alloc: Global, out: &mut String, line: u32, shown: &Shown<'_>) -> Done
+    requires { IsSound shown.now.game.now }
+{
+    push_plan_head(alloc, out, line, shown)?;
     push_picture(alloc, out, shown)?;
-    put(alloc, out, &[Piece::Text("</div>\n")])?;
+    push_text(out, "</div>\n")?;
     push_rows(alloc, out, shown)?;
     push_goods(alloc, out, shown)?;
-    put(alloc, out, &[Piece::Text("</details>\n")])
+    push_text(out, "</details>\n")
 }
 
 fn push_prices(
@@ -332,9 +328,5 @@ pub fn push_infeasible(
 {
     push_failed(at, out, table)?;
     push_prices(at.alloc, out, at.game, goods, prices)?;
-    put(
-        at.alloc,
-        out,
-        &[Piece::Text("</tbody></table></div></details>\n")],
-    )
+    push_text(out, "</tbody></table></div></details>\n")
 }
