@@ -1,15 +1,13 @@
-//! What pages and graphs are put together from: pieces of text, names, decimals and flows, the places of cards, and the answers to a line.
+//! What pages and graphs are put together from: pieces of text, names, decimals and flows, and the places of cards.
 //!
 //! Names come from dumps and scripts of others. Each goes through `escaped` before it stands on a page or in a graph.
 #![tactic(auto)]
 
 mod amounts;
-mod answers;
 mod decimals;
 mod escape;
 mod flows;
 pub mod layout;
-mod meanings;
 mod names;
 mod writing;
 
@@ -19,9 +17,8 @@ use plan_base::NoMemory;
 pub type Done = Result<(), NoMemory>;
 
 pub use amounts::{Amount, Flow};
-pub use answers::{Site, push_answer, push_refusal};
 pub use decimals::{Nearest, decimal, rounded};
 pub use escape::{cut, escaped};
 pub use flows::column_flows;
-pub use names::{activity_parts, good_parts, machine_name};
+pub use names::{activity_parts, good_parts, machine_name, node_parts};
 pub use writing::{Piece, push_text, put};

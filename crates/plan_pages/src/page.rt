@@ -1,12 +1,14 @@
 //! The page of a script.
 ghost use Rattle.game_types.specs.Sound.{IsSound};
 
-use crate::plans::{Shown, push_infeasible, push_plan};
+use crate::answers::{Site, push_answer, push_refusal};
+use crate::plans::{push_infeasible, push_plan};
 use crate::style::{HEAD, SCRIPT, STYLE};
 use game_types::Game;
 use linear_table::{Linear, SolveAnswer};
-use page_parts::{Done, Piece, Site, cut, push_answer, push_refusal, put};
+use page_parts::{Done, Piece, cut, put};
 use plan_base::NoMemory;
+use plan_charts::Shown;
 use plan_report::{RefusalCode, Reply};
 use production_table::Table;
 use std::alloc::Global;

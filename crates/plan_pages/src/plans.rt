@@ -1,31 +1,20 @@
 //! A plan as tables and a drawing.
 ghost use Rattle.game_types.specs.Sound.{IsSound};
 
-use crate::cards::Chart;
-use crate::drawings::push_drawing;
+use crate::answers::Site;
 use fractions::Ratio;
 use game_types::Game;
-use linear_table::{Column, Linear, Plan};
-use page_parts::{Done, Piece, Site, activity_parts, good_parts, machine_name, push_text, put};
+use linear_table::Column;
+use page_parts::{Done, Piece, activity_parts, good_parts, machine_name, push_text, put};
 use plan_base::{GoodId, Kind};
+use plan_charts::{Chart, Shown, push_drawing};
 use plan_report::Figures;
-use production_table::{Table, TableRow};
+use production_table::TableRow;
 use std::alloc::Global;
 
 // What is written below the head of a table that has no plan.
 const NO_PLAN: &str =
     "</small></summary>\n<p>By these prices no row gains, and what is wanted is worth something: so there is no plan.</p>\n<div class=\"wide\"><table class=\"goods\"><thead><tr><th>good</th><th>price</th></tr></thead><tbody>\n";
-
-/// A plan of a table, with the table as it stood.
-#[derive(Drop)]
-pub struct Shown<'a> {
-    pub game: &'a Game,
-    pub table: &'a Table,
-    pub linear: &'a Linear,
-    pub plan: &'a Plan,
-    pub rows: &'a [Figures],
-    pub total: &'a Figures,
-}
 
 // The cells of what rows take: power, drain, beacons and pollution.
 fn uses(figures: &Figures) -> [Piece<'_>; 4] {

@@ -1,13 +1,25 @@
 //! A plan as cards, each with what flows into it and out of it.
 ghost use Rattle.game_types.specs.Sound.{IsSound};
 
-use crate::plans::Shown;
 use fractions::Ratio;
-use linear_table::{Column, LinearColumn};
+use game_types::Game;
+use linear_table::{Column, Linear, LinearColumn, Plan};
 use page_parts::{Amount, Done, Flow, column_flows, good_parts, machine_name};
 use plan_base::{Kind, NoMemory, Text};
 use plan_report::Figures;
+use production_table::Table;
 use std::alloc::Global;
+
+/// A plan of a table, with the table as it stood.
+#[derive(Drop)]
+pub struct Shown<'a> {
+    pub game: &'a Game,
+    pub table: &'a Table,
+    pub linear: &'a Linear,
+    pub plan: &'a Plan,
+    pub rows: &'a [Figures],
+    pub total: &'a Figures,
+}
 
 /// What a card stands for.
 #[derive(Clone, Copy, Debug, PartialEq, Eq)]
@@ -238,7 +250,7 @@ fn add_goods(alloc: Global, shown: &Shown<'_>, goods: &mut Vec<ChartGood>) -> Do
 
 impl Chart {
     /// A chart of nothing.
-    pub(crate) fn new(alloc: Global) -> Chart {
+    pub fn new(alloc: Global) -> Chart {
         Chart {
             cards: Vec::new(alloc),
             goods: Vec::new(alloc),
@@ -246,7 +258,7 @@ impl Chart {
     }
 
     /// The cards and the goods of a plan come in.
-    pub(crate) fn show(&mut self, alloc: Global, shown: &Shown<'_>) -> Done
+    pub fn show(&mut self, alloc: Global, shown: &Shown<'_>) -> Done
         requires { IsSound shown.now.game.now }
     {
         add_columns(alloc, shown, &mut self.cards)?;

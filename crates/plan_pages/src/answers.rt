@@ -1,11 +1,9 @@
 //! The answers to questions about nodes, and refusals.
 ghost use Rattle.game_types.specs.Sound.{IsSound};
 
-use crate::Done;
 use crate::meanings::meaning;
-use crate::names::node_parts;
-use crate::writing::{Piece, push_text, put};
 use game_types::Game;
+use page_parts::{Done, Piece, node_parts, push_text, put};
 use plan_base::{Items, NodeId};
 use plan_report::{RefusalCode, Reply, print_reply};
 use std::alloc::Global;
