@@ -6,7 +6,7 @@ use crate::fault::PageFault;
 use crate::session::{form_at, place_of};
 use linear_table::SolveAnswer;
 use plan_base::{NoMemory, Steps, Text};
-use plan_pages::{Shown, chart_of, dot_text};
+use plan_charts::{Shown, chart_of, dot_text};
 use plan_report::{RefusalCode, Reply};
 use planner_cli::Ready;
 use planner_core::Planner;

@@ -1,11 +1,9 @@
 //! The answers to questions about nodes, and refusals.
 ghost use Rattle.game_types.specs.Sound.{IsSound};
 
-use crate::Done;
 use crate::meanings::meaning;
-use crate::names::node_parts;
-use crate::writing::{Piece, put};
 use game_types::Game;
+use page_parts::{Done, Piece, node_parts, push_text, put};
 use plan_base::{Items, NodeId};
 use plan_report::{RefusalCode, Reply, print_reply};
 use std::alloc::Global;
@@ -37,7 +35,7 @@ fn push_head(at: &Site<'_>, out: &mut String, count: usize) -> Done {
 }
 
 fn push_tail(at: &Site<'_>, out: &mut String) -> Done {
-    put(at.alloc, out, &[Piece::Text("</ol></details>\n")])
+    push_text(out, "</ol></details>\n")
 }
 
 // An entry of one line.
@@ -164,7 +162,7 @@ fn push_group(at: &Site<'_>, out: &mut String, all: bool, members: &[NodeId]) ->
         ],
     )?;
     push_nodes(at, out, members)?;
-    put(at.alloc, out, &[Piece::Text("</ul></li>\n")])
+    push_text(out, "</ul></li>\n")
 }
 
 fn push_missing(
@@ -180,7 +178,7 @@ fn push_missing(
     }
     push_head(at, out, groups.len())?;
     if forbidden {
-        put(at.alloc, out, &[Piece::Text("<li data-f>forbidden</li>\n")])?;
+        push_text(out, "<li data-f>forbidden</li>\n")?;
     }
     for (all, members) in groups {
         push_group(at, out, *all, members.as_slice())?;

@@ -1,15 +1,14 @@
 //! The page of a script.
 ghost use Rattle.game_types.specs.Sound.{IsSound};
 
-use crate::Done;
 use crate::answers::{Site, push_answer, push_refusal};
-use crate::escape::cut;
-use crate::plans::{Shown, push_infeasible, push_plan};
+use crate::plans::{push_infeasible, push_plan};
 use crate::style::{HEAD, SCRIPT, STYLE};
-use crate::writing::{Piece, put};
 use game_types::Game;
 use linear_table::{Linear, SolveAnswer};
+use page_parts::{Done, Piece, cut, put};
 use plan_base::NoMemory;
+use plan_charts::Shown;
 use plan_report::{RefusalCode, Reply};
 use production_table::Table;
 use std::alloc::Global;

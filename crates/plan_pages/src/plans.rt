@@ -1,34 +1,20 @@
 //! A plan as tables and a drawing.
 ghost use Rattle.game_types.specs.Sound.{IsSound};
 
-use crate::Done;
 use crate::answers::Site;
-use crate::cards::Chart;
-use crate::drawings::push_drawing;
-use crate::names::{activity_parts, good_parts, machine_name};
-use crate::writing::{Piece, put};
 use fractions::Ratio;
 use game_types::Game;
-use linear_table::{Column, Linear, Plan};
+use linear_table::Column;
+use page_parts::{Done, Piece, activity_parts, good_parts, machine_name, push_text, put};
 use plan_base::{GoodId, Kind};
+use plan_charts::{Chart, Shown, push_drawing};
 use plan_report::Figures;
-use production_table::{Table, TableRow};
+use production_table::TableRow;
 use std::alloc::Global;
 
 // What is written below the head of a table that has no plan.
 const NO_PLAN: &str =
     "</small></summary>\n<p>By these prices no row gains, and what is wanted is worth something: so there is no plan.</p>\n<div class=\"wide\"><table class=\"goods\"><thead><tr><th>good</th><th>price</th></tr></thead><tbody>\n";
-
-/// A plan of a table, with the table as it stood.
-#[derive(Drop)]
-pub struct Shown<'a> {
-    pub game: &'a Game,
-    pub table: &'a Table,
-    pub linear: &'a Linear,
-    pub plan: &'a Plan,
-    pub rows: &'a [Figures],
-    pub total: &'a Figures,
-}
 
 // The cells of what rows take: power, drain, beacons and pollution.
 fn uses(figures: &Figures) -> [Piece<'_>; 4] {
@@ -49,13 +35,13 @@ fn idle(rate: &Ratio) -> &'static str {
     }
 }
 
-fn push_row<'a>(
+// What a row does, by what, and how often.
+fn push_work<'a>(
     alloc: Global,
     out: &mut String,
     game: &'a Game,
     row: &'a TableRow,
     rate: &'a Ratio,
-    figures: &'a Figures,
 ) -> Done
     requires { IsSound game.now }
 {
@@ -75,24 +61,39 @@ fn push_row<'a>(
             Piece::Text("</td><td>"),
             Piece::Number(rate),
             Piece::Text("</td>"),
-            Piece::Cell(&figures.machines),
-            Piece::Cell(&figures.count),
         ],
-    )?;
-    put(alloc, out, &uses(figures))?;
-    put(alloc, out, &[Piece::Text("</tr>\n")])
+    )
 }
 
-fn push_rows(alloc: Global, out: &mut String, shown: &Shown<'_>) -> Done
-    requires { IsSound shown.now.game.now }
-{
+// How many machines a row has, and what they take.
+fn push_figures(alloc: Global, out: &mut String, figures: &Figures) -> Done {
     put(
         alloc,
         out,
-        &[Piece::Text(
-            "<div class=\"wide\"><table class=\"rows\"><thead><tr><th>row</th><th>does</th><th>by</th><th>crafts/s</th><th>machines</th><th>whole</th><th>power W</th><th>drain W</th><th>beacons W</th><th>pollution/min</th></tr></thead><tbody>\n",
-        )],
+        &[Piece::Cell(&figures.machines), Piece::Cell(&figures.count)],
     )?;
+    put(alloc, out, &uses(figures))?;
+    push_text(out, "</tr>\n")
+}
+
+fn push_row(
+    alloc: Global,
+    out: &mut String,
+    game: &Game,
+    row: &TableRow,
+    rate: &Ratio,
+    figures: &Figures,
+) -> Done
+    requires { IsSound game.now }
+{
+    push_work(alloc, out, game, row, rate)?;
+    push_figures(alloc, out, figures)
+}
+
+// A line for each row.
+fn push_row_lines(alloc: Global, out: &mut String, shown: &Shown<'_>) -> Done
+    requires { IsSound shown.now.game.now }
+{
     let rates = shown.plan.rates.as_slice();
     for (row, (rate, figures)) in shown
         .table
@@ -103,15 +104,28 @@ fn push_rows(alloc: Global, out: &mut String, shown: &Shown<'_>) -> Done
     {
         push_row(alloc, out, shown.game, row, rate, figures)?;
     }
-    put(
-        alloc,
+    Ok(())
+}
+
+// What all rows take together.
+fn push_total(alloc: Global, out: &mut String, total: &Figures) -> Done {
+    push_text(
         out,
-        &[Piece::Text(
-            "</tbody><tfoot><tr><th>total</th><td></td><td></td><td></td><td></td><td></td>",
-        )],
+        "</tbody><tfoot><tr><th>total</th><td></td><td></td><td></td><td></td><td></td>",
     )?;
-    put(alloc, out, &uses(shown.total))?;
-    put(alloc, out, &[Piece::Text("</tr></tfoot></table></div>\n")])
+    put(alloc, out, &uses(total))?;
+    push_text(out, "</tr></tfoot></table></div>\n")
+}
+
+fn push_rows(alloc: Global, out: &mut String, shown: &Shown<'_>) -> Done
+    requires { IsSound shown.now.game.now }
+{
+    push_text(
+        out,
+        "<div class=\"wide\"><table class=\"rows\"><thead><tr><th>row</th><th>does</th><th>by</th><th>crafts/s</th><th>machines</th><th>whole</th><th>power W</th><th>drain W</th><th>beacons W</th><th>pollution/min</th></tr></thead><tbody>\n",
+    )?;
+    push_row_lines(alloc, out, shown)?;
+    push_total(alloc, out, shown.total)
 }
 
 // The rate at which a good comes in or goes out, 0 where it doesn't.
@@ -133,7 +147,7 @@ fn stream(shown: &Shown<'_>, wanted: Column) -> Ratio {
 // A cell with a number, or with nothing for 0.
 fn push_some(alloc: Global, out: &mut String, number: Ratio) -> Done {
     if number.is_zero() {
-        return put(alloc, out, &[Piece::Text("<td></td>")]);
+        return push_text(out, "<td></td>");
     }
     put(
         alloc,
@@ -191,16 +205,10 @@ fn push_streams(
     push_price(alloc, out, price)
 }
 
-fn push_goods(alloc: Global, out: &mut String, shown: &Shown<'_>) -> Done
+// A line for each good.
+fn push_good_lines(alloc: Global, out: &mut String, shown: &Shown<'_>) -> Done
     requires { IsSound shown.now.game.now }
 {
-    put(
-        alloc,
-        out,
-        &[Piece::Text(
-            "<div class=\"wide\"><table class=\"goods\"><thead><tr><th>good</th><th>wanted/s</th><th>import/s</th><th>surplus/s</th><th>price</th></tr></thead><tbody>\n",
-        )],
-    )?;
     for (good, (want, price)) in shown.linear.goods.as_slice().iter().zip(
         shown
             .linear
@@ -211,7 +219,18 @@ fn push_goods(alloc: Global, out: &mut String, shown: &Shown<'_>) -> Done
     ) {
         push_streams(alloc, out, shown, *good, want, price)?;
     }
-    put(alloc, out, &[Piece::Text("</tbody></table></div>\n")])
+    Ok(())
+}
+
+fn push_goods(alloc: Global, out: &mut String, shown: &Shown<'_>) -> Done
+    requires { IsSound shown.now.game.now }
+{
+    push_text(
+        out,
+        "<div class=\"wide\"><table class=\"goods\"><thead><tr><th>good</th><th>wanted/s</th><th>import/s</th><th>surplus/s</th><th>price</th></tr></thead><tbody>\n",
+    )?;
+    push_good_lines(alloc, out, shown)?;
+    push_text(out, "</tbody></table></div>\n")
 }
 
 fn push_picture(alloc: Global, out: &mut String, shown: &Shown<'_>) -> Done
@@ -222,10 +241,8 @@ fn push_picture(alloc: Global, out: &mut String, shown: &Shown<'_>) -> Done
     push_drawing(alloc, out, shown.table.name.as_str(), &chart)
 }
 
-/// A plan: its drawing, its rows and its goods with their prices.
-pub fn push_plan(alloc: Global, out: &mut String, line: u32, shown: &Shown<'_>) -> Done
-    requires { IsSound shown.now.game.now }
-{
+// The head of a plan.
+fn push_plan_head(alloc: Global, out: &mut String, line: u32, shown: &Shown<'_>) -> Done {
     put(
         alloc,
         out,
@@ -240,12 +257,19 @@ pub fn push_plan(alloc: Global, out: &mut String, line: u32, shown: &Shown<'_>) 
             Piece::Count(line as u64),
             Piece::Text("</small></summary>\n<div class=\"wide chart\" tabindex=\"0\">"),
         ],
-    )?;
+    )
+}
+
+/// A plan: its drawing, its rows and its goods with their prices.
+pub fn push_plan(alloc: Global, out: &mut String, line: u32, shown: &Shown<'_>) -> Done
+    requires { IsSound shown.now.game.now }
+{
+    push_plan_head(alloc, out, line, shown)?;
     push_picture(alloc, out, shown)?;
-    put(alloc, out, &[Piece::Text("</div>\n")])?;
+    push_text(out, "</div>\n")?;
     push_rows(alloc, out, shown)?;
     push_goods(alloc, out, shown)?;
-    put(alloc, out, &[Piece::Text("</details>\n")])
+    push_text(out, "</details>\n")
 }
 
 fn push_prices(
@@ -293,9 +317,5 @@ pub fn push_infeasible(
 {
     push_failed(at, out, table)?;
     push_prices(at.alloc, out, at.game, goods, prices)?;
-    put(
-        at.alloc,
-        out,
-        &[Piece::Text("</tbody></table></div></details>\n")],
-    )
+    push_text(out, "</tbody></table></div></details>\n")
 }

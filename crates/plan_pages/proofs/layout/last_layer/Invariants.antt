@@ -1,5 +1,0 @@
-use Rattle.std.proofs.Common.{◌≤◌}
-use Rattle.plan_pages.proofs.layout.last_layer.Given as goal
-
-abbrev pub invariant-loop-layer : goal.invariant-loop-layer
-invariant-loop-layer l = l.last ≤ 1_000_000
