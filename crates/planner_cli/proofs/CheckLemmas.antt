@@ -9,14 +9,15 @@ use Rattle.script_runner.specs.Lines.{lines_of}
 use Rattle.script_runner.specs.TrialLines.{TellsMany}
 use Rattle.script_runner.specs.declared.run.ScriptEnd.{ScriptEnd}
 use Rattle.script_runner.specs.declared.run.ScriptEnd.TheVariants as script
-use Rattle.planner_cli.specs.declared.status.Status.{Status}
-use Rattle.planner_cli.specs.declared.status.Status.TheVariants.{Done, SomeRefused, BadWords, BadDump, ReadFault, WriteFault, NoMemory, TooLong, BadCert}
-use Rattle.planner_cli.specs.declared.status.Long.TheVariants.{DumpBytes, ScriptBytes, ScriptLines, CertBytes}
-use Rattle.planner_cli.specs.Begun.{BeginsFiles, CallsUnder, HasScript}
-use Rattle.planner_cli.specs.Certs.{EndsReadingCert}
-use Rattle.planner_cli.specs.Early.{EndsEarly, IsTold}
-use Rattle.planner_cli.specs.Ending.{IsReady, status_of}
-use Rattle.planner_cli.specs.Inputs.{IsBase}
+use Rattle.run_inputs.specs.declared.status.Status.{Status}
+use Rattle.run_inputs.specs.declared.status.Status.TheVariants.{Done, SomeRefused, BadWords, BadDump, ReadFault, WriteFault, NoMemory, TooLong, BadCert}
+use Rattle.run_inputs.specs.declared.status.Long.TheVariants.{DumpBytes, ScriptBytes, ScriptLines, CertBytes}
+use Rattle.run_inputs.specs.Begun.{BeginsFiles, CallsUnder, HasScript}
+use Rattle.run_inputs.specs.Certs.{EndsReadingCert}
+use Rattle.run_inputs.specs.Early.{EndsEarly, IsTold}
+use Rattle.run_inputs.specs.Ready.{IsReady}
+use Rattle.run_inputs.specs.Told.{status_of}
+use Rattle.run_inputs.specs.Inputs.{IsBase}
 use Rattle.cli_words.specs.Words.{FileNames, Files, Check, Run}
 use Rattle.planner_cli.proofs.EndingLemmas.{base_for, begins_told}
 

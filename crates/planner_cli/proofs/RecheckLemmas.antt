@@ -20,14 +20,14 @@ use Rattle.script_runner.specs.Rechecks.{IsProof}
 use Rattle.script_runner.specs.Scripts.{IsTooLong}
 use Rattle.script_runner.specs.declared.run.ScriptEnd.TheVariants as script_end
 use Rattle.script_runner.proofs.RecheckLemmas.{ends_done}
-use Rattle.planner_cli.specs.declared.status.Status.{Status}
-use Rattle.planner_cli.specs.declared.status.Status.TheVariants.{Done, SomeRefused, BadWords, BadDump, ReadFault, WriteFault, NoMemory, TooLong, BadCert}
-use Rattle.planner_cli.specs.declared.status.Long.TheVariants.{DumpBytes, ScriptBytes, ScriptLines, CertBytes}
-use Rattle.planner_cli.specs.Base.{HasBase}
-use Rattle.planner_cli.specs.Early.{HasBaseFault, Stops}
+use Rattle.run_inputs.specs.declared.status.Status.{Status}
+use Rattle.run_inputs.specs.declared.status.Status.TheVariants.{Done, SomeRefused, BadWords, BadDump, ReadFault, WriteFault, NoMemory, TooLong, BadCert}
+use Rattle.run_inputs.specs.declared.status.Long.TheVariants.{DumpBytes, ScriptBytes, ScriptLines, CertBytes}
+use Rattle.run_inputs.specs.Base.{HasBase}
+use Rattle.run_inputs.specs.Early.{HasBaseFault, Stops}
 use Rattle.planner_cli.specs.Ending.{ChecksCert, EndsRun}
-use Rattle.planner_cli.specs.Inputs.{IsBase, IsCert, IsInput, IsScript}
-use Rattle.planner_cli.specs.Reading.{IsContent}
+use Rattle.run_inputs.specs.Inputs.{IsBase, IsCert, IsInput, IsScript}
+use Rattle.run_inputs.specs.Reading.{IsContent}
 use Rattle.planner_cli.specs.Rechecks.{ChecksNoWide, HasSameFiles, IsProved, Side}
 use Rattle.cli_words.specs.Words.{Check, Files}
 

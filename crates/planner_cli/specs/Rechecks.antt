@@ -6,9 +6,9 @@ use Rattle.linear_table.specs.declared.SolveAnswer.{SolveAnswer}
 use Rattle.certificate_file.specs.declared.CertEntry.{CertEntry}
 use Rattle.planner_core.specs.Lines.{first_planned}
 use Rattle.script_runner.specs.Rechecks.{IsNeverWide}
-use Rattle.planner_cli.specs.declared.status.Status.TheVariants.{Done}
+use Rattle.run_inputs.specs.declared.status.Status.TheVariants.{Done}
 use Rattle.planner_cli.specs.Ending.{EndsRun}
-use Rattle.planner_cli.specs.Inputs.{IsBase, IsCert, IsScript}
+use Rattle.run_inputs.specs.Inputs.{IsBase, IsCert, IsScript}
 use Rattle.cli_words.specs.Words.{Check, FileNames, Files, Prove}
 
 -- what a run is asked for, and the files that it finds

@@ -6,13 +6,13 @@ ghost use Rattle.planner_core.specs.Lines.{first_planned, IsSessionOf};
 ghost use Rattle.script_runner.specs.Leaves.{Leaves};
 ghost use Rattle.script_runner.specs.Scripts.{is_cut};
 ghost use Rattle.planner_cli.specs.Ending.{EndsAnswered};
-ghost use Rattle.planner_cli.specs.Keeping.{KeepsSink};
+ghost use Rattle.run_inputs.specs.Keeping.{KeepsSink};
 
-use crate::prepare::Ready;
 use linear_table::SolveAnswer;
 use plan_base::Steps;
 use plan_io::Sink;
 use planner_core::{Planner, state_is_of_the_active_edits};
+use run_inputs::Ready;
 use script_runner::{ScriptEnd, prove_script, run_script};
 use std::alloc::Global;
 

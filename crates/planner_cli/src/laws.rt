@@ -1,8 +1,8 @@
 //! Laws of two runs.
 ghost use Rattle.std.specs.Prelude.{◌≡◌, ◌≢◌, ℕ, List, Some};
 ghost use Rattle.linear_table.specs.declared.SolveAnswer.{SolveAnswer};
-ghost use Rattle.planner_cli.specs.declared.status.Status.{Status as AnyStatus};
-ghost use Rattle.planner_cli.specs.declared.status.Status.TheVariants as statuses;
+ghost use Rattle.run_inputs.specs.declared.status.Status.{Status as AnyStatus};
+ghost use Rattle.run_inputs.specs.declared.status.Status.TheVariants as statuses;
 ghost use Rattle.planner_cli.specs.Ending.{EndsRun};
 ghost use Rattle.planner_cli.specs.Rechecks.{ChecksNoWide, HasSameFiles, IsProved, Side};
 ghost use Rattle.cli_words.specs.Words.{Check, Files};

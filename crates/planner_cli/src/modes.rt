@@ -2,26 +2,26 @@
 ghost use Rattle.std.specs.Prelude.{◌≡◌, ◌≢◌, ◌≤◌, ◌<◌, ◌-◌, ℕ, [], Some};
 ghost use Rattle.plan_io.specs.Store.{Shelf};
 ghost use Rattle.script_runner.specs.Leaves.{Leaves};
-ghost use Rattle.planner_cli.specs.Begun.{BeginsFiles};
-ghost use Rattle.planner_cli.specs.Early.{is_cut};
+ghost use Rattle.run_inputs.specs.Begun.{BeginsFiles};
+ghost use Rattle.run_inputs.specs.Early.{is_cut};
 ghost use Rattle.game_types.specs.declared.games.Game.{Game};
 ghost use Rattle.plan_io.specs.Store.{Begun};
 ghost use Rattle.planning_state.specs.States.{State};
 ghost use Rattle.planner_core.specs.Lines.{first_planned, IsSessionOf};
-ghost use Rattle.planner_cli.specs.Ending.{EndsRun, IsReady, answering};
-ghost use Rattle.planner_cli.specs.Inputs.{IsScript};
-ghost use Rattle.planner_cli.specs.Keeping.{KeepsSink, KeepsStore};
+ghost use Rattle.planner_cli.specs.Ending.{EndsRun, answering};
+ghost use Rattle.run_inputs.specs.Ready.{IsReady};
+ghost use Rattle.run_inputs.specs.Inputs.{IsScript};
+ghost use Rattle.run_inputs.specs.Keeping.{KeepsSink, KeepsStore};
 ghost use Rattle.cli_words.specs.Words.{Check, FileNames, Files, Run, Sample};
 
 use crate::answer::answer;
-use crate::certs::read_entries;
-use crate::prepare::{Ready, make_ready, read_files};
-use crate::status::{Status, status_of};
-use crate::telling::{is_answered, tell, tell_steps};
 use linear_table::SolveAnswer;
 use plan_base::Steps;
 use plan_io::{Sink, Store};
 use planner_core::{Planner, state_is_of_the_active_edits};
+use run_inputs::{
+    Ready, Status, is_answered, make_ready, read_entries, read_files, status_of, tell, tell_steps,
+};
 use script_runner::{check_lines, has_many_lines, tell_many_lines};
 use std::alloc::Global;
 

@@ -20,10 +20,10 @@ use Rattle.craft_reader.specs.declared.fault.DumpCode.TheVariants as d
 use Rattle.craft_reader.specs.declared.fault.DumpFault.{DumpFault}
 use Rattle.certificate_file.specs.declared.CertFault.{CertFault}
 use Rattle.certificate_file.specs.declared.CertFault.TheVariants as c
-use Rattle.planner_cli.specs.declared.status.Long.{Long}
-use Rattle.planner_cli.specs.declared.status.Long.TheVariants.{DumpBytes, ScriptBytes, ScriptLines, CertBytes}
-use Rattle.planner_cli.specs.declared.status.Status.{Status}
-use Rattle.planner_cli.specs.declared.status.Status.TheVariants.{Done, SomeRefused, BadWords, BadDump, ReadFault, WriteFault, NoMemory, TooLong, BadCert}
+use Rattle.run_inputs.specs.declared.status.Long.{Long}
+use Rattle.run_inputs.specs.declared.status.Long.TheVariants.{DumpBytes, ScriptBytes, ScriptLines, CertBytes}
+use Rattle.run_inputs.specs.declared.status.Status.{Status}
+use Rattle.run_inputs.specs.declared.status.Status.TheVariants.{Done, SomeRefused, BadWords, BadDump, ReadFault, WriteFault, NoMemory, TooLong, BadCert}
 
 pub joined : (xs ys : List ℕ) → is_unbroken xs ≡ true → is_unbroken ys ≡ true → is_unbroken (xs ++ ys) ≡ true
 joined xs ys first second = rw (list_all-append (λ byte. not (is_newline byte)) xs ys, first, second) refl

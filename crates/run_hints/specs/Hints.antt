@@ -4,10 +4,10 @@ use Rattle.std.specs.List.{list_all}
 use Rattle.plan_report.specs.Words.{printed_word}
 use Rattle.certificate_file.specs.declared.CertFault.{CertFault}
 use Rattle.certificate_file.specs.declared.CertFault.TheVariants as fault
-use Rattle.planner_cli.specs.declared.status.Long.{Long}
-use Rattle.planner_cli.specs.declared.status.Long.TheVariants.{DumpBytes, ScriptBytes, ScriptLines, CertBytes}
-use Rattle.planner_cli.specs.declared.status.Status.{Status}
-use Rattle.planner_cli.specs.declared.status.Status.TheVariants.{Done, SomeRefused, BadWords, BadDump, ReadFault, WriteFault, NoMemory, TooLong, BadCert}
+use Rattle.run_inputs.specs.declared.status.Long.{Long}
+use Rattle.run_inputs.specs.declared.status.Long.TheVariants.{DumpBytes, ScriptBytes, ScriptLines, CertBytes}
+use Rattle.run_inputs.specs.declared.status.Status.{Status}
+use Rattle.run_inputs.specs.declared.status.Status.TheVariants.{Done, SomeRefused, BadWords, BadDump, ReadFault, WriteFault, NoMemory, TooLong, BadCert}
 use Rattle.run_hints.specs.Faults.{fault_text}
 use Rattle.run_hints.specs.Names.{dump_name, script_name}
 use Rattle.run_hints.specs.Places.{is_newline}

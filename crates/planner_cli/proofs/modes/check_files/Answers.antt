@@ -2,12 +2,13 @@ use Rattle.std.proofs.Common.{◌-◌, [], refl}
 use Rattle.std.specs.Prelude.{Some}
 use Rattle.plan_io.specs.Store.{Shelf}
 use Rattle.script_runner.specs.Leaves.{Leaves}
-use Rattle.planner_cli.specs.Begun.{BeginsFiles}
-use Rattle.planner_cli.specs.Early.{is_cut}
-use Rattle.planner_cli.specs.Ending.{EndsRun, IsReady}
-use Rattle.planner_cli.specs.Inputs.{IsScript}
+use Rattle.run_inputs.specs.Begun.{BeginsFiles}
+use Rattle.run_inputs.specs.Early.{is_cut}
+use Rattle.planner_cli.specs.Ending.{EndsRun}
+use Rattle.run_inputs.specs.Ready.{IsReady}
+use Rattle.run_inputs.specs.Inputs.{IsScript}
 use Rattle.cli_words.specs.Words.{Check, FileNames, Files, Run}
-use Rattle.planner_cli.specs.declared.status.Status.TheVariants.{Done}
+use Rattle.run_inputs.specs.declared.status.Status.TheVariants.{Done}
 use Rattle.planner_cli.proofs.CheckLemmas.{kept}
 use Rattle.planner_cli.proofs.EndingLemmas.{begins_early, begins_told, early_files, is_no_cut, leaves_told}
 use Rattle.planner_cli.proofs.modes.check_files.Goals as goal

@@ -2,7 +2,7 @@ use Rattle.std.proofs.Common.{◌<◌, ◌≤◌, [], ℕ, List, length, refl, s
 use Rattle.std.specs.Prelude.{Some}
 use Rattle.certificate_file.specs.declared.CertEntry.{CertEntry}
 use Rattle.script_runner.specs.Lines.{lines_of}
-use Rattle.planner_cli.specs.Inputs.{IsCert}
+use Rattle.run_inputs.specs.Inputs.{IsCert}
 use Rattle.cli_words.specs.Words.{Check, Files}
 use Rattle.planner_cli.proofs.CheckLemmas.{cert_begins_checked, cert_begins_early, cert_begins_many, cert_early, cert_no_cut}
 use Rattle.planner_cli.proofs.EndingLemmas.{leaves_checked, leaves_many, leaves_told}

@@ -2,8 +2,8 @@ use Rattle.std.proofs.Common.{◌-◌, ◌≤◌, ℕ, List, subst, sym}
 use Rattle.std.specs.Prelude.{Some}
 use Rattle.planning_state.specs.States.{first_state}
 use Rattle.planner_core.specs.Lines.{IsSessionOf}
-use Rattle.planner_cli.specs.Ending.{IsReady}
-use Rattle.planner_cli.specs.Inputs.{IsScript}
+use Rattle.run_inputs.specs.Ready.{IsReady}
+use Rattle.run_inputs.specs.Inputs.{IsScript}
 use Rattle.cli_words.specs.Words.{Files, Run}
 use Rattle.planner_cli.proofs.modes.check_ready.Goals as goal
 

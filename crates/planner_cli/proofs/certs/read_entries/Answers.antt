@@ -1,5 +1,0 @@
-use Rattle.planner_cli.proofs.CertLemmas.{cert_of}
-use Rattle.planner_cli.proofs.certs.read_entries.Goals as goal
-
-pub returns-in-Ok-clause-entries : goal.returns-in-Ok-clause-entries
-returns-in-Ok-clause-entries g c = cert_of (g.S.Store.shelf c.args.store.now) c.args.name.now c.in-Ok.bytes.items c.deref.result.now c.entries_of.result c.in-Ok.ensures.input c.deref.ensures.value c.entries_of.ensures

@@ -1,0 +1,5 @@
+pub mod CertLemmas
+pub mod LoadLemmas
+pub mod PrepareLemmas
+pub mod ReadingLemmas
+pub mod ToldLemmas

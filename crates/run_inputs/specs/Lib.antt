@@ -1,0 +1,11 @@
+pub mod BadDump
+pub mod Base
+pub mod Begun
+pub mod Certs
+pub mod Early
+pub mod Exit
+pub mod Inputs
+pub mod Keeping
+pub mod Reading
+pub mod Ready
+pub mod Told
