@@ -1,13 +1,11 @@
 pub mod AnswerLemmas
 pub mod FormLemmas
-pub mod LinesLemmas
 pub mod PlanLemmas
 pub mod SessionLemmas
 pub mod SoFarLemmas
 pub mod ProvingLemmas
 pub mod TrialLemmas
 pub mod TrialNotes
-pub mod WritingLemmas
 pub mod LeftLemmas
 pub mod AlikeLemmas
 pub mod FollowLemmas

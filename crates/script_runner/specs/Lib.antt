@@ -1,11 +1,8 @@
 pub mod Answers
 pub mod Leaves
-pub mod Lines
 pub mod Plans
 pub mod Scripts
 pub mod Sessions
-pub mod Writing
-pub mod Verdicts
 pub mod Trials
 pub mod Checks
 pub mod Certificates

@@ -16,8 +16,8 @@ use Rattle.planner_core.specs.declared.posing.Posed.TheVariants as posed
 use Rattle.certificate_file.specs.declared.CertEntry.{CertEntry}
 use Rattle.certificate_file.specs.declared.Claim.{Claim}
 use Rattle.script_runner.specs.Answers.{Reading, fault_code, is_refusal_reply}
-use Rattle.script_runner.specs.Verdicts.{IsVerdict, claim_at, is_proved, verdict_line}
-use Rattle.script_runner.specs.declared.verdict.Verdict.{Verdict}
+use Rattle.plan_verdicts.specs.Verdicts.{IsVerdict, claim_at, is_proved, verdict_line}
+use Rattle.plan_verdicts.specs.declared.verdict.Verdict.{Verdict}
 
 -- a line with its number, what it is read as, what is posed or replied, the verdict where a form is posed, and the planner before and
 -- after it

@@ -6,13 +6,12 @@ ghost use Rattle.planner_core.specs.Lines.{IsSessionOf};
 ghost use Rattle.script_runner.specs.Leaves.{Leaves};
 ghost use Rattle.script_runner.specs.Scripts.{EndsScript, is_cut};
 
-use crate::lines::line_count;
-use crate::output::write_all;
 use crate::report::answer_lines;
 use linear_table::SolveAnswer;
 use plan_base::Steps;
 use plan_io::Sink;
 use planner_core::Planner;
+use script_lines::{line_count, write_all};
 use std::alloc::Global;
 
 /// The most lines that a script may have.

@@ -2,7 +2,7 @@
 ghost use Rattle.std.specs.Prelude.{◌≡◌, IfOk, None, Some, find, option_map};
 ghost use Rattle.linear_table.specs.Plans.{IsWellFormed};
 ghost use Rattle.certificate_file.specs.declared.Claim.TheVariants.{Infeasible as NoPlan};
-ghost use Rattle.script_runner.specs.Verdicts.{claim_at, fault_word, is_of_line, is_proved, verdict_line, verdict_words, IsPlanVerdict, IsVerdict};
+ghost use Rattle.plan_verdicts.specs.Verdicts.{claim_at, fault_word, is_of_line, is_proved, verdict_line, verdict_words, IsPlanVerdict, IsVerdict};
 
 use certificate_file::{CertEntry, Claim};
 use fractions::Ratio;

@@ -2,7 +2,7 @@
 ghost use Rattle.std.specs.Prelude.{◌≡◌, ◌≤◌, OnOk, OnErr};
 ghost use Rattle.std.specs.Io.KnownBytes.{Appends};
 ghost use Rattle.plan_io.specs.Causes.{HasCause};
-ghost use Rattle.script_runner.specs.Writing.{AppendsFront};
+ghost use Rattle.script_lines.specs.Writing.{AppendsFront};
 
 use plan_io::{Failed, Sink};
 

@@ -10,8 +10,8 @@ use Rattle.plan_report.specs.Words.{printed_word}
 use Rattle.certificate_file.specs.declared.CertEntry.{CertEntry}
 use Rattle.certificate_file.specs.declared.Claim.{Claim}
 use Rattle.certificate_file.specs.declared.Claim.TheVariants as claims
-use Rattle.script_runner.specs.declared.verdict.Verdict.{Verdict}
-use Rattle.script_runner.specs.declared.verdict.Verdict.TheVariants.{ProvedPlan, ProvedInfeasible, Open, Rejected}
+use Rattle.plan_verdicts.specs.declared.verdict.Verdict.{Verdict}
+use Rattle.plan_verdicts.specs.declared.verdict.Verdict.TheVariants.{ProvedPlan, ProvedInfeasible, Open, Rejected}
 
 -- the claim about a line: that of the first entry of this line
 abbrev pub is_of_line : ℕ → CertEntry → Bool

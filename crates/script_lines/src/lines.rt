@@ -1,6 +1,6 @@
 //! The lines of a script.
 ghost use Rattle.std.specs.Prelude.{◌≡◌, ◌<◌, ◌∷◌, ◌==◌, length, position};
-ghost use Rattle.script_runner.specs.Lines.{cut_lines, lines_of, without_return};
+ghost use Rattle.script_lines.specs.Lines.{cut_lines, lines_of, without_return};
 
 fn newline_at(bytes: &[u8]) -> Option<usize>
     ensures { result ≡ position (λ byte. byte == 10) bytes.now }
