@@ -1,8 +1,8 @@
 -- Texts that are written piece by piece.
-use Rattle.std.proofs.Common.{◌≡◌, ◌∙◌, ◌<◌, ◌≤◌, ◌+◌, ◌++◌, ℕ, List, [], ◌∷◌, length, map, drop, get_or, refl, ap, ap₂, sym, arith, append_assoc, append-nil, drop-cons, add-one}
+use Rattle.std.proofs.Common.{◌≡◌, ◌∙◌, ◌<◌, ◌≤◌, ◌+◌, ◌++◌, ℕ, List, [], ◌∷◌, length, map, drop, get_or, refl, ap, sym, arith, append_assoc, append-nil, drop-cons, add-one}
 use Rattle.std.specs.List.{flat_map}
-use Rattle.std.proofs.lemmas.Grind.{common_steps, flat_map-append}
-use Rattle.node_report.specs.Layout.{Line, further_line, further_text, line_then, spaced}
+use Rattle.std.proofs.lemmas.Grind.{common_steps}
+use Rattle.node_report.specs.Layout.{line_then, spaced}
 
 -- what is written for each of a list, so far, with what is to come
 pub record TextSoFar {A B : Type 0} (write : B → List ℕ) (read : A → B) (xs : List A) (k : ℕ) (text : List ℕ) : Type 0 where
