@@ -7,9 +7,9 @@ ghost use Rattle.plan_verdicts.specs.Verdicts.{claim_at, fault_word, is_of_line,
 use certificate_file::{CertEntry, Claim};
 use fractions::Ratio;
 use linear_table::{Linear, Plan};
+use node_report::printed_word;
 use plan_base::{NoMemory, Text};
 use plan_certificate::{CheckFault, check_infeasible, check_plan, check_prices};
-use plan_report::printed_word;
 use std::alloc::Global;
 
 /// What a claim about a linear form comes to.
