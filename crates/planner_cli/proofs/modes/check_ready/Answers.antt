@@ -1,6 +1,6 @@
 use Rattle.std.proofs.Common.{◌-◌, ◌≤◌, ℕ, List, subst, sym}
 use Rattle.std.specs.Prelude.{Some}
-use Rattle.planning_state.specs.States.{first_state}
+use Rattle.state_changes.specs.States.{first_state}
 use Rattle.planner_core.specs.Lines.{IsSessionOf}
 use Rattle.planner_cli.specs.Ending.{IsReady}
 use Rattle.planner_cli.specs.Inputs.{IsScript}
