@@ -1,5 +1,5 @@
 //! What a script makes of the planner of a dump.
-ghost use Rattle.planning_state.specs.States.{State};
+ghost use Rattle.state_changes.specs.States.{State};
 ghost use Rattle.planner_core.specs.Lines.{IsSessionOf};
 
 use crate::saying::{Failure, Status};

@@ -1,5 +1,5 @@
 //! The graph of a table's plan behind the last line of a script.
-ghost use Rattle.planning_state.specs.States.{State};
+ghost use Rattle.state_changes.specs.States.{State};
 ghost use Rattle.planner_core.specs.Lines.{IsSessionOf};
 
 use crate::fault::PageFault;

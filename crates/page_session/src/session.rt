@@ -1,7 +1,7 @@
 //! The lines of a script, and the page of their replies.
 ghost use Rattle.std.specs.Prelude.{◌<◌, IfSome, length};
 ghost use Rattle.game_types.specs.Sound.{IsSound};
-ghost use Rattle.planning_state.specs.States.{State};
+ghost use Rattle.state_changes.specs.States.{State};
 ghost use Rattle.planner_core.specs.Lines.{IsSessionOf};
 ghost use Rattle.planner_tables.specs.Effects.{AreSoundTables, IsSoundOn};
 

@@ -12,7 +12,7 @@ use Rattle.certificate_file.specs.Said.{IsCertFault, IsCertificate}
 use Rattle.certificate_file.specs.declared.CertEntry.{CertEntry}
 use Rattle.certificate_file.specs.declared.CertFault.{CertFault}
 use Rattle.certificate_file.specs.declared.CertFault.TheVariants as of_cert
-use Rattle.planning_state.specs.States.{first_state}
+use Rattle.state_changes.specs.States.{first_state}
 use Rattle.planner_core.specs.Lines.{IsSessionOf, Planned, first_planned}
 use Rattle.script_runner.specs.Certificates.{EndsProof}
 use Rattle.script_lines.specs.Lines.{lines_of}

@@ -1,7 +1,7 @@
 // The answers to a script.
 ghost use Rattle.std.specs.Prelude.{◌≡◌, []};
 ghost use Rattle.game_types.specs.declared.games.Game.{Game};
-ghost use Rattle.planning_state.specs.States.{State};
+ghost use Rattle.state_changes.specs.States.{State};
 ghost use Rattle.planner_core.specs.Lines.{first_planned, IsSessionOf};
 ghost use Rattle.script_runner.specs.Leaves.{Leaves};
 ghost use Rattle.script_runner.specs.Scripts.{is_cut};

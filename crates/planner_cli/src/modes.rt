@@ -6,7 +6,7 @@ ghost use Rattle.run_inputs.specs.Begun.{BeginsFiles};
 ghost use Rattle.run_inputs.specs.Early.{is_cut};
 ghost use Rattle.game_types.specs.declared.games.Game.{Game};
 ghost use Rattle.plan_io.specs.Store.{Begun};
-ghost use Rattle.planning_state.specs.States.{State};
+ghost use Rattle.state_changes.specs.States.{State};
 ghost use Rattle.planner_core.specs.Lines.{first_planned, IsSessionOf};
 ghost use Rattle.planner_cli.specs.Ending.{EndsRun, answering};
 ghost use Rattle.run_inputs.specs.Ready.{IsReady};

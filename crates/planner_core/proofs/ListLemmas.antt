@@ -7,8 +7,8 @@ use Rattle.std.proofs.lemmas.List.{append_assoc, take_more}
 use Rattle.std.proofs.lemmas.Option.{get_or_from_slice_get, slice_get_within}
 use Rattle.plan_base.specs.declared.ids.NodeId.{NodeId}
 use Rattle.data_edit.specs.declared.books.Book.{Book}
-use Rattle.planning_state.specs.States.{State}
-use Rattle.planning_state.specs.Worlds.{is_reached, rank_of}
+use Rattle.state_changes.specs.States.{State}
+use Rattle.kept_worlds.specs.Worlds.{is_reached, rank_of}
 use Rattle.planner_core.specs.Replies.{bits_at, reached_from}
 
 pub taken-more : (all nodes more : List NodeId) (place : ℕ) (m : NodeId) → slice_get all place ≡ Some m → nodes ≡ take place all → more ≡ nodes ++ m ∷ [] → more ≡ take (place + 1) all

@@ -4,8 +4,8 @@ use Rattle.std.specs.List.{list_all}
 use Rattle.script_reader.specs.declared.change.Change.{Change}
 use Rattle.script_reader.specs.declared.command.Command.{Command}
 use Rattle.plan_report.specs.declared.reply.Reply.{Reply}
-use Rattle.planning_state.specs.Actions.{can_be_held}
-use Rattle.planning_state.specs.Effects.{is_entry}
+use Rattle.state_changes.specs.Actions.{can_be_held}
+use Rattle.state_changes.specs.Effects.{is_entry}
 use Rattle.planner_core.specs.Lines.{Held, IsFree, IsOpen, IsStep, IsStepIn, Planned, is_free}
 use Rattle.planning_state.proofs.WhyLemma.{whys}
 

@@ -1,7 +1,7 @@
 -- What a batch holds.
 use Rattle.std.specs.Prelude.{◌≡◌, ◌≤◌, List, Option, true, length}
 use Rattle.std.specs.List.{list_all}
-use Rattle.planning_state.specs.Actions.{can_be_held}
+use Rattle.state_changes.specs.Actions.{can_be_held}
 use Rattle.planner_core.specs.Lines.{Held, batch_changes}
 
 -- changes that can be held, at most 1,024

@@ -8,19 +8,19 @@ use Rattle.edit_undo.specs.Kept.{Kept, nothing, session_of, IsHistoryOf}
 use Rattle.script_reader.specs.declared.change.Change.{Change}
 use Rattle.script_reader.specs.declared.command.Command.{Command}
 use Rattle.script_reader.specs.declared.command.Command.TheVariants as command
-use Rattle.planning_state.specs.declared.refusals.Refusal.{Refusal}
+use Rattle.state_changes.specs.declared.refusals.Refusal.{Refusal}
 use Rattle.plan_report.specs.declared.reply.RefusalCode.{RefusalCode}
 use Rattle.plan_report.specs.declared.reply.RefusalCode.TheVariants as code
 use Rattle.plan_report.specs.declared.reply.Reply.{Reply}
 use Rattle.plan_report.specs.declared.reply.Reply.TheVariants as reply
 use Rattle.planner_tables.specs.Questions.{rate_reply, IsSolveReply}
-use Rattle.planning_state.specs.declared.undos.Undo.{Undo}
-use Rattle.planning_state.specs.Actions.{Outcome, can_be_held, node_named}
-use Rattle.planning_state.specs.States.{State, first_state}
-use Rattle.planning_state.specs.Effects.{effect_of, is_entry}
-use Rattle.planning_state.specs.Undoing.{LeadsBack}
-use Rattle.planning_state.specs.Work.{work_of}
-use Rattle.planning_state.specs.Worlds.{is_reached, rank_of}
+use Rattle.state_changes.specs.declared.undos.Undo.{Undo}
+use Rattle.state_changes.specs.Actions.{Outcome, can_be_held, node_named}
+use Rattle.state_changes.specs.States.{State, first_state}
+use Rattle.state_changes.specs.Effects.{effect_of, is_entry}
+use Rattle.state_changes.specs.Undoing.{LeadsBack}
+use Rattle.kept_worlds.specs.Work.{work_of}
+use Rattle.kept_worlds.specs.Worlds.{is_reached, rank_of}
 use Rattle.planner_core.specs.Replies.{AboutNode, IsWhyReply, done_reply, held_reply, list_reply, mask_reply, missing_reply, refused, refused_as, summary_reply}
 
 -- a change that is held in a batch, with its line

@@ -15,8 +15,8 @@ use Rattle.milestone_masks.specs.declared.worlds.MilestoneFault.{MilestoneFault}
 use Rattle.milestone_masks.specs.declared.worlds.MilestoneFault.TheVariants as of_milestone
 use Rattle.milestone_masks.specs.Why.{IsWhy}
 use Rattle.milestone_masks.specs.Worlds.{missing_in}
-use Rattle.planning_state.specs.declared.refusals.Refusal.{Refusal}
-use Rattle.planning_state.specs.declared.refusals.Refusal.TheVariants.{Unknown, OfEdit, OfMilestone, OfTables}
+use Rattle.state_changes.specs.declared.refusals.Refusal.{Refusal}
+use Rattle.state_changes.specs.declared.refusals.Refusal.TheVariants.{Unknown, OfEdit, OfMilestone, OfTables}
 use Rattle.planner_tables.specs.Refusals.{code_of as table_code, detail_of as table_detail}
 use Rattle.plan_report.specs.declared.reply.Detail.{Detail}
 use Rattle.plan_report.specs.declared.reply.Detail.TheVariants.{Bare, Word}
@@ -24,9 +24,9 @@ use Rattle.plan_report.specs.declared.reply.RefusalCode.{RefusalCode}
 use Rattle.plan_report.specs.declared.reply.RefusalCode.TheVariants as code
 use Rattle.plan_report.specs.declared.reply.Reply.{Reply}
 use Rattle.plan_report.specs.declared.reply.Reply.TheVariants as reply
-use Rattle.planning_state.specs.Actions.{Outcome}
-use Rattle.planning_state.specs.States.{State}
-use Rattle.planning_state.specs.Worlds.{is_reached, mask_in, rank_of, ranks_in, world_of}
+use Rattle.state_changes.specs.Actions.{Outcome}
+use Rattle.state_changes.specs.States.{State}
+use Rattle.kept_worlds.specs.Worlds.{is_reached, mask_in, rank_of, ranks_in, world_of}
 
 -- ---- refusals
 -- want of memory is no refusal, and its code here is never told

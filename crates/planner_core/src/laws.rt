@@ -4,8 +4,8 @@ ghost use Rattle.edit_undo.specs.Edits.{apply_edits};
 ghost use Rattle.edit_undo.specs.Kept.{session_of};
 ghost use Rattle.edit_undo.specs.Session.{active_edits};
 ghost use Rattle.game_types.specs.declared.games.Game.{Game};
-ghost use Rattle.planning_state.specs.Effects.{effect_of};
-ghost use Rattle.planning_state.specs.States.{first_state, State};
+ghost use Rattle.state_changes.specs.Effects.{effect_of};
+ghost use Rattle.state_changes.specs.States.{first_state, State};
 ghost use Rattle.planner_core.specs.Lines.{first_planned, IsSessionOf, Planned};
 
 /// A planner that was just loaded grew from its game with no marks. As each step keeps what a planner grew from, its state

@@ -13,13 +13,13 @@ use Rattle.depend_rows.specs.Rows.{rows_of}
 use Rattle.script_reader.specs.declared.change.Object.{Object}
 use Rattle.script_reader.specs.declared.change.Change.{Change}
 use Rattle.script_reader.specs.declared.change.Change.TheVariants.{Grant, Revoke, Forbid, Permit, Milestone, Unmilestone, Ingredient, Product, Unlock, Time, Enabled, Table, Untable, Row, Unrow, Price, Want, Import, Surplus, Power}
-use Rattle.planning_state.specs.declared.undos.Undo.{Undo}
-use Rattle.planning_state.specs.declared.undos.Undo.TheVariants.{Taken}
-use Rattle.planning_state.specs.Actions.{Outcome, can_be_held, node_named}
-use Rattle.planning_state.specs.States.{State, state_of, AreSoundMilestones}
-use Rattle.planning_state.specs.Undoing.{Fits, FitsTaken, LeadsBack, taken_back}
-use Rattle.planning_state.specs.Work.{milestone_named, work_by, work_of, work_of_book, work_of_milestone}
-use Rattle.planning_state.specs.Worlds.{ranks_in, world_of}
+use Rattle.state_changes.specs.declared.undos.Undo.{Undo}
+use Rattle.state_changes.specs.declared.undos.Undo.TheVariants.{Taken}
+use Rattle.state_changes.specs.Actions.{Outcome, can_be_held, node_named}
+use Rattle.state_changes.specs.States.{State, state_of, AreSoundMilestones}
+use Rattle.state_changes.specs.Undoing.{Fits, FitsTaken, LeadsBack, taken_back}
+use Rattle.kept_worlds.specs.Work.{milestone_named, work_by, work_of, work_of_book, work_of_milestone}
+use Rattle.kept_worlds.specs.Worlds.{ranks_in, world_of}
 
 -- ---- the work of an entry
 pub work-add : (s own t : State) (changes : List Change) (object : Object) → own ≡ s → changes ≡ Milestone object ∷ [] → work_of_milestone (node_named own.book.game object) own t ≡ work_of s changes t

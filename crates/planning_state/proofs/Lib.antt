@@ -1,10 +1,3 @@
-pub mod Kept
-pub mod NameLemmas
-pub mod Changing
-pub mod FaultLemmas
-pub mod MilestoneLemmas
-pub mod SettleLemmas
-pub mod HeldLemmas
 pub mod EntryLemmas
 pub mod BelowLemmas
 pub mod QuestionLemmas

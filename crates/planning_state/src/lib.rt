@@ -2,19 +2,9 @@
 //! beside it, which answer questions about it.
 #![tactic(auto)]
 
-mod changes;
-mod entries;
-mod held;
 mod laws;
-mod milestones;
-mod names;
 mod planning;
-mod refusals;
-mod settling;
-mod undos;
 
-pub use entries::can_be_held;
 pub use laws::tables_take_no_step;
-pub use planning::Planning;
-pub use refusals::{ChangeFault, LoadFault, Refusal};
-pub use undos::Undo;
+pub use planning::{LoadFault, Planning};
+pub use state_changes::{ChangeFault, Refusal, Undo, can_be_held};

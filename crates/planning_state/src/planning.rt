@@ -10,33 +10,42 @@ ghost use Rattle.depend_rows.specs.Rows.{rows_of};
 ghost use Rattle.depend_rows.specs.declared.rows.TheConstants.{MEMBER_LIMIT};
 ghost use Rattle.milestone_masks.specs.Why.{IsWhy};
 ghost use Rattle.milestone_masks.specs.Worlds.{missing_in, AreWorlds};
-ghost use Rattle.planning_state.specs.Actions.{node_named, Gives};
-ghost use Rattle.planning_state.specs.Worlds.{is_reached, mask_in, rank_of, ranks_in, world_of};
+ghost use Rattle.state_changes.specs.Actions.{node_named, Gives};
+ghost use Rattle.kept_worlds.specs.Worlds.{is_reached, mask_in, rank_of, ranks_in, world_of};
 ghost use Rattle.planner_tables.specs.Effects.{AreSoundTables};
-ghost use Rattle.planning_state.specs.States.{first_state, state_of, State};
-ghost use Rattle.planning_state.specs.Effects.{effect_of, is_entry};
-ghost use Rattle.planning_state.specs.Undoing.{LeadsBack};
-ghost use Rattle.planning_state.specs.Work.{work_of};
+ghost use Rattle.state_changes.specs.States.{first_state, state_of, State};
+ghost use Rattle.state_changes.specs.Effects.{effect_of, is_entry};
+ghost use Rattle.state_changes.specs.Undoing.{LeadsBack};
+ghost use Rattle.kept_worlds.specs.Work.{work_of};
 
-use crate::entries::{Back, Entry, back_of, entry_of};
-use crate::held::{apply_held, restore_held};
-use crate::milestones::{add_milestone, drop_milestone, put_milestone, take_milestone};
-use crate::names::{node_named, nodes_of};
-use crate::refusals::{ChangeFault, LoadFault, Refusal};
-use crate::undos::Undo;
 use data_edit::Book;
 use depend_index::Index;
 use depend_rows::{RowsFault, rows_within};
 use edit_undo::{Editable, EntryFault};
 use game_types::Game;
 use graph_store::{Graph, Group, Rows};
+use kept_worlds::{
+    add_milestone, apply_held, drop_milestone, put_milestone, restore_held, take_milestone,
+};
 use milestone_masks::Worlds;
 use plan_base::{Kind, NoMemory, NodeId, Steps};
 use production_table::Table;
 use reach_ranks::ranks_afresh;
 use script_reader::{Change, Object};
+use state_changes::{
+    Back, ChangeFault, Entry, Refusal, Undo, back_of, entry_of, node_named, nodes_of,
+};
 use std::alloc::Global;
 use std::marker::Model;
+
+/// Why there is no planner.
+#[derive(Clone, Copy, Debug, PartialEq, Eq)]
+pub enum LoadFault {
+    /// The dependency rows of the game have more than 4,194,304 members.
+    Members,
+    /// Memory could not be had.
+    NoMemory,
+}
 
 /// A planning state. It is seen as its book, its milestones and its tables; the rows of the game, the index that they are
 /// put together from and the ranks of every world, which these determine, are kept beside them.
@@ -51,9 +60,9 @@ pub struct Planning {
 }
 
 impl Model for Planning {
-    ghost use Rattle.planning_state.specs.States.{State, state_of};
+    ghost use Rattle.state_changes.specs.States.{State, state_of};
     ghost use Rattle.milestone_masks.specs.Worlds.{milestones_of};
-    ghost use Rattle.planning_state.specs.Worlds.{IsKept};
+    ghost use Rattle.kept_worlds.specs.Worlds.{IsKept};
     ghost use Rattle.planner_tables.specs.Effects.{AreSoundTables};
     ghost use Rattle.depend_index.specs.Indexed.{IsIndex};
 

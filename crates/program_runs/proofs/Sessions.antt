@@ -1,7 +1,7 @@
 -- Planners that have a history.
 use Rattle.std.proofs.Common.{◌≡◌, sym, subst}
 use Rattle.game_types.specs.declared.games.Game.{Game}
-use Rattle.planning_state.specs.States.{State, first_state}
+use Rattle.state_changes.specs.States.{State, first_state}
 use Rattle.planner_core.specs.Lines.{IsSessionOf, Planned, first_planned}
 
 -- one that was just loaded has

@@ -1,6 +1,6 @@
 //! The planner of a dump, and what it answers.
 ghost use Rattle.std.specs.Prelude.{IfOk};
-ghost use Rattle.planning_state.specs.States.{State};
+ghost use Rattle.state_changes.specs.States.{State};
 ghost use Rattle.planner_core.specs.Lines.{IsSessionOf};
 
 use crate::ends::Names;

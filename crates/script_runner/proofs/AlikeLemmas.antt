@@ -9,8 +9,8 @@ use Rattle.script_reader.specs.declared.change.Change.{Change}
 use Rattle.script_reader.specs.declared.command.Command.{Command}
 use Rattle.script_reader.specs.declared.command.Command.TheVariants as command
 use Rattle.plan_report.specs.declared.reply.Reply.{Reply}
-use Rattle.planning_state.specs.Effects.{effect_of}
-use Rattle.planning_state.specs.States.{State}
+use Rattle.state_changes.specs.Effects.{effect_of}
+use Rattle.state_changes.specs.States.{State}
 use Rattle.planner_core.specs.Lines.{Held, IsSessionOf, IsStep, IsStepIn, Planned, planned}
 use Rattle.planner_core.specs.Posing.{form_asked, form_in}
 use Rattle.script_runner.specs.Alike.{AreAlike}

@@ -4,7 +4,7 @@ use Rattle.std.specs.Prelude.{Option}
 use Rattle.linear_table.specs.declared.SolveAnswer.{SolveAnswer}
 use Rattle.plan_report.specs.declared.Reply.{Reply}
 use Rattle.plan_report.specs.Replies.{printed_reply}
-use Rattle.planning_state.specs.States.{State}
+use Rattle.state_changes.specs.States.{State}
 use Rattle.planner_core.specs.Lines.{IsSessionOf, Planned}
 use Rattle.script_reader.specs.Lines.{command_of_line}
 use Rattle.script_runner.specs.Answers.{AnswersLine, IsReply, Reading, is_refusal_reply, reading_work, solved_in}

@@ -5,7 +5,7 @@ use Rattle.std.specs.List.{range_with_len}
 use Rattle.script_reader.specs.Lines.{command_of_line}
 use Rattle.script_reader.proofs.One.{one_line}
 use Rattle.plan_report.specs.declared.reply.Reply.{Reply}
-use Rattle.planning_state.specs.States.{State}
+use Rattle.state_changes.specs.States.{State}
 use Rattle.planner_core.specs.Lines.{IsSessionOf, Planned}
 use Rattle.script_runner.specs.Alike.{AreAlike}
 use Rattle.script_runner.specs.Answers.{Answered, IsAnswered, IsReply, Reading}

@@ -26,11 +26,11 @@ use Rattle.plan_report.specs.declared.reply.Reply.{Reply}
 use Rattle.planner_tables.specs.Effects.{named, table_at, table_named}
 use Rattle.planner_tables.specs.Questions.{IsSolveReply, IsSolveReplyAt, IsSolved, IsSolvedWhere, answered, linear_named, linear_outcome, rate_outcome, rate_reply, rates_outcome, row_rates_outcome, solved}
 use Rattle.planner_tables.specs.Refusals as tables
-use Rattle.planning_state.specs.Actions.{Outcome, can_be_held, node_named}
-use Rattle.planning_state.specs.Effects.{effect_of}
-use Rattle.planning_state.specs.States.{State}
-use Rattle.planning_state.specs.declared.refusals.Refusal.{Refusal}
-use Rattle.planning_state.specs.declared.undos.Undo.{Undo}
+use Rattle.state_changes.specs.Actions.{Outcome, can_be_held, node_named}
+use Rattle.state_changes.specs.Effects.{effect_of}
+use Rattle.state_changes.specs.States.{State}
+use Rattle.state_changes.specs.declared.refusals.Refusal.{Refusal}
+use Rattle.state_changes.specs.declared.undos.Undo.{Undo}
 use Rattle.planner_core.specs.Lines.{Ends, Held, Holds, HoldsChange, IsFree, IsOpen, IsStep, IsStepIn, Moves, Planned, Tries, changes_of, planned}
 use Rattle.planner_core.specs.Posing.{form_asked, form_in, form_of}
 use Rattle.planner_core.specs.Replies.{AboutNode, IsWhyReply, done_reply, held_reply, mask_reply, missing_reply, refused_as}

@@ -19,7 +19,7 @@ use Rattle.script_reader.specs.declared.command.Command.{Command}
 use Rattle.script_reader.proofs.One.{one_line}
 use Rattle.plan_report.specs.declared.reply.Reply.{Reply}
 use Rattle.plan_report.specs.declared.reply.Reply.TheVariants as reply
-use Rattle.planning_state.specs.States.{State}
+use Rattle.state_changes.specs.States.{State}
 use Rattle.planner_core.specs.Lines.{IsSessionOf, IsStep, Planned}
 use Rattle.planner_core.specs.Posing.{IsPosed, IsPosedWhere, form_asked}
 use Rattle.planner_core.specs.declared.posing.Posed.{Posed}

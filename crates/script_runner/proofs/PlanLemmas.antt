@@ -15,7 +15,7 @@ use Rattle.planner_tables.specs.declared.refusals.TableRefusal.{TableRefusal}
 use Rattle.planner_tables.specs.Effects.{table_at, table_named}
 use Rattle.planner_tables.specs.Questions.{linear_outcome, IsSolveReply, IsSolveReplyAt, IsSolvedWhere}
 use Rattle.planner_tables.specs.Refusals.{Outcome, caused, refused}
-use Rattle.planning_state.specs.States.{State}
+use Rattle.state_changes.specs.States.{State}
 use Rattle.planner_core.specs.Lines.{Held, IsStep, IsStepIn, Planned as AnyPlanned, is_refused}
 use Rattle.script_runner.specs.Answers.{Answered, IsAnswered, IsReply}
 use Rattle.script_runner.specs.Plans.{Shows, SolvesRightly, TellsOfTable}

@@ -11,9 +11,9 @@ use Rattle.edit_undo.specs.Edits.{apply_edits}
 use Rattle.edit_undo.specs.Kept.{session_of}
 use Rattle.edit_undo.specs.Session.{active_edits}
 use Rattle.edit_undo.proofs.Moves.{history_active}
-use Rattle.planning_state.specs.Effects.{effect_of, is_entry}
-use Rattle.planning_state.specs.States.{State}
-use Rattle.planning_state.specs.Undoing.{LeadsBack}
+use Rattle.state_changes.specs.Effects.{effect_of, is_entry}
+use Rattle.state_changes.specs.States.{State}
+use Rattle.state_changes.specs.Undoing.{LeadsBack}
 use Rattle.planner_core.specs.Lines.{IsSessionOf, Planned}
 use Rattle.script_runner.specs.Answers.{Answered, IsAnswered, is_refusal, solved_in, text_of, work_of}
 use Rattle.script_runner.specs.Sessions.{IsSession, report, solutions, some_refused, work}

@@ -6,7 +6,7 @@ use Rattle.linear_table.specs.declared.Linear.{Linear}
 use Rattle.game_types.specs.declared.games.Game.{Game}
 use Rattle.plan_report.specs.declared.Reply.{Reply}
 use Rattle.plan_report.specs.Replies.{printed_reply}
-use Rattle.planning_state.specs.States.{State}
+use Rattle.state_changes.specs.States.{State}
 use Rattle.planner_core.specs.Lines.{IsSessionOf, Planned}
 use Rattle.planner_core.specs.declared.posing.Posed.{Posed}
 use Rattle.planner_core.specs.declared.posing.Posed.TheVariants as posed

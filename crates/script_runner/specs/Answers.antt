@@ -11,7 +11,7 @@ use Rattle.plan_report.specs.declared.Reply.TheVariants as reply
 use Rattle.plan_report.specs.Replies.{printed_reply}
 use Rattle.linear_table.specs.declared.SolveAnswer.{SolveAnswer}
 use Rattle.linear_table.specs.declared.SolveAnswer.TheVariants.{TooWide, OutOfBudget}
-use Rattle.planning_state.specs.States.{State}
+use Rattle.state_changes.specs.States.{State}
 use Rattle.planner_core.specs.Lines.{Planned, IsSessionOf, IsStep, line_work}
 use Rattle.planner_core.specs.Replies.{refused_as}
 

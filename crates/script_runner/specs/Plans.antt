@@ -12,7 +12,7 @@ use Rattle.script_reader.specs.declared.command.Command.TheVariants as command
 use Rattle.plan_report.specs.declared.reply.Reply.{Reply}
 use Rattle.planner_tables.specs.Effects.{table_at, table_named}
 use Rattle.planner_tables.specs.Questions.{solved}
-use Rattle.planning_state.specs.States.{State}
+use Rattle.state_changes.specs.States.{State}
 use Rattle.planner_core.specs.Lines.{is_refused}
 use Rattle.script_runner.specs.Answers.{Answered}
 

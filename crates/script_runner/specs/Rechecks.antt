@@ -3,7 +3,7 @@ use Rattle.std.specs.Prelude.{◌≡◌, ◌+◌, ℕ, Bool, true, false, List, 
 use Rattle.linear_table.specs.declared.SolveAnswer.{SolveAnswer}
 use Rattle.plan_certificate.specs.declared.CheckFault.{CheckFault}
 use Rattle.plan_certificate.specs.declared.CheckFault.TheVariants as check
-use Rattle.planning_state.specs.States.{State}
+use Rattle.state_changes.specs.States.{State}
 use Rattle.planner_core.specs.Lines.{IsSessionOf, Planned}
 use Rattle.certificate_file.specs.Said.{IsCertificate}
 use Rattle.certificate_file.specs.declared.CertEntry.{CertEntry}

@@ -7,7 +7,7 @@ use Rattle.script_reader.specs.Lines.{command_of_line}
 use Rattle.script_reader.specs.declared.command.Command.TheVariants as command
 use Rattle.plan_report.specs.declared.Reply.TheVariants as reply
 use Rattle.plan_report.specs.Replies.{printed_reply}
-use Rattle.planning_state.specs.States.{State}
+use Rattle.state_changes.specs.States.{State}
 use Rattle.planner_core.specs.Lines.{IsSessionOf, Planned}
 use Rattle.planner_core.specs.Posing.{IsPosed, posed_work}
 use Rattle.planner_core.specs.Replies.{refused_as}

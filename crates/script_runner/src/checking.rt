@@ -1,7 +1,7 @@
 //! The lines of a script, checked against claims.
 ghost use Rattle.std.specs.Prelude.{◌≡◌, ◌≤◌, ◌<◌, false, true, if◌then◌else◌, length};
 ghost use Rattle.plan_io.specs.Causes.{Rose};
-ghost use Rattle.planning_state.specs.States.{State};
+ghost use Rattle.state_changes.specs.States.{State};
 ghost use Rattle.planner_core.specs.Lines.{IsSessionOf};
 ghost use Rattle.script_runner.specs.Checks.{EndsCheck};
 ghost use Rattle.script_runner.specs.Leaves.{Leaves};

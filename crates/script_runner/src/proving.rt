@@ -3,7 +3,7 @@ ghost use Rattle.std.specs.Prelude.{◌≡◌, ◌≤◌, ◌<◌, ◌++◌, ◌
 ghost use Rattle.std.specs.Io.KnownBytes.{Appends};
 ghost use Rattle.plan_io.specs.Causes.{HasCause, Rose};
 ghost use Rattle.script_lines.specs.Writing.{AppendsFront};
-ghost use Rattle.planning_state.specs.States.{State};
+ghost use Rattle.state_changes.specs.States.{State};
 ghost use Rattle.planner_core.specs.Lines.{IsSessionOf};
 ghost use Rattle.script_runner.specs.Certificates.{claim_of, end_of, EndsProof, entry_for, IsEntered, IsEnteredInPart};
 ghost use Rattle.script_runner.specs.Leaves.{Leaves};

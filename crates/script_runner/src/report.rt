@@ -1,7 +1,7 @@
 //! The replies to the lines of a script.
 ghost use Rattle.std.specs.Prelude.{◌≡◌, ◌≤◌, [], length};
 ghost use Rattle.plan_io.specs.Causes.{Rose};
-ghost use Rattle.planning_state.specs.States.{State};
+ghost use Rattle.state_changes.specs.States.{State};
 ghost use Rattle.planner_core.specs.Lines.{IsSessionOf};
 ghost use Rattle.script_runner.specs.Leaves.{Leaves};
 ghost use Rattle.script_lines.specs.Lines.{lines_of};

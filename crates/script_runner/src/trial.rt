@@ -1,6 +1,6 @@
 //! One line, judged by claims.
 ghost use Rattle.std.specs.Prelude.{◌≡◌, ◌≤◌, ◌+◌, IfOk, None, Some};
-ghost use Rattle.planning_state.specs.States.{State};
+ghost use Rattle.state_changes.specs.States.{State};
 ghost use Rattle.planner_core.specs.Lines.{IsSessionOf};
 ghost use Rattle.planner_core.specs.Posing.{IsFormed};
 ghost use Rattle.game_types.specs.declared.games.Game.{Game};

@@ -1,4 +1,4 @@
-use Rattle.planning_state.specs.States.{State}
+use Rattle.state_changes.specs.States.{State}
 use Rattle.planner_core.specs.Lines.{IsSessionOf}
 use Rattle.factoplan_table.proofs.planning.reached_nodes.Given as goal
 

@@ -1,5 +1,5 @@
 use Rattle.std.proofs.Common.{◌≤◌, length}
-use Rattle.planning_state.specs.States.{State}
+use Rattle.state_changes.specs.States.{State}
 use Rattle.planner_core.specs.Lines.{IsSessionOf}
 use Rattle.page_session.proofs.session.add_lines.Given as goal
 

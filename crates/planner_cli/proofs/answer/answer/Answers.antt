@@ -1,5 +1,5 @@
 use Rattle.std.proofs.Common.{subst, sym}
-use Rattle.planning_state.specs.States.{first_state}
+use Rattle.state_changes.specs.States.{first_state}
 use Rattle.planner_core.specs.Lines.{IsSessionOf}
 use Rattle.planner_cli.proofs.answer.answer.Goals as goal
 

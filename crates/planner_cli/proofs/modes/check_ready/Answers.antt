@@ -1,6 +1,6 @@
 use Rattle.std.proofs.Common.{◌-◌, ◌≤◌, ℕ, List, subst, sym}
 use Rattle.std.specs.Prelude.{Some}
-use Rattle.planning_state.specs.States.{first_state}
+use Rattle.state_changes.specs.States.{first_state}
 use Rattle.planner_core.specs.Lines.{IsSessionOf}
 use Rattle.run_inputs.specs.Ready.{IsReady}
 use Rattle.run_inputs.specs.Inputs.{IsScript}

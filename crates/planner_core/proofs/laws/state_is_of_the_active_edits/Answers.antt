@@ -1,7 +1,7 @@
 use Rattle.edit_undo.proofs.Moves.{history_first, history_active, history_same}
-use Rattle.planning_state.specs.Effects.{effect_of, is_entry}
-use Rattle.planning_state.specs.States.{first_state}
-use Rattle.planning_state.specs.Undoing.{LeadsBack}
+use Rattle.state_changes.specs.Effects.{effect_of, is_entry}
+use Rattle.state_changes.specs.States.{first_state}
+use Rattle.state_changes.specs.Undoing.{LeadsBack}
 use Rattle.planner_core.proofs.laws.state_is_of_the_active_edits.Goals as goal
 
 pub returns-clause-first : goal.returns-clause-first

@@ -2,8 +2,8 @@ use Rattle.std.proofs.Common.{◌≤◌, ◌+◌, ℕ, IfErr, List, OnOk, subst,
 use Rattle.edit_undo.specs.Edits.{apply_edits, IsFaultOf}
 use Rattle.script_reader.specs.declared.change.Change.{Change}
 use Rattle.milestone_masks.specs.Worlds.{milestones_of}
-use Rattle.planning_state.specs.States.{State, state_of}
-use Rattle.planning_state.specs.Effects.{effect_of}
+use Rattle.state_changes.specs.States.{State, state_of}
+use Rattle.state_changes.specs.Effects.{effect_of}
 use Rattle.planning_state.proofs.EntryLemmas.{work-add, work-book}
 use Rattle.planning_state.proofs.planning.PlanningEditable.apply_all.Goals as goal
 

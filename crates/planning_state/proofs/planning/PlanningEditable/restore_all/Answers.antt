@@ -2,10 +2,10 @@ use Rattle.std.proofs.Common.{◌<◌, ◌≤◌, ◌+◌, ℕ, OnOk, sym, subst
 use Rattle.plan_base.specs.Shape.{node_count}
 use Rattle.game_types.specs.Nodes.{shape_of}
 use Rattle.std.specs.Prelude.{insert}
-use Rattle.planning_state.specs.States.{State, AreSoundMilestones}
-use Rattle.planning_state.specs.Undoing.{FitsTaken}
-use Rattle.planning_state.specs.Books.{TakesBack}
-use Rattle.planning_state.proofs.HeldLemmas.{held-changes, takes-back}
+use Rattle.state_changes.specs.States.{State, AreSoundMilestones}
+use Rattle.state_changes.specs.Undoing.{FitsTaken}
+use Rattle.kept_worlds.specs.Books.{TakesBack}
+use Rattle.kept_worlds.proofs.HeldLemmas.{held-changes, takes-back}
 use Rattle.planning_state.proofs.EntryLemmas.{fits-put, put-sound, put-within, work-book, work-put}
 use Rattle.planning_state.proofs.planning.PlanningEditable.restore_all.Goals as goal
 

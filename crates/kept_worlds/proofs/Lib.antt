@@ -1,0 +1,4 @@
+pub mod Kept
+pub mod MilestoneLemmas
+pub mod SettleLemmas
+pub mod HeldLemmas

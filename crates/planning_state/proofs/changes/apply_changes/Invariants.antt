@@ -1,5 +1,0 @@
-use Rattle.planning_state.proofs.Changing.{SoFar}
-use Rattle.planning_state.proofs.changes.apply_changes.Given as goal
-
-abbrev pub invariant-loop-i : goal.invariant-loop-i
-invariant-loop-i l = SoFar l.fn.book l.fn.tables.items l.changes l.i l.edits.items l.undos.items l.book l.tables.items

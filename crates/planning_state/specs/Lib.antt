@@ -1,9 +1,0 @@
-pub mod Actions
-pub mod States
-pub mod Effects
-pub mod Undoing
-pub mod Worlds
-pub mod Work
-pub mod Books
-pub mod Entries
-pub mod Faults
