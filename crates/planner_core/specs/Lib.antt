@@ -1,4 +1,3 @@
-pub mod Replies
 pub mod Lines
 pub mod Batches
 pub mod Posing

@@ -21,7 +21,7 @@ use Rattle.state_changes.specs.Effects.{effect_of, is_entry}
 use Rattle.state_changes.specs.Undoing.{LeadsBack}
 use Rattle.kept_worlds.specs.Work.{work_of}
 use Rattle.kept_worlds.specs.Worlds.{is_reached, rank_of}
-use Rattle.planner_core.specs.Replies.{AboutNode, IsWhyReply, done_reply, held_reply, list_reply, mask_reply, missing_reply, refused, refused_as, summary_reply}
+use Rattle.planner_replies.specs.Replies.{AboutNode, IsWhyReply, done_reply, held_reply, list_reply, mask_reply, missing_reply, refused, refused_as, reply_work, summary_reply}
 
 -- a change that is held in a batch, with its line
 abbrev pub Held : Type 0
@@ -140,11 +140,6 @@ unfoldable pub IsStep : ℕ → Planned → Command → Planned → Reply → Ty
 IsStep line p asked r answer = IsStepIn line p.batch p asked r answer
 
 -- ---- the work of a line
-abbrev pub reply_work : Reply → ℕ
-reply_work (reply.Why node nodes) = length nodes + 2
-reply_work (reply.Missing node reached forbidden groups) = 1
-reply_work other = 0
-
 -- what an accepted entry takes, forth and back; a refused line takes nothing
 abbrev pub entry_work : Bool → State → List Change → State → ℕ
 entry_work true before edits after = 0

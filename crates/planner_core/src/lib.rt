@@ -5,7 +5,6 @@
 mod laws;
 mod planner;
 mod posing;
-mod questions;
 
 pub use laws::state_is_of_the_active_edits;
 pub use planner::{BATCH_LIMIT, Planner};

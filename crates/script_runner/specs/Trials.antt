@@ -10,7 +10,7 @@ use Rattle.plan_report.specs.Replies.{printed_reply}
 use Rattle.state_changes.specs.States.{State}
 use Rattle.planner_core.specs.Lines.{IsSessionOf, Planned}
 use Rattle.planner_core.specs.Posing.{IsPosed, posed_work}
-use Rattle.planner_core.specs.Replies.{refused_as}
+use Rattle.planner_replies.specs.Replies.{refused_as}
 use Rattle.planner_core.specs.declared.posing.Posed.{Posed}
 use Rattle.planner_core.specs.declared.posing.Posed.TheVariants as posed
 use Rattle.certificate_file.specs.declared.CertEntry.{CertEntry}

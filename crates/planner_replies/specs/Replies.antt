@@ -1,5 +1,5 @@
 -- What lines are answered, by the planning state alone.
-use Rattle.std.specs.Prelude.{◌≡◌, ℕ, Bool, true, false, List, [], Option, None, Some, Ok, Err, filter, if◌then◌else◌, length, map, slice_get, slice_index_or, sum_by}
+use Rattle.std.specs.Prelude.{◌≡◌, ◌+◌, ℕ, Bool, true, false, List, [], Option, None, Some, Ok, Err, filter, if◌then◌else◌, length, map, slice_get, slice_index_or, sum_by}
 use Rattle.std.specs.List.{range_with_len}
 use Rattle.plan_base.specs.Shape.{count_of, first_of, node_count}
 use Rattle.plan_base.specs.declared.ids.NodeId.{NodeId}
@@ -118,3 +118,9 @@ summary_reply s done undone = reply.Summary (reached_count s.book) (node_count (
 abbrev pub AboutNode : Game → Outcome NodeId → (NodeId → Reply → Type 0) → Reply → Type 0
 AboutNode g (Ok node) ask r = ask node r
 AboutNode g (Err refusal) ask r = r ≡ refused g refusal None
+
+-- ---- the steps that an answer takes
+abbrev pub reply_work : Reply → ℕ
+reply_work (reply.Why node nodes) = length nodes + 2
+reply_work (reply.Missing node reached forbidden groups) = 1
+reply_work other = 0

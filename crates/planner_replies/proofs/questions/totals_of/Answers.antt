@@ -1,6 +1,6 @@
 use Rattle.std.proofs.Common.{arith}
-use Rattle.planner_core.proofs.ListLemmas.{totalled-more}
-use Rattle.planner_core.proofs.questions.totals_of.Goals as goal
+use Rattle.planner_replies.proofs.ListLemmas.{totalled-more}
+use Rattle.planner_replies.proofs.questions.totals_of.Goals as goal
 
 pub loop-n-preserved : goal.loop-n-preserved
 loop-n-preserved c =

@@ -9,7 +9,7 @@ use Rattle.plan_base.specs.declared.ids.NodeId.{NodeId}
 use Rattle.data_edit.specs.declared.books.Book.{Book}
 use Rattle.state_changes.specs.States.{State}
 use Rattle.kept_worlds.specs.Worlds.{is_reached, rank_of}
-use Rattle.planner_core.specs.Replies.{bits_at, reached_from}
+use Rattle.planner_replies.specs.Replies.{bits_at, reached_from}
 
 pub taken-more : (all nodes more : List NodeId) (place : ℕ) (m : NodeId) → slice_get all place ≡ Some m → nodes ≡ take place all → more ≡ nodes ++ m ∷ [] → more ≡ take (place + 1) all
 taken-more all nodes more place m found e f =

@@ -1,4 +1,4 @@
-//! Replies to questions, which leave all as it is.
+// Replies to questions, which leave all as it is.
 ghost use Rattle.std.specs.Prelude.{◌≡◌, ℕ, ◌+◌, ◌*◌, ◌^◌, ◌<◌, ◌-◌, ◌≤◌, ◌++◌, ◌∷◌, [], All, List, None, Some, IfOk, OnOk, if◌then◌else◌, length, map};
 ghost use Rattle.plan_base.specs.Shape.{count_of, first_of, node_count};
 ghost use Rattle.game_types.specs.Nodes.{shape_of};
@@ -6,11 +6,10 @@ ghost use Rattle.plan_report.specs.declared.reply.Reply.TheVariants as reply;
 ghost use Rattle.plan_report.specs.declared.reply.Detail.TheVariants.{Bare};
 ghost use Rattle.state_changes.specs.declared.refusals.Refusal.{Refusal as RefusalOf};
 ghost use Rattle.state_changes.specs.Actions.{node_named};
-ghost use Rattle.planner_core.specs.Replies.{edit_code, mask_reply, milestone_code, missing_lines, list_reply, missing_reply, reached_count, reached_from, bits_at, bits_of, refused, refused_as, summary_reply, why_line, AboutNode, IsWhyReply};
+ghost use Rattle.planner_replies.specs.Replies.{edit_code, mask_reply, milestone_code, missing_lines, list_reply, missing_reply, reached_count, reached_from, bits_at, bits_of, refused, refused_as, summary_reply, why_line, AboutNode, IsWhyReply, reply_work};
 ghost use Rattle.kept_worlds.specs.Worlds.{is_reached, rank_of};
 ghost use Rattle.game_types.specs.Sound.{IsSound};
 ghost use Rattle.planner_tables.specs.Questions.{rate_reply, IsSolveReply};
-ghost use Rattle.planner_core.specs.Lines.{reply_work};
 
 use data_edit::EditFault;
 use game_types::Game;
@@ -46,7 +45,7 @@ fn milestone_code(fault: MilestoneFault) -> RefusalCode
 }
 
 /// A refusal without details.
-pub(crate) fn refused_as(code: RefusalCode) -> Reply
+pub fn refused_as(code: RefusalCode) -> Reply
     ensures { result ≡ refused_as code }
 {
     Reply::Refused {
@@ -68,7 +67,7 @@ fn bare(code: RefusalCode, at: Option<u32>) -> Reply
 }
 
 /// A refusal, with the name that nothing has, or what tables tell.
-pub(crate) fn refused(game: &Game, refusal: Refusal, at: Option<u32>) -> Reply
+pub fn refused(game: &Game, refusal: Refusal, at: Option<u32>) -> Reply
     requires { IsSound game.now }
     ensures { result ≡ refused game.now refusal at }
 {
@@ -102,11 +101,11 @@ fn not_found(game: &Game, fault: ChangeFault) -> Result<Reply, NoMemory>
 }
 
 /// The round that reaches a node.
-pub(crate) fn reach_reply(
-    alloc: Global,
-    planning: &Planning,
-    object: &Object,
-) -> Result<Reply, NoMemory>
+///
+/// # Errors
+///
+/// `NoMemory` where memory could not be had.
+pub fn reach_reply(alloc: Global, planning: &Planning, object: &Object) -> Result<Reply, NoMemory>
     ensures { IfOk result (AboutNode planning.now.book.game (node_named planning.now.book.game object.now) (λ node told. told ≡ reply.Reach node (rank_of planning.now.book node.0))) }
 {
     match planning.node(object) {
@@ -119,11 +118,11 @@ pub(crate) fn reach_reply(
 }
 
 /// The milestones that a node needs.
-pub(crate) fn mask_reply(
-    alloc: Global,
-    planning: &Planning,
-    object: &Object,
-) -> Result<Reply, NoMemory>
+///
+/// # Errors
+///
+/// `NoMemory` where memory could not be had.
+pub fn mask_reply(alloc: Global, planning: &Planning, object: &Object) -> Result<Reply, NoMemory>
     ensures { IfOk result (AboutNode planning.now.book.game (node_named planning.now.book.game object.now) (λ node told. told ≡ mask_reply planning.now node (is_reached planning.now.book node.0))) }
 {
     match planning.node(object) {
@@ -153,7 +152,11 @@ fn mask_of(alloc: Global, planning: &Planning, node: NodeId) -> Result<Reply, No
 }
 
 /// Why a node is reached.
-pub(crate) fn why_reply<L>(
+///
+/// # Errors
+///
+/// `NoMemory` where memory could not be had.
+pub fn why_reply<L>(
     alloc: Global,
     planning: &Planning,
     object: &Object,
@@ -211,7 +214,11 @@ fn why_lines(
 }
 
 /// The milestones, in order.
-pub(crate) fn milestones_reply(alloc: Global, planning: &Planning) -> Result<Reply, NoMemory>
+///
+/// # Errors
+///
+/// `NoMemory` where memory could not be had.
+pub fn milestones_reply(alloc: Global, planning: &Planning) -> Result<Reply, NoMemory>
     ensures { IfOk result (λ told. told ≡ reply.Milestones planning.now.milestones) }
 {
     let nodes = milestones(alloc, planning)?;
@@ -229,7 +236,11 @@ fn milestones(alloc: Global, planning: &Planning) -> Result<Vec<NodeId>, NoMemor
 }
 
 /// What a node lacks.
-pub(crate) fn missing_reply<L>(
+///
+/// # Errors
+///
+/// `NoMemory` where memory could not be had.
+pub fn missing_reply<L>(
     alloc: Global,
     planning: &Planning,
     object: &Object,
@@ -296,7 +307,11 @@ fn missing_lines(alloc: Global, groups: &[Group]) -> Result<Vec<(bool, Items<Nod
 }
 
 /// The reached nodes of a kind, in node order.
-pub(crate) fn list_reply(alloc: Global, planning: &Planning, kind: Kind) -> Result<Reply, NoMemory>
+///
+/// # Errors
+///
+/// `NoMemory` where memory could not be had.
+pub fn list_reply(alloc: Global, planning: &Planning, kind: Kind) -> Result<Reply, NoMemory>
     ensures { IfOk result (λ told. told ≡ list_reply planning.now.book kind) }
 {
     let (first, end) = planning.nodes_of(kind);
@@ -377,7 +392,7 @@ fn totals_of(planning: &Planning) -> Totals
 }
 
 /// How many nodes are reached, and what there is besides. So many entries are done and undone.
-pub(crate) fn summary_reply(planning: &Planning, done: u64, undone: u64) -> Reply
+pub fn summary_reply(planning: &Planning, done: u64, undone: u64) -> Reply
     ensures { result ≡ summary_reply planning.now done undone }
 {
     let Totals { reached, bits } = totals_of(planning);
@@ -393,7 +408,11 @@ pub(crate) fn summary_reply(planning: &Planning, done: u64, undone: u64) -> Repl
 }
 
 /// The rates of a row of a table, or why there are none.
-pub(crate) fn rate_reply(
+///
+/// # Errors
+///
+/// `NoMemory` where memory could not be had.
+pub fn rate_reply(
     alloc: Global,
     planning: &Planning,
     table: &Text,
@@ -405,7 +424,11 @@ pub(crate) fn rate_reply(
 }
 
 /// What the solver says of a table, with so many exchanges at most, or why it is not asked.
-pub(crate) fn solve_reply(
+///
+/// # Errors
+///
+/// `NoMemory` where memory could not be had.
+pub fn solve_reply(
     alloc: Global,
     planning: &Planning,
     table: &Text,
