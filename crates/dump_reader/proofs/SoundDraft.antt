@@ -17,18 +17,20 @@ use Rattle.craft_reader.specs.Technologies.{raw_tech}
 use Rattle.craft_reader.specs.declared.recipes.RawRecipe.{RawRecipe}
 use Rattle.craft_reader.specs.declared.technologies.RawTech.{RawTech}
 use Rattle.dump_reader.specs.declared.raw.RawItem.{RawItem}
-use Rattle.dump_reader.specs.declared.raw.RawMachine.{RawMachine}
+use Rattle.machine_reader.specs.declared.raw.RawMachine.{RawMachine}
 use Rattle.dump_reader.specs.declared.raw.RawSource.{RawSource}
-use Rattle.dump_reader.specs.declared.sections.Class.{Class}
-use Rattle.dump_reader.specs.declared.sections.Class.TheVariants as class
-use Rattle.dump_reader.specs.declared.sections.Section.{Section}
-use Rattle.dump_reader.specs.declared.sections.Section.TheVariants as section
+use Rattle.machine_reader.specs.declared.sections.Class.{Class}
+use Rattle.machine_reader.specs.declared.sections.Class.TheVariants as class
+use Rattle.machine_reader.specs.declared.sections.Section.{Section}
+use Rattle.machine_reader.specs.declared.sections.Section.TheVariants as section
 use Rattle.dump_reader.specs.Goods.{fluid_of}
 use Rattle.dump_reader.specs.Sources.{category_of, gathered_of, if_minable, drilled_of, mined_of, resource_of, plant_of}
-use Rattle.dump_reader.specs.Draft.{RawGame, Taken, taken, taken_beside, source_taken, source_by, source_of, one_more, with_item, with_fluid, with_recipe, with_tech, with_source, with_machine, with_character, class_of, with_entry, with_prototype, empty_game}
-use Rattle.dump_reader.specs.Sound.{IsSoundDraft, IsSoundRawItem, IsSoundRawMachine}
+use Rattle.dump_reader.specs.Draft.{RawGame, Taken, taken, taken_beside, source_taken, source_by, source_of, one_more, with_item, with_fluid, with_recipe, with_tech, with_source, with_machine, with_character, with_entry, with_prototype, empty_game}
+use Rattle.machine_reader.specs.Sections.{class_of}
+use Rattle.machine_reader.specs.Sound.{IsSoundRawMachine}
+use Rattle.dump_reader.specs.Sound.{IsSoundDraft, IsSoundRawItem}
 use Rattle.dump_reader.proofs.SoundGoods.{fluid_plain, item_sound}
-use Rattle.dump_reader.proofs.SoundMachines.{machine_sound}
+use Rattle.machine_reader.proofs.SoundMachines.{machine_sound}
 
 -- ---- a name and a node more, where there is one
 record IsTaken (there : Bool) (names : Names) (nodes : ℕ) (t : Taken) : Type 0 where

@@ -16,9 +16,9 @@ use Rattle.prototype_fields.specs.Values.{Names, name, number_in, hundredths_or_
 use Rattle.prototype_fields.proofs.CutLemmas.{moderate}
 use Rattle.prototype_fields.proofs.Yields.{Yields, and_then, whatever, or_wrong_yields, optional_yields, or_default_yields}
 use Rattle.craft_reader.specs.Goods.{launch_products}
-use Rattle.dump_reader.specs.declared.sections.Section.{Section}
-use Rattle.dump_reader.specs.declared.sections.Section.TheVariants.{Module}
-use Rattle.dump_reader.specs.Goods.{bonus_in, bonus_of, fluid_of, module_of, optional_module, item_of}
+use Rattle.machine_reader.specs.declared.sections.Section.{Section}
+use Rattle.machine_reader.specs.declared.sections.Section.TheVariants.{Module}
+use Rattle.dump_reader.specs.Goods.{bonus_in, bonus_of, fluid_of, module_of, optional_module, fuel_in, item_of}
 use Rattle.dump_reader.specs.Sound.{IsSoundRawItem}
 
 -- ---- hundredths
@@ -82,10 +82,7 @@ fluid_plain object =
 pub item_sound : (section : Section) (object : Object) (names : Names) → Yields (item_of section object names) (λ found. IsSoundRawItem found.0)
 item_sound section object names =
     whatever (name object PlaceResult) λ place.
-    whatever (name object FuelCategory) λ fuel_category.
-    whatever (optional_category object FuelCategory fuel_category names) λ category.
-    whatever (energy_or object FuelValue zero_fraction) λ value.
-    whatever (amount_or object FuelEmissionsMultiplier one_fraction) λ emissions.
+    whatever (fuel_in object names) λ fuel.
     whatever (name object BurntResult) λ burnt.
     and_then (optional_sound section object) λ found small.
     whatever (launch_products object) λ launch.

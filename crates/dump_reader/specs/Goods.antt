@@ -14,8 +14,8 @@ use Rattle.game_types.specs.declared.goods.Fluid.{Fluid}
 use Rattle.game_types.specs.declared.goods.Fuel.{Fuel}
 use Rattle.dump_reader.specs.declared.raw.RawItem.{RawItem}
 use Rattle.dump_reader.specs.declared.raw.RawModule.{RawModule}
-use Rattle.dump_reader.specs.declared.sections.Section.{Section}
-use Rattle.dump_reader.specs.declared.sections.Section.TheVariants.{Module}
+use Rattle.machine_reader.specs.declared.sections.Section.{Section}
+use Rattle.machine_reader.specs.declared.sections.Section.TheVariants.{Module}
 
 -- ---- fluid: one record, until it is known at which temperatures it is made
 abbrev pub fluid_of : Object → Reading Fluid
@@ -59,14 +59,19 @@ optional_module section object = Ok None
 abbrev pub fuel_of : Option ℕ → Fraction → Fraction → Option Fuel
 fuel_of category value emissions = option_map (λ number. record { category = number; value = value; emissions = emissions }) category
 
-abbrev pub item_of : Section → Object → Names → Reading (RawItem × Names)
-item_of section object names =
-    name object PlaceResult ▸ λ place.
+unfoldable pub fuel_in : Object → Names → Reading (Option Fuel × Names)
+fuel_in object names =
     name object FuelCategory ▸ λ fuel_category.
     optional_category object FuelCategory fuel_category names ▸ λ category.
     energy_or object FuelValue zero_fraction ▸ λ value.
     amount_or object FuelEmissionsMultiplier one_fraction ▸ λ emissions.
+    Ok (fuel_of category.0 value emissions, category.1)
+
+abbrev pub item_of : Section → Object → Names → Reading (RawItem × Names)
+item_of section object names =
+    name object PlaceResult ▸ λ place.
+    fuel_in object names ▸ λ fuel.
     name object BurntResult ▸ λ burnt.
     optional_module section object ▸ λ found.
     launch_products object ▸ λ launch.
-    Ok (record { section = section; place = place; fuel = fuel_of category.0 value emissions; burnt = burnt; «module» = found; launch = launch }, category.1)
+    Ok (record { section = section; place = place; fuel = fuel.0; burnt = burnt; «module» = found; launch = launch }, fuel.1)

@@ -9,7 +9,7 @@ use Rattle.prototype_fields.specs.Values.{Reading, ◌▸◌, Names, name, name_
 use Rattle.craft_reader.specs.Goods.{products}
 use Rattle.craft_reader.specs.declared.goods.RawProduct.{RawProduct}
 use Rattle.dump_reader.specs.declared.raw.RawSource.{RawSource}
-use Rattle.dump_reader.specs.declared.sections.Section.{Section}
+use Rattle.machine_reader.specs.declared.sections.Section.{Section}
 
 -- no products where none are named
 abbrev pub or_none : Option (List RawProduct) → List RawProduct

@@ -6,9 +6,9 @@ ghost use Rattle.prototype_fields.specs.Values.{Gives, with_names};
 ghost use Rattle.dump_reader.specs.Sources.{or_none, tenth_of, fluid_taken, drilled_of, if_minable, mined_of, category_of, resource_of, gathered_of, plant_of};
 
 use crate::raw::RawSource;
-use crate::sections::Section;
 use craft_reader::{RawProduct, products};
 use fractions::Ratio;
+use machine_reader::Section;
 use name_table::Names;
 use plan_base::{Items, NoMemory, Text};
 use prototype_fields::{FieldFault, Fields, Key, Within, tenth};
