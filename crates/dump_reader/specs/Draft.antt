@@ -3,6 +3,7 @@
 use Rattle.std.specs.Prelude.{ℕ, ◌+◌, ◌||◌, List, [], ◌∷◌, ◌++◌, Option, Some, None, Ok, is_some, length, nat_le, if◌then◌else◌}
 use Rattle.name_table.specs.Names.{place_of, with_name}
 use Rattle.prototype_fields.specs.declared.fault.FieldCode.TheVariants.{Twice, Limit}
+use Rattle.prototype_fields.specs.declared.names.Key.{Key}
 use Rattle.prototype_fields.specs.declared.names.Key.TheVariants.{Minable, CraftingCategories, MiningCategories}
 use Rattle.prototype_fields.specs.declared.names.Within.TheVariants as within
 use Rattle.prototype_fields.specs.Objects.{Object, field}
@@ -152,13 +153,17 @@ with_machine section name object g =
     machine_of section object g.categories ▸ λ found.
     Ok (record g { machines = g.machines ++ found.0 ∷ []; machine_names = t.0; categories = found.1; nodes = t.1 })
 
+-- the categories of a list, of which there may be none
+unfoldable pub categories_at : Object → Key → Names → Reading (List ℕ × Names)
+categories_at object key names =
+    list_or_empty object key ▸ λ elements.
+    categories object key elements names
+
 -- all characters together craft and mine what one of them does
 unfoldable pub with_character : Object → RawGame → Reading RawGame
 with_character object g =
-    list_or_empty object CraftingCategories ▸ λ elements.
-    categories object CraftingCategories elements g.categories ▸ λ crafting.
-    list_or_empty object MiningCategories ▸ λ others.
-    categories object MiningCategories others crafting.1 ▸ λ mining.
+    categories_at object CraftingCategories g.categories ▸ λ crafting.
+    categories_at object MiningCategories crafting.1 ▸ λ mining.
     Ok (record g { crafting = g.crafting ++ crafting.0; mining = g.mining ++ mining.0; categories = mining.1 })
 
 abbrev pub with_entry : Class → Section → List ℕ → Object → RawGame → Reading RawGame

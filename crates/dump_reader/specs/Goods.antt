@@ -1,6 +1,6 @@
 -- Items and fluids as a dump has them: the table of their fields, in the order in which they are read. Fields and defaults
 -- are those of the prototype documentation of Factorio 1.1.
-use Rattle.std.specs.Prelude.{ℕ, ℤ, pos, Option, Some, None, option_map, Ok}
+use Rattle.std.specs.Prelude.{ℕ, ℤ, pos, List, Option, Some, None, option_map, Ok}
 use Rattle.fractions.specs.Fraction.{Fraction, zero_fraction, one_fraction, whole_fraction}
 use Rattle.prototype_fields.specs.declared.names.Key.{Key}
 use Rattle.prototype_fields.specs.declared.names.Key.TheVariants.{PlaceResult, FuelCategory, FuelValue, FuelEmissionsMultiplier, BurntResult, Effect, Speed, Productivity, Consumption, Pollution, Bonus as BonusKey, Limitation, LimitationBlacklist, HeatCapacity, DefaultTemperature}
@@ -40,14 +40,18 @@ bonus_of effect =
     bonus_in effect Pollution within.EffectPollution ▸ λ pollution.
     Ok (record { speed = speed; productivity = productivity; consumption = consumption; pollution = pollution })
 
+-- the names of a list, of which there may be none
+unfoldable pub names_at : Object → Key → Reading (List (List ℕ))
+names_at object key =
+    list_or_empty object key ▸ λ elements.
+    names_in object key elements
+
 unfoldable pub module_of : Object → Reading RawModule
 module_of object =
     object_or_empty object Effect within.Effect ▸ λ effect.
     bonus_of effect ▸ λ bonus.
-    list_or_empty object Limitation ▸ λ recipes.
-    names_in object Limitation recipes ▸ λ limitation.
-    list_or_empty object LimitationBlacklist ▸ λ others.
-    names_in object LimitationBlacklist others ▸ λ blacklist.
+    names_at object Limitation ▸ λ limitation.
+    names_at object LimitationBlacklist ▸ λ blacklist.
     Ok (record { bonus = bonus; limitation = limitation; blacklist = blacklist })
 
 -- only what stands in the section of modules is one

@@ -2,7 +2,7 @@
 ghost use Rattle.std.specs.Prelude.{◌≡◌};
 ghost use Rattle.prototype_fields.specs.Seen.{object_seen};
 ghost use Rattle.prototype_fields.specs.Values.{Gives, with_names};
-ghost use Rattle.dump_reader.specs.Goods.{fluid_of, bonus_in, bonus_of, module_of, optional_module, fuel_of, fuel_in, item_of};
+ghost use Rattle.dump_reader.specs.Goods.{fluid_of, bonus_in, bonus_of, names_at, module_of, optional_module, fuel_of, fuel_in, item_of};
 
 use crate::raw::{RawItem, RawModule};
 use craft_reader::launch_products;
@@ -10,6 +10,7 @@ use fractions::Ratio;
 use game_types::{Bonus, Fluid, Fuel};
 use machine_reader::{Section, read_name};
 use name_table::Names;
+use plan_base::{Items, Text};
 use prototype_fields::{FieldFault, Fields, Key, Within};
 use std::alloc::Global;
 
@@ -53,16 +54,23 @@ fn read_effect(effect: &Fields<'_, '_>) -> Result<Bonus, FieldFault>
     })
 }
 
+// The names of a list, of which there may be none.
+#[tactic(auto, unfolding(crate::specs::Goods::names_at))]
+fn read_names(alloc: Global, fields: &Fields<'_, '_>, key: Key) -> Result<Items<Text>, FieldFault>
+    ensures { Gives (names_at (object_seen fields.now) key) result }
+{
+    let elements = fields.list_or_empty(key)?;
+    fields.names_in(alloc, key, elements)
+}
+
 #[tactic(auto, unfolding(crate::specs::Goods::module_of))]
 fn read_module(alloc: Global, fields: &Fields<'_, '_>) -> Result<RawModule, FieldFault>
     ensures { Gives (module_of (object_seen fields.now)) result }
 {
     let effect = fields.object_or_empty(Key::Effect, Within::Effect)?;
     let bonus = read_effect(&effect)?;
-    let recipes = fields.list_or_empty(Key::Limitation)?;
-    let limitation = fields.names_in(alloc, Key::Limitation, recipes)?;
-    let others = fields.list_or_empty(Key::LimitationBlacklist)?;
-    let blacklist = fields.names_in(alloc, Key::LimitationBlacklist, others)?;
+    let limitation = read_names(alloc, fields, Key::Limitation)?;
+    let blacklist = read_names(alloc, fields, Key::LimitationBlacklist)?;
     Ok(RawModule {
         bonus,
         limitation,
