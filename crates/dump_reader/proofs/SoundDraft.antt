@@ -23,7 +23,6 @@ use Rattle.machine_reader.specs.declared.sections.Class.{Class}
 use Rattle.machine_reader.specs.declared.sections.Class.TheVariants as class
 use Rattle.machine_reader.specs.declared.sections.Section.{Section}
 use Rattle.machine_reader.specs.declared.sections.Section.TheVariants as section
-use Rattle.dump_reader.specs.Goods.{fluid_of}
 use Rattle.dump_reader.specs.Sources.{category_of, gathered_of, if_minable, drilled_of, mined_of, resource_of, plant_of}
 use Rattle.dump_reader.specs.Draft.{RawGame, Taken, taken, taken_beside, source_taken, source_by, source_of, one_more, with_item, with_fluid, with_recipe, with_tech, with_source, with_machine, categories_at, with_character, with_entry, with_prototype, empty_game}
 use Rattle.machine_reader.specs.Sections.{class_of}

@@ -3,16 +3,16 @@ use Rattle.std.specs.Prelude.{◌≡◌, ℕ, ◌*◌, ◌≤◌, ◌||◌, Bool
 use Rattle.std.proofs.Common.{refl, sym, subst, arith}
 use Rattle.std.proofs.Math.Nat.{div-le_of_le-mul}
 use Rattle.std.proofs.lemmas.Int.{ints}
-use Rattle.fractions.specs.Fraction.{Fraction, zero_fraction, one_fraction, whole_fraction, nat_abs-int_div}
+use Rattle.fractions.specs.Fraction.{Fraction, zero_fraction, whole_fraction, nat_abs-int_div}
 use Rattle.game_types.specs.Sound.{IsSmall, IsSoundBonus}
 use Rattle.prototype_fields.specs.declared.fault.FieldCode.TheVariants.{Limit}
 use Rattle.prototype_fields.specs.declared.names.Key.{Key}
-use Rattle.prototype_fields.specs.declared.names.Key.TheVariants.{Bonus as BonusKey, Speed, Productivity, Consumption, Pollution, Effect, Limitation, LimitationBlacklist, PlaceResult, FuelCategory, FuelValue, FuelEmissionsMultiplier, BurntResult, HeatCapacity, DefaultTemperature}
+use Rattle.prototype_fields.specs.declared.names.Key.TheVariants.{Bonus as BonusKey, Speed, Productivity, Consumption, Pollution, Effect, Limitation, LimitationBlacklist, PlaceResult, FuelValue, BurntResult, HeatCapacity, DefaultTemperature}
 use Rattle.prototype_fields.specs.declared.names.Within.{Within}
 use Rattle.prototype_fields.specs.declared.names.Within.TheVariants as within
 use Rattle.prototype_fields.specs.Numbers.{hundredths, is_less}
 use Rattle.prototype_fields.specs.Objects.{Object, field}
-use Rattle.prototype_fields.specs.Values.{Names, name, number_in, hundredths_or_zero, optional_category, energy_or, amount_or, number_or, object_or_empty}
+use Rattle.prototype_fields.specs.Values.{Names, name, number_in, hundredths_or_zero, energy_or, number_or, object_or_empty}
 use Rattle.prototype_fields.proofs.CutLemmas.{moderate}
 use Rattle.prototype_fields.proofs.Yields.{Yields, and_then, whatever, or_wrong_yields, optional_yields, or_default_yields}
 use Rattle.craft_reader.specs.Goods.{launch_products}
