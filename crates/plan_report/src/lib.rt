@@ -5,6 +5,7 @@
 #![tactic(auto)]
 
 mod codes;
+mod numbers;
 mod plans;
 mod printing;
 mod reply;

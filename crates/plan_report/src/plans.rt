@@ -1,5 +1,5 @@
 // The further lines of what the solver says of a table.
-ghost use Rattle.std.specs.Prelude.{◌≡◌, ◌∷◌, [], IfOk, codes, map, slice_index_or, string_bytes};
+ghost use Rattle.std.specs.Prelude.{◌≡◌, ◌∷◌, ◌++◌, [], IfOk, codes, map, slice_index_or, string_bytes};
 ghost use Rattle.std.specs.List.{flat_map, zip};
 ghost use Rattle.fractions.specs.Print.{printed};
 ghost use Rattle.game_types.specs.Sound.{IsSound};
@@ -7,6 +7,7 @@ ghost use Rattle.node_report.specs.Nodes.{good_word};
 ghost use Rattle.node_report.specs.Layout.{further_line, further_text, line_then};
 ghost use Rattle.plan_report.specs.Plans.{column_kind, column_name, exchange_line, figure_word, place_line, price_line, price_lines, row_line, stream_lines, total_line, use_words};
 
+use crate::numbers::number_end;
 use crate::reply::Figures;
 use fractions::Ratio;
 use game_types::Game;
@@ -25,38 +26,40 @@ fn figure_word(alloc: Global, figure: Option<Ratio>) -> Result<Text, NoMemory>
     }
 }
 
+// A word and a figure, each behind a space, before the end of their line.
+fn figure_end(
+    alloc: Global,
+    word: &str,
+    figure: Option<Ratio>,
+    end: String,
+) -> Result<String, NoMemory>
+    ensures { IfOk result (λ text. string_bytes text ≡ 32 ∷ (word.now ++ 32 ∷ (figure_word figure ++ string_bytes end))) }
+{
+    let figure = figure_word(alloc, figure)?;
+    Ok(format!(in alloc; " {word} {}{end}", figure.as_str())?)
+}
+
 // The end of a line: power, drain, beacons and pollution.
 fn use_words(alloc: Global, figures: &Figures) -> Result<String, NoMemory>
     ensures { IfOk result (λ text. string_bytes text ≡ line_then (use_words figures.now) []) }
 {
-    let power = figure_word(alloc, figures.power)?;
-    let drain = figure_word(alloc, figures.drain)?;
-    let beacons = figure_word(alloc, figures.beacons)?;
-    let pollution = figure_word(alloc, figures.pollution)?;
-    Ok(format!(in alloc;
-        " power {} drain {} beacons {} pollution {}\n",
-        power.as_str(),
-        drain.as_str(),
-        beacons.as_str(),
-        pollution.as_str()
-    )?)
+    let end = String::from_str(alloc, "\n")?;
+    let end = figure_end(alloc, "pollution", figures.pollution, end)?;
+    let end = figure_end(alloc, "beacons", figures.beacons, end)?;
+    let end = figure_end(alloc, "drain", figures.drain, end)?;
+    figure_end(alloc, "power", figures.power, end)
 }
 
 // A row of a plan at its rate.
 fn row_line(alloc: Global, label: &str, rate: &Ratio, figures: &Figures) -> Result<String, NoMemory>
     ensures { IfOk result (λ text. string_bytes text ≡ further_line (row_line (label.now, (rate.now, figures.now)))) }
 {
+    let end = use_words(alloc, figures)?;
+    let end = figure_end(alloc, "count", figures.count, end)?;
+    let end = figure_end(alloc, "machines", figures.machines, end)?;
+    let end = number_end(alloc, "rate", rate, end)?;
     let label = printed_word(alloc, label)?;
-    let rate = rate.print(alloc)?;
-    let machines = figure_word(alloc, figures.machines)?;
-    let count = figure_word(alloc, figures.count)?;
-    let used = use_words(alloc, figures)?;
-    Ok(format!(in alloc;
-        "  row {label} rate {} machines {} count {}{used}",
-        rate.as_str(),
-        machines.as_str(),
-        count.as_str()
-    )?)
+    Ok(format!(in alloc; "  row {label}{end}")?)
 }
 
 /// A line for each row of a plan.

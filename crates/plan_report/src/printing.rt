@@ -6,6 +6,7 @@ ghost use Rattle.plan_report.specs.Plans.{infeasible_lines, out_of_budget_lines,
 ghost use Rattle.plan_report.specs.Replies.{at_words, consumption_words, detail_words, effects_words, fuel_words, named_word, printed_reply, rate_line, rates_words};
 
 use crate::codes::{code_word, effect_word};
+use crate::numbers::number_end;
 use crate::plans::{
     exchange_lines, exchange_words, place_line, price_lines, row_lines, stream_lines, total_line,
 };
@@ -230,31 +231,20 @@ fn solved_text(
 fn fuel_end(alloc: Global, rates: &Rates, beacons: &Ratio) -> Result<String, NoMemory>
     ensures { IfOk result (λ text. string_bytes text ≡ line_then (fuel_words rates.now beacons.now) []) }
 {
-    let fuel = rates.fuel.print(alloc)?;
-    let emits = rates.pollution.print(alloc)?;
-    let beacons = beacons.print(alloc)?;
-    Ok(format!(in alloc;
-        " fuel {} emits {} beacons {}\n",
-        fuel.as_str(),
-        emits.as_str(),
-        beacons.as_str()
-    )?)
+    let end = String::from_str(alloc, "\n")?;
+    let end = number_end(alloc, "beacons", beacons, end)?;
+    let end = number_end(alloc, "emits", &rates.pollution, end)?;
+    number_end(alloc, "fuel", &rates.fuel, end)
 }
 
 // The end of a line: what a row takes.
 fn rates_end(alloc: Global, rates: &Rates, beacons: &Ratio) -> Result<String, NoMemory>
     ensures { IfOk result (λ text. string_bytes text ≡ line_then (rates_words rates.now beacons.now) []) }
 {
-    let machines = rates.machines.print(alloc)?;
-    let power = rates.power.print(alloc)?;
-    let drain = rates.drain.print(alloc)?;
-    let fuel = fuel_end(alloc, rates, beacons)?;
-    Ok(format!(in alloc;
-        " machines {} power {} drain {}{fuel}",
-        machines.as_str(),
-        power.as_str(),
-        drain.as_str()
-    )?)
+    let end = fuel_end(alloc, rates, beacons)?;
+    let end = number_end(alloc, "drain", &rates.drain, end)?;
+    let end = number_end(alloc, "power", &rates.power, end)?;
+    number_end(alloc, "machines", &rates.machines, end)
 }
 
 // The end of a line: the use of power and the pollution of a row, and what it takes.
@@ -266,14 +256,9 @@ fn consumption_end(
 ) -> Result<String, NoMemory>
     ensures { IfOk result (λ text. string_bytes text ≡ line_then (consumption_words effects.now ++ rates_words rates.now beacons.now) []) }
 {
-    let consumption = effects.consumption.print(alloc)?;
-    let pollution = effects.pollution.print(alloc)?;
-    let rates = rates_end(alloc, rates, beacons)?;
-    Ok(format!(in alloc;
-        " consumption {} pollution {}{rates}",
-        consumption.as_str(),
-        pollution.as_str()
-    )?)
+    let end = rates_end(alloc, rates, beacons)?;
+    let end = number_end(alloc, "pollution", &effects.pollution, end)?;
+    number_end(alloc, "consumption", &effects.consumption, end)
 }
 
 // The end of a line: the effects on a row, and what it takes.
@@ -285,14 +270,9 @@ fn effects_end(
 ) -> Result<String, NoMemory>
     ensures { IfOk result (λ text. string_bytes text ≡ line_then (effects_words effects.now ++ rates_words rates.now beacons.now) []) }
 {
-    let speed = effects.speed.print(alloc)?;
-    let productivity = effects.productivity.print(alloc)?;
-    let others = consumption_end(alloc, effects, rates, beacons)?;
-    Ok(format!(in alloc;
-        " speed {} productivity {}{others}",
-        speed.as_str(),
-        productivity.as_str()
-    )?)
+    let end = consumption_end(alloc, effects, rates, beacons)?;
+    let end = number_end(alloc, "productivity", &effects.productivity, end)?;
+    number_end(alloc, "speed", &effects.speed, end)
 }
 
 fn rate_text(

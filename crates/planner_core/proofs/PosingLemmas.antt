@@ -8,8 +8,8 @@ use Rattle.script_reader.specs.declared.command.Command.TheVariants as command
 use Rattle.plan_report.specs.declared.reply.Reply.{Reply as AnyReply}
 use Rattle.planner_tables.specs.Effects.{table_at, table_named}
 use Rattle.planner_tables.specs.Questions.{IsSolveReply, IsSolveReplyAt, IsSolvedWhere, linear_outcome}
-use Rattle.planner_tables.specs.Refusals.{Outcome, refused}
-use Rattle.planner_tables.specs.declared.refusals.TableRefusal.{TableRefusal}
+use Rattle.table_words.specs.Refusals.{Outcome, refused}
+use Rattle.table_words.specs.declared.refusals.TableRefusal.{TableRefusal}
 use Rattle.production_table.specs.declared.tables.Table.{Table}
 use Rattle.game_types.specs.Steps.{◌▸◌}
 use Rattle.planner_tables.specs.Questions.{linear_named}

@@ -7,7 +7,7 @@ use Rattle.script_reader.specs.declared.command.Command.{Command}
 use Rattle.script_reader.specs.declared.command.Command.TheVariants as command
 use Rattle.plan_report.specs.declared.reply.Reply.{Reply as AnyReply}
 use Rattle.planner_tables.specs.Questions.{linear_named}
-use Rattle.planner_tables.specs.Refusals.{Outcome, refused}
+use Rattle.table_words.specs.Refusals.{Outcome, refused}
 use Rattle.planner_core.specs.Lines.{Held, IsStep, Planned, line_work}
 use Rattle.planner_core.specs.declared.posing.Posed.{Posed}
 use Rattle.planner_core.specs.declared.posing.Posed.TheVariants as posed

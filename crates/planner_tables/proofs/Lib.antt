@@ -1,5 +1,4 @@
 pub mod SpliceLemmas
-pub mod NameLemmas
 pub mod StepLemmas
 pub mod ChangeLemmas
 pub mod FigureLemmas

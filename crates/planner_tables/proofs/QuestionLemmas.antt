@@ -11,11 +11,11 @@ use Rattle.production_table.specs.declared.tables.Table.{Table}
 use Rattle.production_table.specs.declared.tables.TableRow.{TableRow}
 use Rattle.production_table.specs.Tables.{labels_of}
 use Rattle.plan_report.specs.declared.reply.Reply.{Reply}
-use Rattle.planner_tables.specs.declared.refusals.TableRefusal.{TableRefusal}
-use Rattle.planner_tables.specs.declared.refusals.ChangeFault.{ChangeFault}
+use Rattle.table_words.specs.declared.refusals.TableRefusal.{TableRefusal}
+use Rattle.table_words.specs.declared.refusals.ChangeFault.{ChangeFault}
 use Rattle.planner_tables.specs.Effects.{table_at, table_named}
 use Rattle.planner_tables.specs.Questions.{column_names, rate_outcome, row_rates_outcome, IsSolvedWhere, IsSolveReply, IsSolveReplyAt, linear_named, linear_outcome}
-use Rattle.planner_tables.specs.Refusals.{Gives, Outcome, refused}
+use Rattle.table_words.specs.Refusals.{Gives, Outcome, refused}
 
 -- ---- labels
 pub labels_next : (rows : List TableRow) (k : ℕ) (row : TableRow) → k < length rows → row ≡ get_or rows k row → labels_of (drop k rows) ≡ row.label ∷ labels_of (drop (k + 1) rows)

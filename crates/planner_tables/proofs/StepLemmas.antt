@@ -20,14 +20,15 @@ use Rattle.production_table.specs.Numbers.{guard, is_full, number_of, or_nothing
 use Rattle.fractions.specs.Signs.{is_negative}
 use Rattle.production_table.specs.Tables.{IsSoundTable, is_label}
 use Rattle.production_table.proofs.Found.{no_price, place_is, price_is, some_row}
-use Rattle.planner_tables.specs.declared.refusals.TableRefusal.{TableRefusal}
-use Rattle.planner_tables.specs.declared.refusals.TableRefusal.TheVariants.{NoName}
+use Rattle.table_words.specs.declared.refusals.TableRefusal.{TableRefusal}
+use Rattle.table_words.specs.declared.refusals.TableRefusal.TheVariants.{NoName}
 use Rattle.planner_tables.specs.declared.splices.Splice.{Splice}
 use Rattle.planner_tables.specs.declared.splices.Splice.TheVariants.{Remove, Insert}
 use Rattle.planner_tables.specs.declared.undos.Numbers.TheVariants.{Wants, Imports, Surpluses}
 use Rattle.planner_tables.specs.declared.undos.TablePart.TheVariants as part
 use Rattle.planner_tables.specs.Effects.{AreGoods, IsSoundOn, table_after}
-use Rattle.planner_tables.specs.Refusals.{Outcome, cause}
+use Rattle.table_words.specs.Refusals.{Outcome}
+use Rattle.planner_tables.specs.Causes.{cause}
 use Rattle.planner_tables.specs.Steps.{MakesTable}
 use Rattle.planner_tables.specs.Undoing.{spliced, with_price_at, with_row_price, with_rows}
 use Rattle.plan_base.proofs.Places.{put_back}

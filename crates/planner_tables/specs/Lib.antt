@@ -1,5 +1,4 @@
-pub mod Refusals
-pub mod Names
+pub mod Causes
 pub mod Effects
 pub mod Undoing
 pub mod Steps

@@ -20,10 +20,11 @@ use Rattle.production_table.specs.Linear.{linear_of}
 use Rattle.production_table.specs.Tables.{is_label, labels_of}
 use Rattle.plan_report.specs.declared.reply.Reply.{Reply}
 use Rattle.plan_report.specs.declared.reply.Reply.TheVariants as reply
-use Rattle.planner_tables.specs.declared.refusals.TableRefusal.TheVariants.{NoName, Wide as WideRow}
+use Rattle.table_words.specs.declared.refusals.TableRefusal.TheVariants.{NoName, Wide as WideRow}
 use Rattle.planner_tables.specs.Effects.{named, table_at, table_named}
 use Rattle.planner_tables.specs.Figures.{answer_figures, nothing, summed}
-use Rattle.planner_tables.specs.Refusals.{Outcome, caused, refused}
+use Rattle.table_words.specs.Refusals.{Outcome, refused}
+use Rattle.planner_tables.specs.Causes.{caused}
 
 abbrev pub answered : Game → Outcome Reply → Reply
 answered g (Ok answer) = answer

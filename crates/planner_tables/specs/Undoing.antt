@@ -1,5 +1,5 @@
 -- What undoes a change of tables: a part of them that is put in the place of another.
-use Rattle.std.specs.Prelude.{ℕ, ◌+◌, ◌-◌, ◌==◌, ◌&&◌, Bool, nat_lt, nat_le, List, length, insert, remove, Option, Some, None, if◌then◌else◌, vec_capacity, vec_len, Vec}
+use Rattle.std.specs.Prelude.{ℕ, ◌+◌, ◌-◌, ◌==◌, ◌&&◌, Bool, nat_lt, nat_le, List, length, insert, remove, if◌then◌else◌, vec_capacity, vec_len, Vec}
 use Rattle.plan_base.specs.Places.{with_at}
 use Rattle.std.specs.Global.{Global}
 use Rattle.fractions.specs.Fraction.{Fraction}

@@ -2,13 +2,12 @@
 ghost use Rattle.std.specs.Prelude.{◌≡◌, ◌<◌, ◌≤◌, ◌++◌, ◌∷◌, [], true, Ok, Err, IfOk, IfErr, OnErr, length, position, vec_len, vec_capacity};
 ghost use Rattle.std.specs.List.{list_any};
 ghost use Rattle.game_types.specs.Sound.{IsSound};
-ghost use Rattle.planner_tables.specs.declared.refusals.TableRefusal.{TableRefusal as RefusalOf};
+ghost use Rattle.table_words.specs.declared.refusals.TableRefusal.{TableRefusal as RefusalOf};
 ghost use Rattle.planner_tables.specs.Effects.{AreSoundTables, is_name, is_of_tables, table_named, tables_effect};
-ghost use Rattle.planner_tables.specs.Refusals.{Gives};
+ghost use Rattle.table_words.specs.Refusals.{Gives};
 ghost use Rattle.planner_tables.specs.Steps.{IsRefused, MakesTables, StepFits, is_step, step_named, step_table};
 ghost use Rattle.planner_tables.specs.Undoing.{tables_restored};
 
-use crate::names::{good_named, setup_named};
 use crate::splices::exchange_element;
 use crate::steps::{Step, no_name, take_step};
 use crate::{ChangeFault, Splice, TableRefusal, TableUndo};
@@ -18,6 +17,7 @@ use plan_base::Text;
 use production_table::Table;
 use script_reader::Change;
 use std::alloc::Global;
+use table_words::{good_named, setup_named};
 
 // The place of the first table of a name.
 fn find_table(tables: &[Table], name: &str) -> Option<usize>

@@ -7,7 +7,7 @@ ghost use Rattle.table_rows.specs.Columns.{figures_of};
 ghost use Rattle.table_rows.specs.Setups.{IsFitting};
 ghost use Rattle.planner_tables.specs.Effects.{AreSoundTables, IsSoundOn};
 ghost use Rattle.planner_tables.specs.Questions.{column_names, IsSolved, IsSolvedWhere, IsSolveReply, linear_named, linear_outcome, rate_outcome, rate_reply, rates_outcome, rates_reply, row_rates_outcome, solved};
-ghost use Rattle.planner_tables.specs.Refusals.{Gives};
+ghost use Rattle.table_words.specs.Refusals.{Gives};
 
 use crate::changes::table_named;
 use crate::figures::{answer_figures, summed};

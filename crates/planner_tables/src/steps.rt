@@ -3,9 +3,9 @@ ghost use Rattle.std.specs.Prelude.{◌≡◌, ◌≢◌, ◌<◌, Ok, Err, IfOk
 ghost use Rattle.game_types.specs.Goods.{good_count};
 ghost use Rattle.game_types.specs.Sound.{IsSound, IsSoundSetup};
 ghost use Rattle.production_table.specs.Changes.{with_balance, with_import, with_price, with_row, with_surplus, with_want, without_row};
-ghost use Rattle.planner_tables.specs.declared.refusals.TableRefusal.{TableRefusal as RefusalOf};
+ghost use Rattle.table_words.specs.declared.refusals.TableRefusal.{TableRefusal as RefusalOf};
 ghost use Rattle.planner_tables.specs.Effects.{IsSoundOn, table_after};
-ghost use Rattle.planner_tables.specs.Refusals.{cause};
+ghost use Rattle.planner_tables.specs.Causes.{cause};
 ghost use Rattle.planner_tables.specs.Steps.{IsRefused, MakesTable, StepFits, step_effect};
 
 use crate::undos::copied;

@@ -25,7 +25,7 @@ use Rattle.plan_report.specs.declared.reply.RefusalCode.{RefusalCode}
 use Rattle.plan_report.specs.declared.reply.Reply.{Reply}
 use Rattle.planner_tables.specs.Effects.{named, table_at, table_named}
 use Rattle.planner_tables.specs.Questions.{IsSolveReply, IsSolveReplyAt, IsSolved, IsSolvedWhere, answered, linear_named, linear_outcome, rate_outcome, rate_reply, rates_outcome, row_rates_outcome, solved}
-use Rattle.planner_tables.specs.Refusals as tables
+use Rattle.table_words.specs.Refusals as tables
 use Rattle.state_changes.specs.Actions.{Outcome, can_be_held, node_named}
 use Rattle.state_changes.specs.Effects.{effect_of}
 use Rattle.state_changes.specs.States.{State}

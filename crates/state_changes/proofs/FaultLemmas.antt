@@ -4,9 +4,9 @@ use Rattle.std.specs.Prelude.{◌≢◌}
 use Rattle.data_edit.specs.declared.edits.EditFault.{EditFault}
 use Rattle.data_edit.specs.declared.edits.EditFault.TheVariants as of_edit
 use Rattle.edit_undo.specs.Edits.{IsFaultOf}
-use Rattle.planner_tables.specs.declared.refusals.ChangeFault.{ChangeFault as TablesFault}
-use Rattle.planner_tables.specs.declared.refusals.ChangeFault.TheVariants as tables
-use Rattle.planner_tables.specs.declared.refusals.TableRefusal.{TableRefusal}
+use Rattle.table_words.specs.declared.refusals.ChangeFault.{ChangeFault as TablesFault}
+use Rattle.table_words.specs.declared.refusals.ChangeFault.TheVariants as tables
+use Rattle.table_words.specs.declared.refusals.TableRefusal.{TableRefusal}
 use Rattle.state_changes.specs.declared.refusals.Refusal.{Refusal}
 use Rattle.state_changes.specs.declared.refusals.Refusal.TheVariants.{OfEdit, OfTables}
 use Rattle.state_changes.specs.declared.refusals.ChangeFault.{ChangeFault}

@@ -6,8 +6,8 @@ use Rattle.milestone_masks.specs.declared.worlds.MilestoneFault.{MilestoneFault}
 use Rattle.milestone_masks.specs.declared.worlds.MilestoneFault.TheVariants as of_milestone
 use Rattle.edit_undo.specs.declared.editable.EntryFault.{EntryFault}
 use Rattle.edit_undo.specs.declared.editable.EntryFault.TheVariants as entry
-use Rattle.planner_tables.specs.declared.refusals.ChangeFault.{ChangeFault as TablesFault}
-use Rattle.planner_tables.specs.declared.refusals.ChangeFault.TheVariants as of_tables
+use Rattle.table_words.specs.declared.refusals.ChangeFault.{ChangeFault as TablesFault}
+use Rattle.table_words.specs.declared.refusals.ChangeFault.TheVariants as of_tables
 use Rattle.state_changes.specs.declared.refusals.Refusal.{Refusal}
 use Rattle.state_changes.specs.declared.refusals.Refusal.TheVariants.{OfEdit, OfMilestone, OfTables}
 use Rattle.state_changes.specs.declared.refusals.ChangeFault.{ChangeFault}

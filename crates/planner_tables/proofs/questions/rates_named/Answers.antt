@@ -1,6 +1,6 @@
 use Rattle.std.proofs.Common.{◌∙◌, sym, subst}
 use Rattle.plan_report.specs.declared.reply.Reply.{Reply}
-use Rattle.planner_tables.specs.Refusals.{Gives, Outcome}
+use Rattle.table_words.specs.Refusals.{Gives, Outcome}
 use Rattle.planner_tables.proofs.ChangeLemmas.{table_read}
 use Rattle.planner_tables.proofs.QuestionLemmas.{rate_at}
 use Rattle.planner_tables.proofs.questions.rates_named.Goals as goal

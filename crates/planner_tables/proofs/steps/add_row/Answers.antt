@@ -1,7 +1,7 @@
 use Rattle.std.proofs.Common.{◌≡◌, ◌≢◌, ℕ, List, Ok, Err, subst}
 use Rattle.production_table.specs.declared.faults.TableFault.TheVariants.{NoMemory}
 use Rattle.production_table.specs.Changes.{with_row}
-use Rattle.planner_tables.specs.declared.refusals.TableRefusal.TheVariants.{NoName}
+use Rattle.table_words.specs.declared.refusals.TableRefusal.TheVariants.{NoName}
 use Rattle.planner_tables.proofs.StepLemmas.{refused_as, row_made}
 use Rattle.planner_tables.proofs.steps.add_row.Goals as goal
 

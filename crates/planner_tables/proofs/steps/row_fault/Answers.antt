@@ -1,4 +1,4 @@
-use Rattle.planner_tables.specs.declared.refusals.TableRefusal.TheVariants.{NoName}
+use Rattle.table_words.specs.declared.refusals.TableRefusal.TheVariants.{NoName}
 use Rattle.planner_tables.proofs.steps.row_fault.Goals as goal
 
 pub returns-in_default : goal.returns-in_default

@@ -1,4 +1,4 @@
-use Rattle.planner_tables.specs.declared.refusals.TableRefusal.TheVariants.{NoPrice}
+use Rattle.table_words.specs.declared.refusals.TableRefusal.TheVariants.{NoPrice}
 use Rattle.planner_tables.proofs.StepLemmas.{surplus_made}
 use Rattle.planner_tables.proofs.steps.set_surplus.Goals as goal
 

@@ -1,4 +1,4 @@
-use Rattle.planner_tables.specs.declared.refusals.TableRefusal.TheVariants.{NoPrice}
+use Rattle.table_words.specs.declared.refusals.TableRefusal.TheVariants.{NoPrice}
 use Rattle.planner_tables.proofs.StepLemmas.{want_made}
 use Rattle.planner_tables.proofs.steps.set_want.Goals as goal
 

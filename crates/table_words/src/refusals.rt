@@ -1,7 +1,7 @@
 //! Why a change of tables, or a question about them, is refused.
 ghost use Rattle.std.specs.Prelude.{◌≡◌};
 ghost use Rattle.game_types.specs.Sound.{IsSound};
-ghost use Rattle.planner_tables.specs.Refusals.{beacon_code, beacon_detail, code_of, detail_of, fuel_code, good_node, machine_code, machine_detail, machine_node, module_code, module_detail, power_code, refused, setup_code, setup_detail};
+ghost use Rattle.table_words.specs.Refusals.{beacon_code, beacon_detail, code_of, detail_of, fuel_code, good_node, machine_code, machine_detail, machine_node, module_code, module_detail, power_code, refused, setup_code, setup_detail};
 
 use game_types::{BeaconFault, FuelFault, Game, MachineFault, ModuleFault};
 use plan_base::{EntityId, GoodId, Kind, NoMemory, NodeId, Text};
@@ -40,7 +40,7 @@ pub enum ChangeFault {
 }
 
 impl From<NoMemory> for ChangeFault {
-    ghost use Rattle.planner_tables.specs.declared.refusals.ChangeFault.TheVariants.{NoMemory as OutOfMemory};
+    ghost use Rattle.table_words.specs.declared.refusals.ChangeFault.TheVariants.{NoMemory as OutOfMemory};
 
     ghost from_gives = { λ _ fault. fault ≡ OutOfMemory };
 

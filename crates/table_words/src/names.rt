@@ -6,9 +6,9 @@ ghost use Rattle.std.specs.Bool.{OnTrue};
 ghost use Rattle.game_types.specs.Lookups.{item_at};
 ghost use Rattle.game_types.specs.Nodes.{shape_of};
 ghost use Rattle.game_types.specs.Sound.{IsBeacon, IsFluid, IsModule, IsSound, IsSoundActivity, IsSoundSetup};
-ghost use Rattle.planner_tables.specs.declared.refusals.TableRefusal.{TableRefusal};
-ghost use Rattle.planner_tables.specs.Names.{activity_at, activity_named, bare_setup, beacon_named, fluid_activity, fluid_named, good_at, good_named, in_last, is_activity, is_beacon, is_boiler, item_named, machine_named, module_named, place_named, setup_named, with_part, with_parts};
-ghost use Rattle.planner_tables.specs.Refusals.{Gives};
+ghost use Rattle.table_words.specs.declared.refusals.TableRefusal.{TableRefusal};
+ghost use Rattle.table_words.specs.Names.{activity_at, activity_named, bare_setup, beacon_named, fluid_activity, fluid_named, good_at, good_named, in_last, is_activity, is_beacon, is_boiler, item_named, machine_named, module_named, place_named, setup_named, with_part, with_parts};
+ghost use Rattle.table_words.specs.Refusals.{Gives};
 
 use crate::{ChangeFault, TableRefusal};
 use game_types::{Activity, BeaconGroup, Game, MachineKind, Setup};

@@ -17,8 +17,6 @@ use Rattle.game_types.specs.Goods.{good_count, node_of_good}
 use Rattle.game_types.specs.Nodes.{node_at}
 use Rattle.power_rows.specs.declared.checks.PowerFault.{PowerFault}
 use Rattle.power_rows.specs.declared.checks.PowerFault.TheVariants as power
-use Rattle.production_table.specs.declared.faults.TableFault.{TableFault}
-use Rattle.production_table.specs.declared.faults.TableFault.TheVariants as of_table
 use Rattle.table_rows.specs.declared.faults.SetupFault.{SetupFault}
 use Rattle.table_rows.specs.declared.faults.SetupFault.TheVariants as setup
 use Rattle.plan_report.specs.declared.reply.Detail.{Detail}
@@ -27,10 +25,10 @@ use Rattle.plan_report.specs.declared.reply.RefusalCode.{RefusalCode}
 use Rattle.plan_report.specs.declared.reply.RefusalCode.TheVariants as code
 use Rattle.plan_report.specs.declared.reply.Reply.{Reply}
 use Rattle.plan_report.specs.declared.reply.Reply.TheVariants as reply
-use Rattle.planner_tables.specs.declared.refusals.TableRefusal.{TableRefusal}
-use Rattle.planner_tables.specs.declared.refusals.TableRefusal.TheVariants.{Unknown, NoName, NoPrice, Negative, Full, NameUsed, Setup, Wide}
-use Rattle.planner_tables.specs.declared.refusals.ChangeFault.{ChangeFault}
-use Rattle.planner_tables.specs.declared.refusals.ChangeFault.TheVariants.{Refused}
+use Rattle.table_words.specs.declared.refusals.TableRefusal.{TableRefusal}
+use Rattle.table_words.specs.declared.refusals.TableRefusal.TheVariants.{Unknown, NoName, NoPrice, Negative, Full, NameUsed, Setup, Wide}
+use Rattle.table_words.specs.declared.refusals.ChangeFault.{ChangeFault}
+use Rattle.table_words.specs.declared.refusals.ChangeFault.TheVariants.{Refused}
 
 -- a value, or why there is none
 abbrev pub Outcome : Type 0 → Type 0
@@ -40,23 +38,6 @@ Outcome A = Result A TableRefusal
 abbrev pub Gives : {A : Type 0} → Outcome A → Result A ChangeFault → Type 0
 Gives meant (Ok value) = meant ≡ Ok value
 Gives meant (Err fault) = (refusal : TableRefusal) → fault ≡ Refused refusal → meant ≡ Err refusal
-
--- ---- the refusals of one table
--- What a table doesn't know is told: a row's name, or a good that has no price. Want of memory is no cause, and no table that
--- is meant gives it.
-abbrev pub cause : TableRefusal → TableFault → TableRefusal
-cause unknown of_table.NoMemory = unknown
-cause unknown of_table.Unknown = unknown
-cause unknown of_table.Negative = Negative
-cause unknown of_table.Full = Full
-cause unknown of_table.LabelUsed = NameUsed
-cause unknown (of_table.Setup fault) = Setup fault
-cause unknown (of_table.Wide label step) = Wide label step
-
--- what a table is, or the cause that there is none
-abbrev pub caused : {A : Type 0} → TableRefusal → Result A TableFault → Outcome A
-caused unknown (Ok value) = Ok value
-caused unknown (Err fault) = Err (cause unknown fault)
 
 -- ---- codes
 abbrev pub machine_code : MachineFault → RefusalCode

@@ -18,9 +18,9 @@ use Rattle.game_types.specs.Sound.{IsBeacon, IsBeaconKind, IsFluid, IsModule, Is
 use Rattle.game_types.specs.Steps.{◌▸◌}
 use Rattle.game_types.proofs.Walks.{next as next_of, drop_all}
 use Rattle.script_reader.specs.declared.change.RowPart.{RowPart}
-use Rattle.planner_tables.specs.declared.refusals.TableRefusal.{TableRefusal}
-use Rattle.planner_tables.specs.Names.{group_of, in_last, is_beacon, with_part, with_parts}
-use Rattle.planner_tables.specs.Refusals.{Outcome}
+use Rattle.table_words.specs.declared.refusals.TableRefusal.{TableRefusal}
+use Rattle.table_words.specs.Names.{group_of, in_last, is_beacon, with_part, with_parts}
+use Rattle.table_words.specs.Refusals.{Outcome}
 
 -- ---- modules and beacons
 module_there : (g : Game) (good : GoodId) → good.0 < length g.items → is_some (item_at g good).«module» ≡ true → IsModule g good

@@ -1,8 +1,8 @@
 use Rattle.std.proofs.Common.{List, sym, subst}
 use Rattle.game_types.specs.declared.setups.BeaconGroup.{BeaconGroup}
 use Rattle.game_types.specs.Sound.{IsSoundSetup}
-use Rattle.planner_tables.proofs.NameLemmas.{in_added}
-use Rattle.planner_tables.proofs.names.with_module_in.Goals as goal
+use Rattle.table_words.proofs.NameLemmas.{in_added}
+use Rattle.table_words.proofs.names.with_module_in.Goals as goal
 
 pub returns-clause-sound : goal.returns-clause-sound
 returns-clause-sound c =

@@ -20,8 +20,8 @@ use Rattle.game_types.specs.Steps.{◌▸◌}
 use Rattle.script_reader.specs.declared.change.Object.{Object}
 use Rattle.script_reader.specs.declared.change.RowPart.{RowPart}
 use Rattle.script_reader.specs.declared.change.RowPart.TheVariants as part
-use Rattle.planner_tables.specs.declared.refusals.TableRefusal.TheVariants.{Unknown}
-use Rattle.planner_tables.specs.Refusals.{Outcome}
+use Rattle.table_words.specs.declared.refusals.TableRefusal.TheVariants.{Unknown}
+use Rattle.table_words.specs.Refusals.{Outcome}
 
 -- ---- one word
 -- what a word names, or that it names nothing

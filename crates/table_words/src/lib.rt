@@ -1,0 +1,8 @@
+//! What the words of lines about production tables name, goods and set-ups, and why such a line is refused.
+#![tactic(auto)]
+
+mod names;
+mod refusals;
+
+pub use names::{good_named, setup_named};
+pub use refusals::{ChangeFault, TableRefusal, code_of, detail_of, refused};
