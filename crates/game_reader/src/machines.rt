@@ -4,8 +4,8 @@ ghost use Rattle.prototype_fields.specs.Values.{Gives};
 ghost use Rattle.game_reader.specs.Links.{linked_energy, linked_kind, linked_machine};
 
 use crate::families::Families;
-use dump_reader::{RawEnergy, RawKind, RawMachine};
 use game_types::{Energy, Machine, MachineKind};
+use machine_reader::{RawEnergy, RawKind, RawMachine};
 use prototype_fields::{FieldFault, Key, Within};
 use std::alloc::Global;
 

@@ -1,7 +1,6 @@
 //! The sections of a dump that are read.
 ghost use Rattle.std.specs.Prelude.{◌≡◌};
-ghost use Rattle.dump_reader.specs.Draft.{class_of};
-ghost use Rattle.dump_reader.specs.Sections.{section_text};
+ghost use Rattle.machine_reader.specs.Sections.{class_of, section_text};
 
 /// A section of a dump: the prototypes of one type.
 #[derive(Clone, Copy, Debug, PartialEq, Eq)]

@@ -1,8 +1,10 @@
 -- The sections of a dump that are read, in the order in which they are read. The names are those of the prototype
 -- documentation of Factorio 1.1.
 use Rattle.std.specs.Prelude.{ℕ, List, codes}
-use Rattle.dump_reader.specs.declared.sections.Section.{Section}
-use Rattle.dump_reader.specs.declared.sections.Section.TheVariants as s
+use Rattle.machine_reader.specs.declared.sections.Class.{Class}
+use Rattle.machine_reader.specs.declared.sections.Class.TheVariants as class
+use Rattle.machine_reader.specs.declared.sections.Section.{Section}
+use Rattle.machine_reader.specs.declared.sections.Section.TheVariants as s
 
 -- a section's type as a dump spells it
 abbrev pub section_text : Section → List ℕ
@@ -46,3 +48,27 @@ section_text s.Lab = codes "lab"
 section_text s.Beacon = codes "beacon"
 section_text s.Character = codes "character"
 section_text s.Technology = codes "technology"
+
+-- what the prototypes of a section are
+abbrev pub class_of : Section → Class
+class_of s.Fluid = class.Fluids
+class_of s.Recipe = class.Recipes
+class_of s.Resource = class.Sources
+class_of s.Tree = class.Sources
+class_of s.SimpleEntity = class.Sources
+class_of s.Fish = class.Sources
+class_of s.AssemblingMachine = class.Machines
+class_of s.Furnace = class.Machines
+class_of s.RocketSilo = class.Machines
+class_of s.MiningDrill = class.Machines
+class_of s.OffshorePump = class.Machines
+class_of s.Boiler = class.Machines
+class_of s.Generator = class.Machines
+class_of s.BurnerGenerator = class.Machines
+class_of s.SolarPanel = class.Machines
+class_of s.Reactor = class.Machines
+class_of s.Lab = class.Machines
+class_of s.Beacon = class.Machines
+class_of s.Character = class.Characters
+class_of s.Technology = class.Technologies
+class_of other = class.Items

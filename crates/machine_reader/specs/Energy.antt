@@ -4,17 +4,17 @@ use Rattle.std.specs.Prelude.{ℕ, List, ◌∷◌, [], Option, Some, None, Ok, 
 use Rattle.std.specs.Str.{bytes_eq}
 use Rattle.json_text.specs.Kept.{Kept}
 use Rattle.fractions.specs.Fraction.{Fraction, zero_fraction, one_fraction}
-use Rattle.prototype_fields.specs.declared.names.Key.TheVariants.{TypeName, EmissionsPerMinute, Drain, FuelCategories, FuelCategory, Effectivity, FluidBox, Filter}
+use Rattle.prototype_fields.specs.declared.names.Key.TheVariants.{TypeName, EmissionsPerMinute, EnergySource, Drain, FuelCategories, FuelCategory, Effectivity, FluidBox, Filter}
 use Rattle.prototype_fields.specs.declared.names.Within.{Within}
 use Rattle.prototype_fields.specs.declared.names.Within.TheVariants as within
 use Rattle.prototype_fields.specs.declared.names.Key.{Key}
 use Rattle.prototype_fields.specs.Objects.{Object}
-use Rattle.prototype_fields.specs.Values.{Reading, ◌▸◌, Names, text, required, of_kind, name, name_or, number_or, positive_or, power, list, category, categories, object_or_empty}
-use Rattle.dump_reader.specs.declared.energy.Source.{Source}
-use Rattle.dump_reader.specs.declared.energy.EnergyKind.{EnergyKind}
-use Rattle.dump_reader.specs.declared.energy.EnergyKind.TheVariants as kind
-use Rattle.dump_reader.specs.declared.raw.RawEnergy.{RawEnergy}
-use Rattle.dump_reader.specs.declared.raw.RawEnergy.TheVariants.{Electric, Burner, Heat, Fluid, Void}
+use Rattle.prototype_fields.specs.Values.{Reading, ◌▸◌, Names, text, required, of_kind, name, name_or, number_or, positive_or, power, list, category, categories, required_object, object_or_empty}
+use Rattle.machine_reader.specs.declared.energy.Source.{Source}
+use Rattle.machine_reader.specs.declared.energy.EnergyKind.{EnergyKind}
+use Rattle.machine_reader.specs.declared.energy.EnergyKind.TheVariants as kind
+use Rattle.machine_reader.specs.declared.raw.RawEnergy.{RawEnergy}
+use Rattle.machine_reader.specs.declared.raw.RawEnergy.TheVariants.{Electric, Burner, Heat, Fluid, Void}
 
 -- the fluid that a box is filtered to
 unfoldable pub filter_of : Object → Key → Within → Reading (Option (List ℕ))
@@ -80,6 +80,12 @@ source_of object names =
     kind_of object ▸ λ named.
     number_or object EmissionsPerMinute zero_fraction ▸ λ emissions.
     source_by object names emissions named
+
+-- the source of a machine
+unfoldable pub machine_source_of : Object → Names → Reading (Source × Names)
+machine_source_of object names =
+    required_object object EnergySource within.EnergySource ▸ λ source_object.
+    source_of source_object names
 
 -- a source that burns, whose kind isn't read
 unfoldable pub burner_source_of : Object → Names → Reading (Source × Names)

@@ -3,9 +3,9 @@ ghost use Rattle.std.specs.Prelude.{◌≡◌, option_map};
 ghost use Rattle.json_text.specs.SpanSeen.{spans_seen};
 ghost use Rattle.prototype_fields.specs.Seen.{object_seen};
 ghost use Rattle.prototype_fields.specs.Values.{Gives, with_names};
-ghost use Rattle.dump_reader.specs.Energy.{filter_of, one_category, fuel_categories_in, fuel_categories_of, burner_of, fluid_energy_of, kind_named, kind_of, source_by, source_of, burner_source_of};
+ghost use Rattle.machine_reader.specs.Energy.{filter_of, one_category, fuel_categories_in, fuel_categories_of, burner_of, fluid_energy_of, kind_named, kind_of, source_by, source_of, machine_source_of, burner_source_of};
 
-use crate::goods::owned;
+use crate::names::read_name;
 use crate::raw::RawEnergy;
 use fractions::Ratio;
 use json_text::SpanTree;
@@ -43,7 +43,7 @@ pub fn read_filter(
     ensures { Gives (filter_of (object_seen fields.now) key within) result }
 {
     let fluid_box = fields.object_or_empty(key, within)?;
-    Ok(owned(alloc, fluid_box.name(Key::Filter)?)?)
+    read_name(alloc, &fluid_box, Key::Filter)
 }
 
 // One category alone.
@@ -187,9 +187,9 @@ fn source_by(
     }
 }
 
-/// An energy source.
+// An energy source.
 #[tactic(auto, unfolding(crate::specs::Energy::source_of))]
-pub fn read_source(
+fn read_source(
     alloc: Global,
     fields: &Fields<'_, '_>,
     names: &mut Names,
@@ -199,6 +199,19 @@ pub fn read_source(
     let kind = read_kind(fields)?;
     let emissions = fields.number_or(Key::EmissionsPerMinute, Ratio::zero())?;
     source_by(alloc, fields, emissions, kind, names)
+}
+
+/// The energy source of a machine.
+#[tactic(auto, unfolding(crate::specs::Energy::machine_source_of))]
+pub fn read_machine_source(
+    alloc: Global,
+    fields: &Fields<'_, '_>,
+    names: &mut Names,
+) -> Result<Source, FieldFault>
+    ensures { Gives (machine_source_of (object_seen fields.now) names.old) (with_names names.new result) }
+{
+    let source = fields.required_object(Key::EnergySource, Within::EnergySource)?;
+    read_source(alloc, &source, names)
 }
 
 /// A source that burns, whose kind isn't read.
