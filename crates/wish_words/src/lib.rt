@@ -1,0 +1,8 @@
+//! The words of the program that makes a table for a wish: its command, and what the words ask for.
+#![tactic(auto)]
+
+mod options;
+mod words;
+
+pub use options::command;
+pub use words::{Asked, AskedBeacon, AskedImport, Named, WordFault, read_asked};
