@@ -189,10 +189,10 @@ pub fn wish_of<'a>(alloc: Global, game: &Game, asked: &Asked<'a>) -> Result<Wish
 {
     let by = machines(alloc, game, asked.by.as_slice())?;
     let imports = imports(alloc, game, asked.imports.as_slice())?;
-    let module = filled(game, asked.module)?;
-    let beacon = surrounding(game, asked.beacon)?;
+    let module = filled(game, asked.setup.module)?;
+    let beacon = surrounding(game, asked.setup.beacon)?;
     let good = good(game, asked.good)?;
-    let fuel = item(game, asked.fuel)?;
+    let fuel = item(game, asked.setup.fuel)?;
     Ok(Wish {
         good,
         rate: asked.rate,

@@ -5,4 +5,4 @@ mod options;
 mod words;
 
 pub use options::command;
-pub use words::{Asked, AskedBeacon, AskedImport, Named, WordFault, read_asked};
+pub use words::{Asked, AskedBeacon, AskedImport, AskedSetup, Named, Wanted, WordFault, read_asked};

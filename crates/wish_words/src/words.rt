@@ -3,7 +3,7 @@ use clap::ArgMatches;
 use fractions::{Ratio, read_ratio};
 use plan_base::{Kind, NoMemory};
 use script_reader::{Place, ScriptFault, count_at, object_at};
-use std::alloc::{AllocFailed, Global};
+use std::alloc::Global;
 
 /// An object as a word names it, such as `item:iron-plate`.
 #[derive(Clone, Copy)]
@@ -28,6 +28,14 @@ pub struct AskedImport<'a> {
     pub price: Ratio,
 }
 
+/// How each machine is set up.
+#[derive(Clone, Copy)]
+pub struct AskedSetup<'a> {
+    pub module: Option<Named<'a>>,
+    pub beacon: Option<AskedBeacon<'a>>,
+    pub fuel: Option<Named<'a>>,
+}
+
 /// What the words ask for.
 #[derive(Drop)]
 pub struct Asked<'a> {
@@ -37,9 +45,7 @@ pub struct Asked<'a> {
     pub good: Named<'a>,
     pub rate: Ratio,
     pub by: Vec<Named<'a>>,
-    pub module: Option<Named<'a>>,
-    pub beacon: Option<AskedBeacon<'a>>,
-    pub fuel: Option<Named<'a>>,
+    pub setup: AskedSetup<'a>,
     pub imports: Vec<AskedImport<'a>>,
     pub dig: bool,
     pub power: bool,
@@ -83,12 +89,6 @@ pub enum WordFault<'a> {
     /// A word isn't what it has to be.
     Bad(&'a str, Wanted),
     NoMemory,
-}
-
-impl<'a, T: Drop> From<AllocFailed<T>> for WordFault<'a> {
-    fn from(_: AllocFailed<T>) -> WordFault<'a> {
-        WordFault::NoMemory
-    }
 }
 
 impl WordFault<'_> {
@@ -170,6 +170,20 @@ fn rate(word: &str) -> Result<Ratio, WordFault<'_>> {
     }
 }
 
+fn add_machine<'a>(
+    alloc: Global,
+    word: &'a str,
+    machines: &mut Vec<Named<'a>>,
+) -> Result<(), WordFault<'a>> {
+    match machine(alloc, word) {
+        Ok(machine) => match machines.push(machine) {
+            Ok(()) => Ok(()),
+            Err(_) => Err(WordFault::NoMemory),
+        },
+        Err(fault) => Err(fault),
+    }
+}
+
 fn machines<'a>(
     alloc: Global,
     words: Option<&[&'a str]>,
@@ -177,7 +191,7 @@ fn machines<'a>(
     let mut machines = Vec::new(alloc);
     if let Some(words) = words {
         for word in words {
-            machines.push(machine(alloc, *word)?)?;
+            add_machine(alloc, *word, &mut machines)?;
         }
     }
     Ok(machines)
@@ -229,23 +243,80 @@ fn optional_item<'a>(
     }
 }
 
+// How many beacons there are, and how many machines share each.
+fn counts<'a>(count_word: &'a str, share: &'a str) -> Result<(u32, u32), WordFault<'a>> {
+    let number = count(count_word)?;
+    let share = count(share)?;
+    Ok((number, share))
+}
+
 fn beacon<'a>(
+    alloc: Global,
+    machine_word: &'a str,
+    count: &'a str,
+    share: &'a str,
+    item_word: &'a str,
+) -> Result<AskedBeacon<'a>, WordFault<'a>> {
+    let machine = machine(alloc, machine_word)?;
+    let (count, share) = counts(count, share)?;
+    let item = item(alloc, item_word)?;
+    Ok(AskedBeacon {
+        machine,
+        count,
+        share,
+        item,
+    })
+}
+
+fn optional_beacon<'a>(
     alloc: Global,
     words: Option<&[&'a str]>,
 ) -> Result<Option<AskedBeacon<'a>>, WordFault<'a>> {
-    let Some([machine_word, count_word, share, item_word]) = words else {
-        return Ok(None);
-    };
-    let machine = machine(alloc, *machine_word)?;
-    let count_of = count(*count_word)?;
-    let share = count(*share)?;
-    let item = item(alloc, *item_word)?;
-    Ok(Some(AskedBeacon {
-        machine,
-        count: count_of,
-        share,
-        item,
-    }))
+    match words {
+        Some([machine, count, share, item]) => {
+            match beacon(alloc, *machine, *count, *share, *item) {
+                Ok(beacon) => Ok(Some(beacon)),
+                Err(fault) => Err(fault),
+            }
+        }
+        _ => Ok(None),
+    }
+}
+
+fn setup<'a>(alloc: Global, matches: &ArgMatches<'a>) -> Result<AskedSetup<'a>, WordFault<'a>> {
+    let module = optional_item(alloc, matches.get_str("module"))?;
+    let beacon = optional_beacon(alloc, matches.get_strs("beacon"))?;
+    let fuel = optional_item(alloc, matches.get_str("fuel"))?;
+    Ok(AskedSetup {
+        module,
+        beacon,
+        fuel,
+    })
+}
+
+// What the options ask for beside this much of a good.
+fn read_options<'a>(
+    alloc: Global,
+    matches: &ArgMatches<'a>,
+    dump: &'a str,
+    good: Named<'a>,
+    rate: Ratio,
+) -> Result<Asked<'a>, WordFault<'a>> {
+    let by = machines(alloc, matches.get_strs("by"))?;
+    let imports = imports(alloc, matches.get_strs("import"))?;
+    let setup = setup(alloc, matches)?;
+    Ok(Asked {
+        dump,
+        script: matches.get_str("script"),
+        table: matches.get_str("table").unwrap_or("wish"),
+        good,
+        rate,
+        by,
+        setup,
+        imports,
+        dig: matches.get_flag("dig"),
+        power: matches.get_flag("power"),
+    })
 }
 
 /// What the matched words ask for.
@@ -263,23 +334,5 @@ pub fn read_asked<'a>(alloc: Global, matches: &ArgMatches<'a>) -> Result<Asked<'
     };
     let good = good(alloc, good_word)?;
     let rate = rate(rate_word)?;
-    let by = machines(alloc, matches.get_strs("by"))?;
-    let imports = imports(alloc, matches.get_strs("import"))?;
-    let module = optional_item(alloc, matches.get_str("module"))?;
-    let beacon = beacon(alloc, matches.get_strs("beacon"))?;
-    let fuel = optional_item(alloc, matches.get_str("fuel"))?;
-    Ok(Asked {
-        dump,
-        script: matches.get_str("script"),
-        table: matches.get_str("table").unwrap_or("wish"),
-        good,
-        rate,
-        by,
-        module,
-        beacon,
-        fuel,
-        imports,
-        dig: matches.get_flag("dig"),
-        power: matches.get_flag("power"),
-    })
+    read_options(alloc, matches, dump, good, rate)
 }
