@@ -3,7 +3,7 @@ ghost use Rattle.planning_state.specs.States.{State};
 ghost use Rattle.planner_core.specs.Lines.{IsSessionOf};
 
 use crate::saying::Failure;
-use plan_base::{Kind, NodeId, NoMemory, Steps, Text};
+use plan_base::{Kind, NoMemory, NodeId, Steps, Text};
 use plan_report::{Reply, print_reply};
 use planner_core::Planner;
 use program_runs::{answered, step};

@@ -13,11 +13,7 @@ fn word<'a>(alloc: Global, name: &'a str, help: &'a str) -> Arg<'a> {
 }
 
 // A command of a dump and a script.
-fn command<'a>(
-    alloc: Global,
-    program: &'a str,
-    about: &'a str,
-) -> Result<Command<'a>, AllocError> {
+fn command<'a>(alloc: Global, program: &'a str, about: &'a str) -> Result<Command<'a>, AllocError> {
     Command::new(alloc, program)
         .version(VERSION)
         .about(about)

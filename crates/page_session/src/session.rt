@@ -92,14 +92,7 @@ fn add_reply(
         Reply::Solved { table, .. } => {
             add_solved(alloc, planner, table.as_str(), line, reply, page)
         }
-        _ => page.add(
-            alloc,
-            line.number,
-            line.words,
-            planner.game(),
-            None,
-            reply,
-        ),
+        _ => page.add(alloc, line.number, line.words, planner.game(), None, reply),
     }
 }
 

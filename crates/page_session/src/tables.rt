@@ -33,7 +33,10 @@ pub fn linear_form(alloc: Global, game: &Game, table: &Table) -> Result<Option<L
 }
 
 /// A table with its linear form, where it has one.
-pub fn with_form<'a>(table: &'a Table, linear: &'a Option<Linear>) -> Option<(&'a Table, &'a Linear)> {
+pub fn with_form<'a>(
+    table: &'a Table,
+    linear: &'a Option<Linear>,
+) -> Option<(&'a Table, &'a Linear)> {
     match linear {
         Some(linear) => Some((table, linear)),
         None => None,

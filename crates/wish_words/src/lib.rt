@@ -5,4 +5,6 @@ mod options;
 mod words;
 
 pub use options::command;
-pub use words::{Asked, AskedBeacon, AskedImport, AskedSetup, Named, Wanted, WordFault, read_asked};
+pub use words::{
+    Asked, AskedBeacon, AskedImport, AskedSetup, Named, Wanted, WordFault, read_asked,
+};

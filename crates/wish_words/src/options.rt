@@ -61,15 +61,13 @@ fn with_files<'a>(alloc: Global, command: Command<'a>) -> Result<Command<'a>, Al
 // How the machines are set up.
 fn with_machines<'a>(alloc: Global, command: Command<'a>) -> Result<Command<'a>, AllocError> {
     command
-        .arg(
-            option(
-                alloc,
-                "by",
-                "MACHINE",
-                "a machine to take before faster ones",
-            )
-            .action(ArgAction::Append),
-        )?
+        .arg(option(
+            alloc,
+            "by",
+            "MACHINE",
+            "a machine to take before faster ones",
+        )
+        .action(ArgAction::Append))?
         .arg(option(
             alloc,
             "module",
@@ -88,21 +86,15 @@ fn with_machines<'a>(alloc: Global, command: Command<'a>) -> Result<Command<'a>,
 // Where the walk back ends.
 fn with_ends<'a>(alloc: Global, command: Command<'a>) -> Result<Command<'a>, AllocError> {
     command
-        .arg(
-            option(
-                alloc,
-                "import",
-                "GOOD=PRICE",
-                "take a good as it is, at a price of one unit",
-            )
-            .action(ArgAction::Append),
-        )?
-        .arg(flag(alloc, "dig", "mine what sources give"))?
-        .arg(flag(
+        .arg(option(
             alloc,
-            "power",
-            "make the electric power in the table",
-        ))
+            "import",
+            "GOOD=PRICE",
+            "take a good as it is, at a price of one unit",
+        )
+        .action(ArgAction::Append))?
+        .arg(flag(alloc, "dig", "mine what sources give"))?
+        .arg(flag(alloc, "power", "make the electric power in the table"))
 }
 
 /// The command.

@@ -54,8 +54,6 @@ pub struct Asked<'a> {
 /// What a word has to be.
 #[derive(Clone, Copy)]
 pub enum Wanted {
-    /// The words that must be there.
-    Words,
     Good,
     Machine,
     Item,
@@ -71,7 +69,6 @@ impl Wanted {
     /// How it is written.
     pub fn text(self) -> &'static str {
         match self {
-            Wanted::Words => "DUMP GOOD RATE",
             Wanted::Good => "good: item:NAME, fluid:NAME, tech:NAME or special:electricity",
             Wanted::Machine => "machine:NAME",
             Wanted::Item => "item:NAME",
@@ -184,10 +181,7 @@ fn add_machine<'a>(
     }
 }
 
-fn machines<'a>(
-    alloc: Global,
-    words: Option<&[&'a str]>,
-) -> Result<Vec<Named<'a>>, WordFault<'a>> {
+fn machines<'a>(alloc: Global, words: Option<&[&'a str]>) -> Result<Vec<Named<'a>>, WordFault<'a>> {
     let mut machines = Vec::new(alloc);
     if let Some(words) = words {
         for word in words {
@@ -294,11 +288,15 @@ fn setup<'a>(alloc: Global, matches: &ArgMatches<'a>) -> Result<AskedSetup<'a>, 
     })
 }
 
-// What the options ask for beside this much of a good.
+// The value of a word that must be there.
+fn value<'a>(matches: &ArgMatches<'a>, id: &str) -> &'a str {
+    matches.get_str(id).unwrap_or("")
+}
+
+// What is asked for beside so much of a good.
 fn read_options<'a>(
     alloc: Global,
     matches: &ArgMatches<'a>,
-    dump: &'a str,
     good: Named<'a>,
     rate: Ratio,
 ) -> Result<Asked<'a>, WordFault<'a>> {
@@ -306,7 +304,7 @@ fn read_options<'a>(
     let imports = imports(alloc, matches.get_strs("import"))?;
     let setup = setup(alloc, matches)?;
     Ok(Asked {
-        dump,
+        dump: value(matches, "dump"),
         script: matches.get_str("script"),
         table: matches.get_str("table").unwrap_or("wish"),
         good,
@@ -319,20 +317,13 @@ fn read_options<'a>(
     })
 }
 
-/// What the matched words ask for.
+/// What the matched words of the command ask for.
 ///
 /// # Errors
 ///
 /// The first word that can't stand where it does, or `NoMemory`.
 pub fn read_asked<'a>(alloc: Global, matches: &ArgMatches<'a>) -> Result<Asked<'a>, WordFault<'a>> {
-    let (Some(dump), Some(good_word), Some(rate_word)) = (
-        matches.get_str("dump"),
-        matches.get_str("good"),
-        matches.get_str("rate"),
-    ) else {
-        return Err(WordFault::Bad("", Wanted::Words));
-    };
-    let good = good(alloc, good_word)?;
-    let rate = rate(rate_word)?;
-    read_options(alloc, matches, dump, good, rate)
+    let good = good(alloc, value(matches, "good"))?;
+    let rate = rate(value(matches, "rate"))?;
+    read_options(alloc, matches, good, rate)
 }
