@@ -1,3 +1,1 @@
-pub mod Read
-pub mod Texts
-pub mod WordLemmas
+pub mod PlanTexts

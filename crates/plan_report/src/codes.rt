@@ -1,26 +1,9 @@
-// The words of kinds, of refusals and of effects.
+// The words of refusals and of effects.
 ghost use Rattle.std.specs.Prelude.{◌≡◌};
-ghost use Rattle.script_reader.specs.Fields.{kind_word};
 ghost use Rattle.plan_report.specs.Codes.{code_word, effect_word};
 
 use crate::reply::RefusalCode;
 use game_types::EffectKind;
-use plan_base::Kind;
-
-/// The word that stands before the colon in the name of an object.
-pub fn kind_word(kind: Kind) -> &'static str
-    ensures { result.now ≡ kind_word kind }
-{
-    match kind {
-        Kind::Special => "special",
-        Kind::Item => "item",
-        Kind::Fluid => "fluid",
-        Kind::Recipe => "recipe",
-        Kind::Source => "source",
-        Kind::Machine => "machine",
-        Kind::Tech => "tech",
-    }
-}
 
 pub fn code_word(code: RefusalCode) -> &'static str
     ensures { result.now ≡ code_word code }

@@ -1,128 +1,24 @@
 //! The text of a reply.
 ghost use Rattle.std.specs.Prelude.{◌≡◌, ◌∷◌, ◌++◌, [], IfOk, string_bytes};
 ghost use Rattle.game_types.specs.Sound.{IsSound};
-ghost use Rattle.plan_report.specs.Layout.{further_text, line_then, reply_text};
+ghost use Rattle.node_report.specs.Layout.{further_text, line_then, reply_text};
 ghost use Rattle.plan_report.specs.Plans.{infeasible_lines, out_of_budget_lines, plan_further_lines, plan_lines, solved_lines, too_wide_lines};
-ghost use Rattle.plan_report.specs.Replies.{at_words, consumption_words, detail_words, forbidden_lines, masks_words, missing_lines, named_word, printed_reply, effects_words, fuel_words, history_words, rate_line, rates_words, reach_line, summary_line, why_lines};
+ghost use Rattle.plan_report.specs.Replies.{at_words, consumption_words, detail_words, effects_words, fuel_words, named_word, printed_reply, rate_line, rates_words};
 
-use crate::codes::{code_word, effect_word, kind_word};
-use crate::nodes::node_word;
+use crate::codes::{code_word, effect_word};
 use crate::plans::{
     exchange_lines, exchange_words, place_line, price_lines, row_lines, stream_lines, total_line,
 };
-use crate::questions::{
-    forbidden_line, group_lines, mask_end, node_lines, ranked_lines, why_lines,
-};
 use crate::reply::{Detail, Figures, RefusalCode, Reply};
-use crate::words::{object_word, printed_word};
 use fractions::Ratio;
 use game_types::{Effects, Game, Rates};
 use linear_table::{Column, Exchange, Place, Plan, SolveAnswer};
-use plan_base::{GoodId, Items, Kind, NoMemory, NodeId, Text};
+use node_report::{
+    list_text, mask_text, milestones_text, missing_text, node_word, object_word, printed_word,
+    reach_text, summary_text, why_text,
+};
+use plan_base::{GoodId, Kind, NoMemory, Text};
 use std::alloc::Global;
-
-fn reach_text(
-    alloc: Global,
-    line: u32,
-    game: &Game,
-    node: NodeId,
-    rank: u32,
-) -> Result<String, NoMemory>
-    requires { IsSound game.now }
-    ensures { IfOk result (λ text. string_bytes text ≡ reply_text line (reach_line game.now node rank ∷ [])) }
-{
-    let node = node_word(alloc, game, node)?;
-    if rank == 0 {
-        Ok(format!(in alloc; "{line} reach {node} no\n")?)
-    } else {
-        Ok(format!(in alloc; "{line} reach {node} rank {rank}\n")?)
-    }
-}
-
-fn list_text(
-    alloc: Global,
-    line: u32,
-    game: &Game,
-    kind: Kind,
-    nodes: &[(NodeId, u32)],
-) -> Result<String, NoMemory>
-    requires { IsSound game.now }
-    ensures { IfOk result (λ text. string_bytes text ≡ printed_reply game.now line (Reply.List kind nodes.now)) }
-{
-    let further = ranked_lines(alloc, game, nodes)?;
-    let kind = kind_word(kind);
-    let count = nodes.len();
-    Ok(format!(in alloc; "{line} list {kind} {count}\n{further}")?)
-}
-
-fn why_text(
-    alloc: Global,
-    line: u32,
-    game: &Game,
-    node: NodeId,
-    nodes: &[(NodeId, u32, bool)],
-) -> Result<String, NoMemory>
-    requires { IsSound game.now }
-    ensures { IfOk result (λ text. string_bytes text ≡ reply_text line (why_lines game.now node nodes.now)) }
-{
-    let node = node_word(alloc, game, node)?;
-    if nodes.is_empty() {
-        return Ok(format!(in alloc; "{line} why {node} no\n")?);
-    }
-    let further = why_lines(alloc, game, nodes)?;
-    Ok(format!(in alloc; "{line} why {node}\n{further}")?)
-}
-
-fn missing_text(
-    alloc: Global,
-    line: u32,
-    game: &Game,
-    node: NodeId,
-    reached: bool,
-    forbidden: bool,
-    groups: &[(bool, Items<NodeId>)],
-) -> Result<String, NoMemory>
-    requires { IsSound game.now }
-    ensures { IfOk result (λ text. string_bytes text ≡ reply_text line (missing_lines game.now node reached forbidden groups.now)) }
-{
-    let node = node_word(alloc, game, node)?;
-    if reached {
-        return Ok(format!(in alloc; "{line} missing {node} none\n")?);
-    }
-    let forbidden = forbidden_line(forbidden);
-    let groups = group_lines(alloc, game, groups)?;
-    Ok(format!(in alloc; "{line} missing {node}\n{forbidden}{groups}")?)
-}
-
-fn mask_text(
-    alloc: Global,
-    line: u32,
-    game: &Game,
-    node: NodeId,
-    reached: bool,
-    milestones: &[NodeId],
-) -> Result<String, NoMemory>
-    requires { IsSound game.now }
-    ensures { IfOk result (λ text. string_bytes text ≡ printed_reply game.now line (Reply.Mask node reached milestones.now)) }
-{
-    let node = node_word(alloc, game, node)?;
-    let words = mask_end(alloc, game, reached, milestones)?;
-    Ok(format!(in alloc; "{line} mask {node}{words}")?)
-}
-
-fn milestones_text(
-    alloc: Global,
-    line: u32,
-    game: &Game,
-    nodes: &[NodeId],
-) -> Result<String, NoMemory>
-    requires { IsSound game.now }
-    ensures { IfOk result (λ text. string_bytes text ≡ printed_reply game.now line (Reply.Milestones nodes.now)) }
-{
-    let further = node_lines(alloc, game, nodes)?;
-    let count = nodes.len();
-    Ok(format!(in alloc; "{line} milestones {count}\n{further}")?)
-}
 
 // The word at which a refusal comes.
 fn named_word(alloc: Global, kind: Option<Kind>, name: &str) -> Result<String, NoMemory>
@@ -328,45 +224,6 @@ fn solved_text(
             out_of_budget_text(alloc, line, game, table, labels, trail.as_slice())
         }
     }
-}
-
-// The end of a line: how many tables there are, and how many entries are done and undone.
-fn history_end(alloc: Global, tables: u32, done: u64, undone: u64) -> Result<String, NoMemory>
-    ensures { IfOk result (λ text. string_bytes text ≡ line_then (history_words tables done undone) []) }
-{
-    Ok(format!(in alloc; " tables {tables} done {done} undone {undone}\n")?)
-}
-
-// The end of a line: how many milestones there are, and how many lie in the masks.
-fn masks_end(
-    alloc: Global,
-    milestones: u32,
-    bits: u64,
-    tables: u32,
-    done: u64,
-    undone: u64,
-) -> Result<String, NoMemory>
-    ensures { IfOk result (λ text. string_bytes text ≡ line_then (masks_words milestones bits tables done undone) []) }
-{
-    let history = history_end(alloc, tables, done, undone)?;
-    Ok(format!(in alloc; " milestones {milestones} bits {bits}{history}")?)
-}
-
-fn summary_text(
-    alloc: Global,
-    line: u32,
-    reached: u32,
-    nodes: u32,
-    milestones: u32,
-    bits: u64,
-    tables: u32,
-    done: u64,
-    undone: u64,
-) -> Result<String, NoMemory>
-    ensures { IfOk result (λ text. string_bytes text ≡ reply_text line (summary_line reached nodes milestones bits tables done undone ∷ [])) }
-{
-    let masks = masks_end(alloc, milestones, bits, tables, done, undone)?;
-    Ok(format!(in alloc; "{line} summary reached {reached} of {nodes}{masks}")?)
 }
 
 // The end of a line: what a row takes beside its machines.

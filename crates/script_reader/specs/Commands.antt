@@ -1,12 +1,13 @@
 -- The commands of the script, by their first words. The words are this project's own.
 use Rattle.std.specs.Prelude.{ℕ, List, codes, Option, Some, None, if◌then◌else◌}
 use Rattle.std.specs.Str.{bytes_eq}
+use Rattle.std.specs.Option.{option_or}
 use Rattle.script_reader.specs.declared.command_words.CommandWord.{CommandWord}
 use Rattle.script_reader.specs.declared.command_words.CommandWord.TheVariants.{Reach, Why, Missing, Mask, List as ListWord, Milestones, Summary, Rate, Solve, Quiet, Undo, Redo, Batch, End, Cancel, Grant, Revoke, Forbid, Permit, Milestone, Unmilestone, Ingredient, Product, Unlock, Time, Enabled, Table, Untable, Row, Unrow, Price, Want, Import, Surplus, Power}
 
--- the command that a word names
-abbrev pub command_word : List ℕ → Option CommandWord
-command_word word =
+-- the question that a word names
+abbrev pub question_word : List ℕ → Option CommandWord
+question_word word =
     if bytes_eq word (codes "reach") then Some Reach else
     if bytes_eq word (codes "why") then Some Why else
     if bytes_eq word (codes "missing") then Some Missing else
@@ -16,12 +17,22 @@ command_word word =
     if bytes_eq word (codes "summary") then Some Summary else
     if bytes_eq word (codes "rate") then Some Rate else
     if bytes_eq word (codes "solve") then Some Solve else
+    None
+
+-- what a word does to the session: its replies, its history, a batch
+abbrev pub session_word : List ℕ → Option CommandWord
+session_word word =
     if bytes_eq word (codes "quiet") then Some Quiet else
     if bytes_eq word (codes "undo") then Some Undo else
     if bytes_eq word (codes "redo") then Some Redo else
     if bytes_eq word (codes "batch") then Some Batch else
     if bytes_eq word (codes "end") then Some End else
     if bytes_eq word (codes "cancel") then Some Cancel else
+    None
+
+-- the edit of the game, its marks or its milestones that a word names
+abbrev pub game_word : List ℕ → Option CommandWord
+game_word word =
     if bytes_eq word (codes "grant") then Some Grant else
     if bytes_eq word (codes "revoke") then Some Revoke else
     if bytes_eq word (codes "forbid") then Some Forbid else
@@ -33,6 +44,11 @@ command_word word =
     if bytes_eq word (codes "unlock") then Some Unlock else
     if bytes_eq word (codes "time") then Some Time else
     if bytes_eq word (codes "enabled") then Some Enabled else
+    None
+
+-- the edit of tables that a word names
+abbrev pub table_word : List ℕ → Option CommandWord
+table_word word =
     if bytes_eq word (codes "table") then Some Table else
     if bytes_eq word (codes "untable") then Some Untable else
     if bytes_eq word (codes "row") then Some Row else
@@ -43,3 +59,7 @@ command_word word =
     if bytes_eq word (codes "surplus") then Some Surplus else
     if bytes_eq word (codes "power") then Some Power else
     None
+
+-- the command that a word names
+abbrev pub command_word : List ℕ → Option CommandWord
+command_word word = option_or (option_or (question_word word) (session_word word)) (option_or (game_word word) (table_word word))

@@ -1,6 +1,6 @@
 //! The words that begin a line.
 ghost use Rattle.std.specs.Prelude.{◌≡◌};
-ghost use Rattle.script_reader.specs.Commands.{command_word};
+ghost use Rattle.script_reader.specs.Commands.{command_word, game_word, question_word, session_word, table_word};
 
 /// The first word of a line.
 #[derive(Clone, Copy)]
@@ -42,9 +42,9 @@ pub enum CommandWord {
     Power,
 }
 
-/// The command that a word names.
-pub fn command_of(word: &str) -> Option<CommandWord>
-    ensures { result ≡ command_word word.now }
+// The question that a word names.
+fn question_of(word: &str) -> Option<CommandWord>
+    ensures { result ≡ question_word word.now }
 {
     match word {
         "reach" => Some(CommandWord::Reach),
@@ -56,12 +56,30 @@ pub fn command_of(word: &str) -> Option<CommandWord>
         "summary" => Some(CommandWord::Summary),
         "rate" => Some(CommandWord::Rate),
         "solve" => Some(CommandWord::Solve),
+        _ => None,
+    }
+}
+
+// What a word does to the session.
+fn session_of(word: &str) -> Option<CommandWord>
+    ensures { result ≡ session_word word.now }
+{
+    match word {
         "quiet" => Some(CommandWord::Quiet),
         "undo" => Some(CommandWord::Undo),
         "redo" => Some(CommandWord::Redo),
         "batch" => Some(CommandWord::Batch),
         "end" => Some(CommandWord::End),
         "cancel" => Some(CommandWord::Cancel),
+        _ => None,
+    }
+}
+
+// The edit of the game, its marks or its milestones that a word names.
+fn game_edit_of(word: &str) -> Option<CommandWord>
+    ensures { result ≡ game_word word.now }
+{
+    match word {
         "grant" => Some(CommandWord::Grant),
         "revoke" => Some(CommandWord::Revoke),
         "forbid" => Some(CommandWord::Forbid),
@@ -73,6 +91,15 @@ pub fn command_of(word: &str) -> Option<CommandWord>
         "unlock" => Some(CommandWord::Unlock),
         "time" => Some(CommandWord::Time),
         "enabled" => Some(CommandWord::Enabled),
+        _ => None,
+    }
+}
+
+// The edit of tables that a word names.
+fn table_edit_of(word: &str) -> Option<CommandWord>
+    ensures { result ≡ table_word word.now }
+{
+    match word {
         "table" => Some(CommandWord::Table),
         "untable" => Some(CommandWord::Untable),
         "row" => Some(CommandWord::Row),
@@ -84,4 +111,13 @@ pub fn command_of(word: &str) -> Option<CommandWord>
         "power" => Some(CommandWord::Power),
         _ => None,
     }
+}
+
+/// The command that a word names.
+pub fn command_of(word: &str) -> Option<CommandWord>
+    ensures { result ≡ command_word word.now }
+{
+    let line = question_of(word).or(session_of(word));
+    let edit = game_edit_of(word).or(table_edit_of(word));
+    line.or(edit)
 }

@@ -6,7 +6,7 @@ use Rattle.linear_table.specs.declared.Plan.{Plan}
 use Rattle.plan_certificate.specs.Faults.{AreAcceptedPrices, AreAcceptedRefusals, IsAcceptedPlan, IsLeastFault, IsNoneFault, IsPlanFault}
 use Rattle.plan_certificate.specs.declared.CheckFault.{CheckFault}
 use Rattle.plan_certificate.specs.declared.CheckFault.TheVariants as check
-use Rattle.plan_report.specs.Words.{printed_word}
+use Rattle.node_report.specs.Words.{printed_word}
 use Rattle.certificate_file.specs.declared.CertEntry.{CertEntry}
 use Rattle.certificate_file.specs.declared.Claim.{Claim}
 use Rattle.certificate_file.specs.declared.Claim.TheVariants as claims

@@ -1,7 +1,7 @@
 use Rattle.std.proofs.Common.{◌≡◌, ℕ, List, ◌++◌, map}
 use Rattle.std.specs.List.{zip}
 use Rattle.plan_report.specs.Plans.{price_lines, row_line, stream_lines, total_line}
-use Rattle.plan_report.proofs.Texts.{plan_further}
+use Rattle.plan_report.proofs.PlanTexts.{plan_further}
 use Rattle.plan_report.proofs.printing.plan_further.Goals as goal
 
 joined : (out rows streams prices total rows_is streams_is prices_is total_is further : List ℕ) → out ≡ rows ++ (streams ++ (prices ++ total))

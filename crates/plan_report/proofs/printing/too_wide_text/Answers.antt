@@ -1,7 +1,7 @@
 use Rattle.std.proofs.Common.{◌≡◌, ℕ, List, ◌++◌, ◌∷◌, map, decimal}
 use Rattle.std.specs.Prelude.{codes}
 use Rattle.plan_report.specs.Plans.{exchange_line, place_line}
-use Rattle.plan_report.proofs.Texts.{trail_further}
+use Rattle.plan_report.proofs.PlanTexts.{trail_further}
 use Rattle.plan_report.proofs.printing.too_wide_text.Goals as goal
 
 joined : (out number table trail next place table_is trail_is next_is place_is further : List ℕ)

@@ -1,0 +1,4 @@
+pub mod Layout
+pub mod Nodes
+pub mod Questions
+pub mod Words
