@@ -4,7 +4,7 @@ ghost use Rattle.game_types.specs.Sound.{IsSound};
 use crate::naming::NameFault;
 use game_types::Game;
 use plan_base::{GoodId, Kind, NoMemory, Text};
-use plan_report::object_word;
+use node_report::object_word;
 use std::alloc::Global;
 use wish_tables::{good_text, like_names};
 use wish_words::Named;
