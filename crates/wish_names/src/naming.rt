@@ -5,7 +5,7 @@ use fractions::Ratio;
 use game_types::{Game, MachineKind};
 use plan_base::{EntityId, GoodId, Items, Kind, TechId};
 use std::alloc::{AllocFailed, Global};
-use wish_tables::{Wish, WishBeacon};
+use wish_setups::{Wish, WishBeacon};
 use wish_words::{Asked, AskedBeacon, AskedImport, Named};
 
 /// Why words name no wish.

@@ -3,10 +3,10 @@ ghost use Rattle.game_types.specs.Sound.{IsSound};
 
 use crate::naming::NameFault;
 use game_types::Game;
-use plan_base::{GoodId, Kind, NoMemory, Text};
 use node_report::object_word;
+use plan_base::{GoodId, Kind, NoMemory, Text};
 use std::alloc::Global;
-use wish_tables::{good_text, like_names};
+use wish_lines::{good_text, like_names};
 use wish_words::Named;
 
 // What is written to a text in memory, or that none could be had.
