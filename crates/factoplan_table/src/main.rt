@@ -7,6 +7,7 @@ mod wishing;
 
 use crate::saying::{Failure, end_by_failure};
 use crate::wishing::output;
+use clap::ArgMatches;
 use plan_base::{NoMemory, Steps, Text};
 use program_runs::{End, Names, end_by, end_by_words, ended, loaded, program_words, written};
 use std::alloc::Global;
@@ -55,15 +56,19 @@ fn end_by_fault<R: Files>(rt: &R, alloc: Global, fault: WordFault<'_>) -> End {
     end_by_failure(rt, alloc, failure, said.as_str(), names)
 }
 
+// The run of matched words.
+fn matched_run<R: Files + Print>(rt: &R, alloc: Global, matches: &ArgMatches<'_>) -> End {
+    match read_asked(alloc, matches) {
+        Ok(asked) => wish_run(rt, alloc, &asked),
+        Err(fault) => end_by_fault(rt, alloc, fault),
+    }
+}
+
 fn run<R: Files + Print + Eprint>(rt: &R, alloc: Global, words: &[Text]) -> Result<End, NoMemory> {
     let command = command(alloc)?;
-    let matches = match command.try_get_matches_from(words) {
-        Ok(matches) => matches,
-        Err(error) => return Ok(end_by_words(rt, &error)),
-    };
-    match read_asked(alloc, &matches) {
-        Ok(asked) => Ok(wish_run(rt, alloc, &asked)),
-        Err(fault) => Ok(end_by_fault(rt, alloc, fault)),
+    match command.try_get_matches_from(words) {
+        Ok(matches) => Ok(matched_run(rt, alloc, &matches)),
+        Err(error) => Ok(end_by_words(rt, &error)),
     }
 }
 

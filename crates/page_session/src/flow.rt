@@ -107,7 +107,7 @@ fn fault_of_code(code: RefusalCode) -> PageFault {
 
 // What is told of a table that was solved.
 #[derive(Clone, Copy)]
-struct Solved<'a> {
+struct SolvedTable<'a> {
     name: &'a str,
     rows: &'a [Figures],
     total: &'a Figures,
@@ -127,7 +127,7 @@ fn graph_of_table(
     game: &Game,
     table: &Table,
     plan: &Plan,
-    solved: &Solved<'_>,
+    solved: &SolvedTable<'_>,
 ) -> Result<String, PageFault>
     requires sound { IsSound game.now }
     requires table { IsSoundOn game.now table.now }
@@ -154,7 +154,7 @@ fn graph_among(
     game: &Game,
     tables: &[Table],
     plan: &Plan,
-    solved: &Solved<'_>,
+    solved: &SolvedTable<'_>,
 ) -> Result<String, PageFault>
     requires sound { IsSound game.now }
     requires tables { AreSoundTables game.now tables.now }
@@ -170,7 +170,7 @@ fn graph_in(
     alloc: Global,
     planner: &Planner,
     plan: &Plan,
-    solved: &Solved<'_>,
+    solved: &SolvedTable<'_>,
 ) -> Result<String, PageFault> {
     let game = planner.game();
     let tables = planner.tables();
@@ -182,7 +182,7 @@ fn graph_of_answer(
     alloc: Global,
     planner: &Planner,
     answer: &SolveAnswer,
-    solved: &Solved<'_>,
+    solved: &SolvedTable<'_>,
 ) -> Result<String, PageFault> {
     match answer {
         SolveAnswer::Planned(plan) => graph_in(alloc, planner, plan, solved),
@@ -203,7 +203,7 @@ fn graph_of(alloc: Global, planner: &Planner, reply: &Reply) -> Result<String, P
             alloc,
             planner,
             answer,
-            &Solved {
+            &SolvedTable {
                 name: table.as_str(),
                 rows: rows.as_slice(),
                 total,
