@@ -1,22 +1,19 @@
 //! Prints the lines of a script that make a table for a wish. What went wrong is said on standard error.
 #![tactic(auto)]
 
-mod naming;
 mod planning;
 mod saying;
-mod words;
+mod wishing;
 
-use crate::naming::wish_of;
-use crate::planning::{reached_nodes, take_script};
-use crate::saying::Failure;
-use crate::words::{Asked, command, read_asked};
+use crate::saying::{Failure, end_by_failure};
+use crate::wishing::output;
+use clap::ArgMatches;
 use plan_base::{NoMemory, Steps, Text};
-use planner_cli::Ready;
-use program_runs::{End, Names, end_by_words, ended, loaded, program_words, written};
+use program_runs::{End, Names, end_by, end_by_words, ended, loaded, program_words, written};
 use std::alloc::Global;
 use std::process::ExitCode;
 use std::rt::Files;
-use wish_tables::{WishFault, table_text, wish_table};
+use wish_words::{Asked, WordFault, command, read_asked};
 
 // Marks the counter of the program.
 #[derive(Drop)]
@@ -30,67 +27,48 @@ fn names_of<'a>(asked: &Asked<'a>) -> Names<'a> {
     }
 }
 
-// A script with a newline at its end.
-fn with_newline(script: Vec<u8>) -> Result<Vec<u8>, NoMemory> {
-    let mut script = script;
-    if let Some(last) = script.last() {
-        if *last != b'\n' {
-            script.push(b'\n')?;
-        }
+// The run that words ask for.
+fn wish_run<R: Files + Print>(rt: &R, alloc: Global, asked: &Asked<'_>) -> End {
+    let names = names_of(asked);
+    let mut steps = Steps::new(Program);
+    let ready = match loaded(rt, alloc, names, &mut steps) {
+        Ok(ready) => ready,
+        Err(status) => return end_by(rt, alloc, &status, names),
+    };
+    let mut said = String::new(alloc);
+    match output(alloc, ready, asked, &mut said, &mut steps) {
+        Ok(lines) => written(rt, alloc, lines.as_slice(), 0, names),
+        Err(failure) => end_by_failure(rt, alloc, failure, said.as_str(), names),
     }
-    Ok(script)
 }
 
-// The lines that are asked for.
-fn lines<R: Files>(rt: &R, alloc: Global, asked: &Asked<'_>) -> Result<Vec<u8>, Failure> {
-    let mut steps = Steps::new(Program);
-    let Ready {
-        mut planner,
-        script,
-    } = match loaded(rt, alloc, names_of(asked), &mut steps) {
-        Ok(ready) => ready,
-        Err(status) => return Err(Failure::Ended(status)),
+// The end by a bad word.
+fn end_by_fault<R: Files>(rt: &R, alloc: Global, fault: WordFault<'_>) -> End {
+    let names = Names {
+        dump: "",
+        script: "",
     };
-    take_script(alloc, &mut planner, asked, &script, &mut steps)?;
-    let reached = reached_nodes(alloc, &mut planner, &mut steps)?;
-    let game = planner.game();
-    let wish = wish_of(alloc, game, asked)?;
-    match wish_table(alloc, game, reached.as_slice(), asked.table, &wish) {
-        Ok(table) => {
-            let mut text = with_newline(script)?;
-            let made = table_text(alloc, game, &table)?;
-            text.extend_from_slice(made.as_bytes())?;
-            Ok(text)
-        }
-        Err(WishFault::Lacking(goods)) => {
-            Err(Failure::lacking(alloc, game, wish.good, goods.as_slice())?)
-        }
-        Err(WishFault::Full(goods)) => Err(Failure::full(alloc, game, goods.as_slice())?),
-        Err(WishFault::NoMemory) => Err(Failure::NoMemory),
+    let mut said = String::new(alloc);
+    let failure = match fault.say(&mut said) {
+        Ok(()) => Failure::BadWords,
+        Err(NoMemory) => Failure::NoMemory,
+    };
+    end_by_failure(rt, alloc, failure, said.as_str(), names)
+}
+
+// The run of matched words.
+fn matched_run<R: Files + Print>(rt: &R, alloc: Global, matches: &ArgMatches<'_>) -> End {
+    match read_asked(alloc, matches) {
+        Ok(asked) => wish_run(rt, alloc, &asked),
+        Err(fault) => end_by_fault(rt, alloc, fault),
     }
 }
 
 fn run<R: Files + Print + Eprint>(rt: &R, alloc: Global, words: &[Text]) -> Result<End, NoMemory> {
     let command = command(alloc)?;
-    let matches = match command.try_get_matches_from(words) {
-        Ok(matches) => matches,
-        Err(error) => return Ok(end_by_words(rt, &error)),
-    };
-    let asked = match read_asked(alloc, &matches) {
-        Ok(asked) => asked,
-        Err(failure) => return Ok(failure.end(
-            rt,
-            alloc,
-            Names {
-                dump: "",
-                script: "",
-            },
-        )),
-    };
-    let names = names_of(&asked);
-    match lines(rt, alloc, &asked) {
-        Ok(lines) => Ok(written(rt, alloc, lines.as_slice(), 0, names)),
-        Err(failure) => Ok(failure.end(rt, alloc, names)),
+    match command.try_get_matches_from(words) {
+        Ok(matches) => Ok(matched_run(rt, alloc, &matches)),
+        Err(error) => Ok(end_by_words(rt, &error)),
     }
 }
 

@@ -1,54 +1,94 @@
 //! The words of the program, as clap reads them.
-use clap::{Arg, Command, Error};
+use clap::{Arg, ArgMatches, Command};
 use plan_base::{NoMemory, Text};
-use std::alloc::Global;
+use program_runs::Names;
+use std::alloc::{AllocError, Global};
 
 /// The version of the program.
 const VERSION: &str = "0.5.0";
 
-/// What the words of a program ask for.
-pub enum Asked<'a> {
-    /// The values of its words.
-    Given(Vec<&'a str>),
-    /// The help, the version, or what is wrong with the words.
-    Other(Error),
+// A word that must be there.
+fn word<'a>(alloc: Global, name: &'a str, help: &'a str) -> Arg<'a> {
+    Arg::new(alloc, name).required(true).help(help)
 }
 
-// A command of these required words, each with what it is.
-fn command<'a>(
-    alloc: Global,
-    program: &'a str,
-    about: &'a str,
-    names: &'a [(&'a str, &'a str)],
-) -> Result<Command<'a>, NoMemory> {
-    let mut command = Command::new(alloc, program).version(VERSION).about(about);
-    for (name, help) in names {
-        let word = Arg::new(alloc, *name).required(true).help(*help);
-        command = command.arg(word)?;
+// A command of a dump and a script.
+fn command<'a>(alloc: Global, program: &'a str, about: &'a str) -> Result<Command<'a>, AllocError> {
+    Command::new(alloc, program)
+        .version(VERSION)
+        .about(about)
+        .arg(word(
+            alloc,
+            "DUMP",
+            "the file data-raw-dump.json that factorio --dump-data writes",
+        ))?
+        .arg(word(
+            alloc,
+            "SCRIPT",
+            "a file with a command a line; may be /dev/stdin",
+        ))
+}
+
+/// The command for a page.
+///
+/// # Errors
+///
+/// `AllocError` where memory could not be had.
+pub fn page_command<'a>(alloc: Global) -> Result<Command<'a>, AllocError> {
+    command(
+        alloc,
+        "factoplan_page",
+        "Writes the replies to a script as one HTML page. With --flow as the first word it writes the graph of a table.",
+    )
+}
+
+/// The command for the graph of a table.
+///
+/// # Errors
+///
+/// `AllocError` where memory could not be had.
+pub fn flow_command<'a>(alloc: Global) -> Result<Command<'a>, AllocError> {
+    let command = command(
+        alloc,
+        "factoplan_flow",
+        "Writes the plan of a table as a graph for Graphviz.",
+    )?;
+    command.arg(word(alloc, "TABLE", "the name of a table of the script"))
+}
+
+// The value of a word that must be there.
+fn value<'a>(matches: &ArgMatches<'a>, name: &str) -> &'a str {
+    matches.get_str(name).unwrap_or("")
+}
+
+/// The files that are asked for.
+pub fn asked_files<'a>(matches: &ArgMatches<'a>) -> Names<'a> {
+    Names {
+        dump: value(matches, "DUMP"),
+        script: value(matches, "SCRIPT"),
     }
-    Ok(command)
 }
 
-/// Reads the words of a program, of which these are required.
+/// The table that is asked for.
+pub fn asked_table<'a>(matches: &ArgMatches<'a>) -> &'a str {
+    value(matches, "TABLE")
+}
+
+fn push_words(alloc: Global, words: &[Text], all: &mut Vec<Text>) -> Result<(), NoMemory> {
+    for word in words {
+        all.push(Text::copy(alloc, word.as_str())?)?;
+    }
+    Ok(())
+}
+
+/// The words behind `--flow`, with the name of the program that they are for before them.
 ///
 /// # Errors
 ///
 /// `NoMemory` where memory could not be had.
-pub fn read_words<'a>(
-    alloc: Global,
-    program: &'a str,
-    about: &'a str,
-    names: &'a [(&'a str, &'a str)],
-    words: &'a [Text],
-) -> Result<Asked<'a>, NoMemory> {
-    let command = command(alloc, program, about, names)?;
-    let matches = match command.try_get_matches_from(words) {
-        Ok(matches) => matches,
-        Err(error) => return Ok(Asked::Other(error)),
-    };
-    let mut values = Vec::new(alloc);
-    for (name, _) in names {
-        values.push(matches.get_str(*name).unwrap_or(""))?;
-    }
-    Ok(Asked::Given(values))
+pub fn flow_words(alloc: Global, words: &[Text]) -> Result<Vec<Text>, NoMemory> {
+    let mut all = Vec::new(alloc);
+    all.push(Text::copy(alloc, "factoplan_flow")?)?;
+    push_words(alloc, words, &mut all)?;
+    Ok(all)
 }

@@ -1,15 +1,19 @@
 //! The graph of a table's plan behind the last line of a script.
 ghost use Rattle.state_changes.specs.States.{State};
 ghost use Rattle.planner_core.specs.Lines.{IsSessionOf};
+ghost use Rattle.game_types.specs.Sound.{IsSound};
+ghost use Rattle.planner_tables.specs.Effects.{AreSoundTables, IsSoundOn};
 
 use crate::fault::PageFault;
-use crate::session::{form_at, place_of};
-use linear_table::SolveAnswer;
+use crate::tables::{linear_form, place_of};
+use game_types::Game;
+use linear_table::{Plan, SolveAnswer};
 use plan_base::{NoMemory, Steps, Text};
 use plan_charts::{Shown, chart_of, dot_text};
-use plan_report::{RefusalCode, Reply};
+use plan_report::{Figures, RefusalCode, Reply};
 use planner_cli::Ready;
 use planner_core::Planner;
+use production_table::Table;
 use program_runs::{LINES, answered, step};
 use script_reader::Command;
 use script_runner::{split_line, trim_return};
@@ -85,55 +89,129 @@ fn solved<L>(
     step(planner, number, solve, steps)
 }
 
-// Why a reply is no plan.
-fn fault_of(reply: &Reply) -> PageFault {
-    match reply {
-        Reply::Refused {
-            code: RefusalCode::P1,
-            ..
-        } => PageFault::NoTable,
-        Reply::Solved {
-            answer: SolveAnswer::Infeasible(_),
-            ..
-        } => PageFault::NoPlan,
+// Why an answer of the solver is no plan.
+fn fault_of_answer(answer: &SolveAnswer) -> PageFault {
+    match answer {
+        SolveAnswer::Infeasible(_) => PageFault::NoPlan,
         _ => PageFault::Unsolved,
+    }
+}
+
+// Why a refusal is no plan.
+fn fault_of_code(code: RefusalCode) -> PageFault {
+    match code {
+        RefusalCode::P1 => PageFault::NoTable,
+        _ => PageFault::Unsolved,
+    }
+}
+
+// What is told of a table that was solved.
+#[derive(Clone, Copy)]
+struct SolvedTable<'a> {
+    name: &'a str,
+    rows: &'a [Figures],
+    total: &'a Figures,
+}
+
+// The graph of a plan.
+fn graph_of_plan(alloc: Global, name: &str, shown: &Shown<'_>) -> Result<String, NoMemory>
+    requires { IsSound shown.now.game.now }
+{
+    let chart = chart_of(alloc, shown)?;
+    dot_text(alloc, name, &chart)
+}
+
+// The graph of a plan of a table, which has a linear form.
+fn graph_of_table(
+    alloc: Global,
+    game: &Game,
+    table: &Table,
+    plan: &Plan,
+    solved: &SolvedTable<'_>,
+) -> Result<String, PageFault>
+    requires sound { IsSound game.now }
+    requires table { IsSoundOn game.now table.now }
+{
+    match linear_form(alloc, game, table)? {
+        Some(linear) => {
+            let shown = Shown {
+                game,
+                table,
+                linear: &linear,
+                plan,
+                rows: solved.rows,
+                total: solved.total,
+            };
+            Ok(graph_of_plan(alloc, solved.name, &shown)?)
+        }
+        None => Err(PageFault::Unsolved),
+    }
+}
+
+// The graph of a plan, where there is a table of its name.
+fn graph_among(
+    alloc: Global,
+    game: &Game,
+    tables: &[Table],
+    plan: &Plan,
+    solved: &SolvedTable<'_>,
+) -> Result<String, PageFault>
+    requires sound { IsSound game.now }
+    requires tables { AreSoundTables game.now tables.now }
+{
+    match place_of(tables, solved.name) {
+        Some(place) => graph_of_table(alloc, game, &tables[place], plan, solved),
+        None => Err(PageFault::NoTable),
+    }
+}
+
+// The graph of a plan of a planner's table.
+fn graph_in(
+    alloc: Global,
+    planner: &Planner,
+    plan: &Plan,
+    solved: &SolvedTable<'_>,
+) -> Result<String, PageFault> {
+    let game = planner.game();
+    let tables = planner.tables();
+    graph_among(alloc, game, tables, plan, solved)
+}
+
+// The graph of an answer that is a plan.
+fn graph_of_answer(
+    alloc: Global,
+    planner: &Planner,
+    answer: &SolveAnswer,
+    solved: &SolvedTable<'_>,
+) -> Result<String, PageFault> {
+    match answer {
+        SolveAnswer::Planned(plan) => graph_in(alloc, planner, plan, solved),
+        _ => Err(fault_of_answer(answer)),
     }
 }
 
 // The graph of a reply that is a plan.
 fn graph_of(alloc: Global, planner: &Planner, reply: &Reply) -> Result<String, PageFault> {
-    let Reply::Solved {
-        table: name,
-        rows,
-        total,
-        answer,
-        ..
-    } = reply
-    else {
-        return Err(fault_of(reply));
-    };
-    let SolveAnswer::Planned(plan) = answer else {
-        return Err(fault_of(reply));
-    };
-    let game = planner.game();
-    let tables = planner.tables();
-    let Some(place) = place_of(tables, name.as_str()) else {
-        return Err(PageFault::NoTable);
-    };
-    let Some(linear) = form_at(alloc, game, tables, place)? else {
-        return Err(PageFault::Unsolved);
-    };
-    let shown = Shown {
-        game,
-        table: &tables[place],
-        linear: &linear,
-        plan,
-        rows: rows.as_slice(),
-        total,
-    };
-    let chart = chart_of(alloc, &shown)?;
-    let text = dot_text(alloc, name.as_str(), &chart)?;
-    Ok(text)
+    match reply {
+        Reply::Solved {
+            table,
+            rows,
+            total,
+            answer,
+            ..
+        } => graph_of_answer(
+            alloc,
+            planner,
+            answer,
+            &SolvedTable {
+                name: table.as_str(),
+                rows: rows.as_slice(),
+                total,
+            },
+        ),
+        Reply::Refused { code, .. } => Err(fault_of_code(*code)),
+        _ => Err(PageFault::Unsolved),
+    }
 }
 
 // The graph of the plan of a table behind the last line of a script.
@@ -170,5 +248,5 @@ pub fn flow_of<L>(
         mut planner,
         script,
     } = ready;
-    flow_in(alloc, &mut planner, &script, name, steps)
+    flow_in(alloc, &mut planner, script.as_slice(), name, steps)
 }

@@ -6,6 +6,7 @@ mod fault;
 mod flow;
 mod running;
 mod session;
+mod tables;
 
 pub use fault::{NO_PLAN, PageFault};
 pub use running::run_program;

@@ -1,101 +1,98 @@
 //! The lines of a script, and the page of their replies.
-ghost use Rattle.std.specs.Prelude.{◌<◌, IfSome, length};
 ghost use Rattle.game_types.specs.Sound.{IsSound};
 ghost use Rattle.state_changes.specs.States.{State};
 ghost use Rattle.planner_core.specs.Lines.{IsSessionOf};
 ghost use Rattle.planner_tables.specs.Effects.{AreSoundTables, IsSoundOn};
 
 use crate::fault::PageFault;
+use crate::tables::{linear_form, place_of, with_form};
 use game_types::Game;
-use linear_table::Linear;
 use plan_base::{NoMemory, Steps};
 use plan_pages::Page;
 use plan_report::Reply;
 use planner_cli::Ready;
 use planner_core::Planner;
-use production_table::{Table, TableFault};
+use production_table::Table;
 use program_runs::{LINES, answered};
 use script_runner::{is_refusal, split_line, trim_return};
 use std::alloc::Global;
 use std::str::from_utf8;
 
-// The linear form of a table, where it has one.
-fn linear_form(alloc: Global, game: &Game, table: &Table) -> Result<Option<Linear>, NoMemory>
+// A line of the script.
+#[derive(Clone, Copy)]
+struct Line<'a> {
+    number: u32,
+    words: &'a str,
+}
+
+// Puts the plan of a table on the page, with the table where it has a linear form.
+fn add_plan(
+    alloc: Global,
+    game: &Game,
+    table: &Table,
+    line: &Line<'_>,
+    reply: &Reply,
+    page: &mut Page,
+) -> Result<(), NoMemory>
     requires sound { IsSound game.now }
     requires table { IsSoundOn game.now table.now }
 {
-    match table.to_linear(alloc, game) {
-        Ok(linear) => Ok(Some(linear)),
-        Err(TableFault::NoMemory) => Err(NoMemory),
-        Err(_) => Ok(None),
-    }
+    let linear = linear_form(alloc, game, table)?;
+    let solved = with_form(table, &linear);
+    page.add(alloc, line.number, line.words, game, solved, reply)
 }
 
-/// The linear form of the table at a place, where it has one.
-pub fn form_at(
+// Puts the plan of the table of a name on the page.
+fn add_plan_among(
     alloc: Global,
     game: &Game,
     tables: &[Table],
-    place: usize,
-) -> Result<Option<Linear>, NoMemory>
+    name: &str,
+    line: &Line<'_>,
+    reply: &Reply,
+    page: &mut Page,
+) -> Result<(), NoMemory>
     requires sound { IsSound game.now }
     requires tables { AreSoundTables game.now tables.now }
-    requires within { place < length tables.now }
 {
-    linear_form(alloc, game, &tables[place])
+    match place_of(tables, name) {
+        Some(place) => add_plan(alloc, game, &tables[place], line, reply, page),
+        None => Ok(()),
+    }
 }
 
-/// The place of the table of a name.
-pub fn place_of(tables: &[Table], name: &str) -> Option<usize>
-    ensures { IfSome result (λ place. place < length tables.now) }
-{
-    tables.iter().position(|table| table.name.as_str() == name)
-}
-
-// Puts the plan of a table on the page.
+// Puts the plan of a planner's table on the page.
 fn add_solved(
     alloc: Global,
     planner: &Planner,
-    number: u32,
-    words: &str,
     name: &str,
+    line: &Line<'_>,
     reply: &Reply,
     page: &mut Page,
 ) -> Result<(), NoMemory> {
     let game = planner.game();
     let tables = planner.tables();
-    let Some(place) = place_of(tables, name) else {
-        return Ok(());
-    };
-    let linear = form_at(alloc, game, tables, place)?;
-    match &linear {
-        Some(linear) => page.add(
-            alloc,
-            number,
-            words,
-            game,
-            Some((&tables[place], linear)),
-            reply,
-        ),
-        None => page.add(alloc, number, words, game, None, reply),
-    }
+    add_plan_among(alloc, game, tables, name, line, reply, page)
+}
+
+// The words of a line.
+fn words_of(line: &[u8]) -> &str {
+    from_utf8(line).unwrap_or("(no UTF-8)")
 }
 
 // Puts the reply to a line on the page.
 fn add_reply(
     alloc: Global,
     planner: &Planner,
-    number: u32,
-    line: &[u8],
+    line: &Line<'_>,
     reply: &Reply,
     page: &mut Page,
 ) -> Result<(), NoMemory> {
-    let words = from_utf8(line).unwrap_or("(no UTF-8)");
     match reply {
         Reply::Solved { table, .. } => {
-            add_solved(alloc, planner, number, words, table.as_str(), reply, page)
+            add_solved(alloc, planner, table.as_str(), line, reply, page)
         }
-        _ => page.add(alloc, number, words, planner.game(), None, reply),
+        _ => page.add(alloc, line.number, line.words, planner.game(), None, reply),
     }
 }
 
@@ -104,20 +101,20 @@ fn add_line<L>(
     alloc: Global,
     planner: &mut Planner,
     number: u32,
-    line: &[u8],
+    bytes: &[u8],
     page: &mut Page,
     steps: &mut Steps<L>,
 ) -> Result<bool, NoMemory>
     requires { (base : State) × IsSessionOf base planner.old }
     ensures { (base : State) × IsSessionOf base planner.new }
 {
-    let reply = answered(alloc, planner, number, line, steps)?;
-    let added = add_reply(alloc, planner, number, line, &reply, page);
-    let refused = is_refusal(&reply);
-    match added {
-        Ok(()) => Ok(refused),
-        Err(NoMemory) => Err(NoMemory),
-    }
+    let reply = answered(alloc, planner, number, bytes, steps)?;
+    let line = Line {
+        number,
+        words: words_of(bytes),
+    };
+    add_reply(alloc, planner, &line, &reply, page)?;
+    Ok(is_refusal(&reply))
 }
 
 // Answers each line, and puts its reply on the page.
@@ -176,5 +173,5 @@ pub fn page_of<L>(
         mut planner,
         script,
     } = ready;
-    page_in(alloc, &mut planner, &script, steps)
+    page_in(alloc, &mut planner, script.as_slice(), steps)
 }
