@@ -1,6 +1,6 @@
 //! The lines that a wish over a script comes to.
 ghost use Rattle.game_types.specs.Sound.{IsSound};
-ghost use Rattle.planning_state.specs.States.{State};
+ghost use Rattle.state_changes.specs.States.{State};
 ghost use Rattle.planner_core.specs.Lines.{IsSessionOf};
 
 use crate::planning::{reached_nodes, take_script};

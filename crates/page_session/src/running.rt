@@ -1,5 +1,5 @@
 //! The runs of the program, from its words to its end.
-ghost use Rattle.planning_state.specs.States.{State};
+ghost use Rattle.state_changes.specs.States.{State};
 ghost use Rattle.planner_core.specs.Lines.{IsSessionOf};
 
 use crate::asked::{asked_files, asked_table, flow_command, flow_words, page_command};
