@@ -2,4 +2,3 @@ pub mod Folds
 pub mod SoundDraft
 pub mod SoundDump
 pub mod SoundGoods
-pub mod SoundMachines

@@ -10,25 +10,26 @@ use Rattle.prototype_fields.specs.declared.fault.FieldCode.TheVariants.{Twice, L
 use Rattle.prototype_fields.specs.declared.names.Key.TheVariants.{Minable, Autoplace, CraftingCategories, MiningCategories}
 use Rattle.prototype_fields.specs.declared.names.Within.TheVariants as within
 use Rattle.prototype_fields.specs.Objects.{Object, field}
-use Rattle.prototype_fields.specs.Values.{Reading, Names, wrong_element, object_at, list_or_empty, categories}
+use Rattle.prototype_fields.specs.Values.{Reading, Names, wrong_element, object_at}
 use Rattle.prototype_fields.proofs.Yields.{Yields, and_then, whatever, weaker, with_names_yields, object_there}
 use Rattle.craft_reader.specs.Recipes.{raw_recipe}
 use Rattle.craft_reader.specs.Technologies.{raw_tech}
 use Rattle.craft_reader.specs.declared.recipes.RawRecipe.{RawRecipe}
 use Rattle.craft_reader.specs.declared.technologies.RawTech.{RawTech}
 use Rattle.dump_reader.specs.declared.raw.RawItem.{RawItem}
-use Rattle.dump_reader.specs.declared.raw.RawMachine.{RawMachine}
+use Rattle.machine_reader.specs.declared.raw.RawMachine.{RawMachine}
 use Rattle.dump_reader.specs.declared.raw.RawSource.{RawSource}
-use Rattle.dump_reader.specs.declared.sections.Class.{Class}
-use Rattle.dump_reader.specs.declared.sections.Class.TheVariants as class
-use Rattle.dump_reader.specs.declared.sections.Section.{Section}
-use Rattle.dump_reader.specs.declared.sections.Section.TheVariants as section
-use Rattle.dump_reader.specs.Goods.{fluid_of}
+use Rattle.machine_reader.specs.declared.sections.Class.{Class}
+use Rattle.machine_reader.specs.declared.sections.Class.TheVariants as class
+use Rattle.machine_reader.specs.declared.sections.Section.{Section}
+use Rattle.machine_reader.specs.declared.sections.Section.TheVariants as section
 use Rattle.dump_reader.specs.Sources.{category_of, gathered_of, if_minable, drilled_of, mined_of, resource_of, plant_of}
-use Rattle.dump_reader.specs.Draft.{RawGame, Taken, taken, taken_beside, source_taken, source_by, source_of, one_more, with_item, with_fluid, with_recipe, with_tech, with_source, with_machine, with_character, class_of, with_entry, with_prototype, empty_game}
-use Rattle.dump_reader.specs.Sound.{IsSoundDraft, IsSoundRawItem, IsSoundRawMachine}
+use Rattle.dump_reader.specs.Draft.{RawGame, Taken, taken, taken_beside, source_taken, source_by, source_of, one_more, with_item, with_fluid, with_recipe, with_tech, with_source, with_machine, categories_at, with_character, with_entry, with_prototype, empty_game}
+use Rattle.machine_reader.specs.Sections.{class_of}
+use Rattle.machine_reader.specs.Sound.{IsSoundRawMachine}
+use Rattle.dump_reader.specs.Sound.{IsSoundDraft, IsSoundRawItem}
 use Rattle.dump_reader.proofs.SoundGoods.{fluid_plain, item_sound}
-use Rattle.dump_reader.proofs.SoundMachines.{machine_sound}
+use Rattle.machine_reader.proofs.SoundMachines.{machine_sound}
 
 -- ---- a name and a node more, where there is one
 record IsTaken (there : Bool) (names : Names) (nodes : ℕ) (t : Taken) : Type 0 where
@@ -276,10 +277,8 @@ character_added g crafting mining seen s =
 with_character_sound : (object : Object) (g : RawGame) → IsSoundDraft g → Yields (with_character object g) IsSoundDraft
 unfolding with_character
 with_character_sound object g s =
-    whatever (list_or_empty object CraftingCategories) λ elements.
-    whatever (categories object CraftingCategories elements g.categories) λ crafting.
-    whatever (list_or_empty object MiningCategories) λ others.
-    whatever (categories object MiningCategories others crafting.1) λ mining.
+    whatever (categories_at object CraftingCategories g.categories) λ crafting.
+    whatever (categories_at object MiningCategories crafting.1) λ mining.
     record { holds = character_added g (g.crafting ++ crafting.0) (g.mining ++ mining.0) mining.1 s }
 
 -- ---- prototypes

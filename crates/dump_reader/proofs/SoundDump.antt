@@ -10,8 +10,8 @@ use Rattle.prototype_fields.proofs.Yields.{Yields, whatever}
 use Rattle.craft_reader.specs.declared.fault.DumpFault.{DumpFault}
 use Rattle.craft_reader.specs.Faults.{fault_in, in_prototype}
 use Rattle.dump_reader.specs.declared.draft.Draft.{Draft}
-use Rattle.dump_reader.specs.declared.sections.Section.{Section}
-use Rattle.dump_reader.specs.Sections.{section_text}
+use Rattle.machine_reader.specs.declared.sections.Section.{Section}
+use Rattle.machine_reader.specs.Sections.{section_text}
 use Rattle.dump_reader.specs.Draft.{RawGame, draft_seen, empty_game}
 use Rattle.dump_reader.specs.Dump.{◌▷◌, each_after, no_object, prototype_of, named_of, member_of, members_in, section_in, section_of, sections, game_in, raw_game}
 use Rattle.dump_reader.specs.Sound.{IsSoundDraft}

@@ -3,22 +3,22 @@ use Rattle.std.specs.Prelude.{◌≡◌, ℕ, ◌*◌, ◌≤◌, ◌||◌, Bool
 use Rattle.std.proofs.Common.{refl, sym, subst, arith}
 use Rattle.std.proofs.Math.Nat.{div-le_of_le-mul}
 use Rattle.std.proofs.lemmas.Int.{ints}
-use Rattle.fractions.specs.Fraction.{Fraction, zero_fraction, one_fraction, whole_fraction, nat_abs-int_div}
+use Rattle.fractions.specs.Fraction.{Fraction, zero_fraction, whole_fraction, nat_abs-int_div}
 use Rattle.game_types.specs.Sound.{IsSmall, IsSoundBonus}
 use Rattle.prototype_fields.specs.declared.fault.FieldCode.TheVariants.{Limit}
 use Rattle.prototype_fields.specs.declared.names.Key.{Key}
-use Rattle.prototype_fields.specs.declared.names.Key.TheVariants.{Bonus as BonusKey, Speed, Productivity, Consumption, Pollution, Effect, Limitation, LimitationBlacklist, PlaceResult, FuelCategory, FuelValue, FuelEmissionsMultiplier, BurntResult, HeatCapacity, DefaultTemperature}
+use Rattle.prototype_fields.specs.declared.names.Key.TheVariants.{Bonus as BonusKey, Speed, Productivity, Consumption, Pollution, Effect, Limitation, LimitationBlacklist, PlaceResult, FuelValue, BurntResult, HeatCapacity, DefaultTemperature}
 use Rattle.prototype_fields.specs.declared.names.Within.{Within}
 use Rattle.prototype_fields.specs.declared.names.Within.TheVariants as within
 use Rattle.prototype_fields.specs.Numbers.{hundredths, is_less}
 use Rattle.prototype_fields.specs.Objects.{Object, field}
-use Rattle.prototype_fields.specs.Values.{Names, name, number_in, hundredths_or_zero, optional_category, energy_or, amount_or, number_or, object_or_empty, list_or_empty, names_in}
+use Rattle.prototype_fields.specs.Values.{Names, name, number_in, hundredths_or_zero, energy_or, number_or, object_or_empty}
 use Rattle.prototype_fields.proofs.CutLemmas.{moderate}
 use Rattle.prototype_fields.proofs.Yields.{Yields, and_then, whatever, or_wrong_yields, optional_yields, or_default_yields}
 use Rattle.craft_reader.specs.Goods.{launch_products}
-use Rattle.dump_reader.specs.declared.sections.Section.{Section}
-use Rattle.dump_reader.specs.declared.sections.Section.TheVariants.{Module}
-use Rattle.dump_reader.specs.Goods.{bonus_in, bonus_of, fluid_of, module_of, optional_module, item_of}
+use Rattle.machine_reader.specs.declared.sections.Section.{Section}
+use Rattle.machine_reader.specs.declared.sections.Section.TheVariants.{Module}
+use Rattle.dump_reader.specs.Goods.{bonus_in, bonus_of, fluid_of, names_at, module_of, optional_module, fuel_in, item_of}
 use Rattle.dump_reader.specs.Sound.{IsSoundRawItem}
 
 -- ---- hundredths
@@ -60,10 +60,8 @@ unfolding module_of
 module_sound object =
     whatever (object_or_empty object Effect within.Effect) λ effect.
     and_then (bonus_sound effect) λ bonus small.
-    whatever (list_or_empty object Limitation) λ recipes.
-    whatever (names_in object Limitation recipes) λ limitation.
-    whatever (list_or_empty object LimitationBlacklist) λ others.
-    whatever (names_in object LimitationBlacklist others) λ blacklist.
+    whatever (names_at object Limitation) λ limitation.
+    whatever (names_at object LimitationBlacklist) λ blacklist.
     record { holds = small }
 
 optional_sound : (section : Section) (object : Object) → Yields (optional_module section object) (λ found. IfSome found (λ m. IsSoundBonus m.bonus))
@@ -82,10 +80,7 @@ fluid_plain object =
 pub item_sound : (section : Section) (object : Object) (names : Names) → Yields (item_of section object names) (λ found. IsSoundRawItem found.0)
 item_sound section object names =
     whatever (name object PlaceResult) λ place.
-    whatever (name object FuelCategory) λ fuel_category.
-    whatever (optional_category object FuelCategory fuel_category names) λ category.
-    whatever (energy_or object FuelValue zero_fraction) λ value.
-    whatever (amount_or object FuelEmissionsMultiplier one_fraction) λ emissions.
+    whatever (fuel_in object names) λ fuel.
     whatever (name object BurntResult) λ burnt.
     and_then (optional_sound section object) λ found small.
     whatever (launch_products object) λ launch.

@@ -3,6 +3,7 @@
 use Rattle.std.specs.Prelude.{ℕ, ◌+◌, ◌||◌, List, [], ◌∷◌, ◌++◌, Option, Some, None, Ok, is_some, length, nat_le, if◌then◌else◌}
 use Rattle.name_table.specs.Names.{place_of, with_name}
 use Rattle.prototype_fields.specs.declared.fault.FieldCode.TheVariants.{Twice, Limit}
+use Rattle.prototype_fields.specs.declared.names.Key.{Key}
 use Rattle.prototype_fields.specs.declared.names.Key.TheVariants.{Minable, CraftingCategories, MiningCategories}
 use Rattle.prototype_fields.specs.declared.names.Within.TheVariants as within
 use Rattle.prototype_fields.specs.Objects.{Object, field}
@@ -13,16 +14,17 @@ use Rattle.craft_reader.specs.declared.recipes.RawRecipe.{RawRecipe}
 use Rattle.craft_reader.specs.declared.technologies.RawTech.{RawTech}
 use Rattle.game_types.specs.declared.goods.Fluid.{Fluid}
 use Rattle.game_types.specs.Nodes.{node_limit}
+use Rattle.machine_reader.specs.declared.raw.RawMachine.{RawMachine}
+use Rattle.machine_reader.specs.declared.sections.Class.{Class}
+use Rattle.machine_reader.specs.declared.sections.Class.TheVariants as class
+use Rattle.machine_reader.specs.declared.sections.Section.{Section}
+use Rattle.machine_reader.specs.declared.sections.Section.TheVariants as section
+use Rattle.machine_reader.specs.Machines.{machine_of}
+use Rattle.machine_reader.specs.Sections.{class_of}
 use Rattle.dump_reader.specs.declared.draft.Draft.{Draft}
 use Rattle.dump_reader.specs.declared.raw.RawItem.{RawItem}
-use Rattle.dump_reader.specs.declared.raw.RawMachine.{RawMachine}
 use Rattle.dump_reader.specs.declared.raw.RawSource.{RawSource}
-use Rattle.dump_reader.specs.declared.sections.Class.{Class}
-use Rattle.dump_reader.specs.declared.sections.Class.TheVariants as class
-use Rattle.dump_reader.specs.declared.sections.Section.{Section}
-use Rattle.dump_reader.specs.declared.sections.Section.TheVariants as section
 use Rattle.dump_reader.specs.Goods.{item_of, fluid_of}
-use Rattle.dump_reader.specs.Machines.{crafter_of, drill_of, pump_of, boiler_of, generator_of, burner_generator_of, solar_of, reactor_of, lab_of, beacon_of}
 use Rattle.dump_reader.specs.Sources.{resource_of, plant_of}
 
 pub record RawGame : Type 0 where
@@ -145,59 +147,24 @@ with_source section name object g =
     source_of section object g.categories ▸ λ found.
     Ok (record g { sources = one_more g.sources found.0; source_names = t.0; categories = found.1; nodes = t.1 })
 
-abbrev pub machine_by : Section → Object → Names → Reading (RawMachine × Names)
-machine_by section.MiningDrill object names = drill_of section.MiningDrill object names
-machine_by section.OffshorePump object names = with_names names (pump_of section.OffshorePump object)
-machine_by section.Boiler object names = boiler_of section.Boiler object names
-machine_by section.Generator object names = with_names names (generator_of section.Generator object)
-machine_by section.BurnerGenerator object names = burner_generator_of section.BurnerGenerator object names
-machine_by section.SolarPanel object names = with_names names (solar_of section.SolarPanel object)
-machine_by section.Reactor object names = reactor_of section.Reactor object names
-machine_by section.Lab object names = lab_of section.Lab object names
-machine_by section.Beacon object names = beacon_of section.Beacon object names
-machine_by section object names = crafter_of section object names
-
-unfoldable pub machine_of : Section → Object → Names → Reading (RawMachine × Names)
-machine_of section object names = machine_by section object names
-
 unfoldable pub with_machine : Section → List ℕ → Object → RawGame → Reading RawGame
 with_machine section name object g =
     taken_beside g.machine_names g.source_names g.nodes name ▸ λ t.
     machine_of section object g.categories ▸ λ found.
     Ok (record g { machines = g.machines ++ found.0 ∷ []; machine_names = t.0; categories = found.1; nodes = t.1 })
 
+-- the categories of a list, of which there may be none
+unfoldable pub categories_at : Object → Key → Names → Reading (List ℕ × Names)
+categories_at object key names =
+    list_or_empty object key ▸ λ elements.
+    categories object key elements names
+
 -- all characters together craft and mine what one of them does
 unfoldable pub with_character : Object → RawGame → Reading RawGame
 with_character object g =
-    list_or_empty object CraftingCategories ▸ λ elements.
-    categories object CraftingCategories elements g.categories ▸ λ crafting.
-    list_or_empty object MiningCategories ▸ λ others.
-    categories object MiningCategories others crafting.1 ▸ λ mining.
+    categories_at object CraftingCategories g.categories ▸ λ crafting.
+    categories_at object MiningCategories crafting.1 ▸ λ mining.
     Ok (record g { crafting = g.crafting ++ crafting.0; mining = g.mining ++ mining.0; categories = mining.1 })
-
--- ---- the class of a section
-abbrev pub class_of : Section → Class
-class_of section.Fluid = class.Fluids
-class_of section.Recipe = class.Recipes
-class_of section.Resource = class.Sources
-class_of section.Tree = class.Sources
-class_of section.SimpleEntity = class.Sources
-class_of section.Fish = class.Sources
-class_of section.AssemblingMachine = class.Machines
-class_of section.Furnace = class.Machines
-class_of section.RocketSilo = class.Machines
-class_of section.MiningDrill = class.Machines
-class_of section.OffshorePump = class.Machines
-class_of section.Boiler = class.Machines
-class_of section.Generator = class.Machines
-class_of section.BurnerGenerator = class.Machines
-class_of section.SolarPanel = class.Machines
-class_of section.Reactor = class.Machines
-class_of section.Lab = class.Machines
-class_of section.Beacon = class.Machines
-class_of section.Character = class.Characters
-class_of section.Technology = class.Technologies
-class_of section = class.Items
 
 abbrev pub with_entry : Class → Section → List ℕ → Object → RawGame → Reading RawGame
 with_entry class.Items section name object g = with_item section name object g

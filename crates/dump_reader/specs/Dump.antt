@@ -10,9 +10,9 @@ use Rattle.prototype_fields.specs.Objects.{Member, as_object, value_at}
 use Rattle.prototype_fields.specs.Values.{Reading, ◌▸◌, object_element}
 use Rattle.craft_reader.specs.declared.fault.DumpFault.{DumpFault}
 use Rattle.craft_reader.specs.Faults.{fault_in, in_prototype}
-use Rattle.dump_reader.specs.declared.sections.Section.{Section}
-use Rattle.dump_reader.specs.declared.sections.Section.TheVariants as section
-use Rattle.dump_reader.specs.Sections.{section_text}
+use Rattle.machine_reader.specs.declared.sections.Section.{Section}
+use Rattle.machine_reader.specs.declared.sections.Section.TheVariants as section
+use Rattle.machine_reader.specs.Sections.{section_text}
 use Rattle.dump_reader.specs.Draft.{RawGame, empty_game, with_prototype}
 
 -- first this, and then what the value gives

@@ -1,6 +1,6 @@
 -- Items and fluids as a dump has them: the table of their fields, in the order in which they are read. Fields and defaults
 -- are those of the prototype documentation of Factorio 1.1.
-use Rattle.std.specs.Prelude.{ℕ, ℤ, pos, Option, Some, None, option_map, Ok}
+use Rattle.std.specs.Prelude.{ℕ, ℤ, pos, List, Option, Some, None, option_map, Ok}
 use Rattle.fractions.specs.Fraction.{Fraction, zero_fraction, one_fraction, whole_fraction}
 use Rattle.prototype_fields.specs.declared.names.Key.{Key}
 use Rattle.prototype_fields.specs.declared.names.Key.TheVariants.{PlaceResult, FuelCategory, FuelValue, FuelEmissionsMultiplier, BurntResult, Effect, Speed, Productivity, Consumption, Pollution, Bonus as BonusKey, Limitation, LimitationBlacklist, HeatCapacity, DefaultTemperature}
@@ -14,8 +14,8 @@ use Rattle.game_types.specs.declared.goods.Fluid.{Fluid}
 use Rattle.game_types.specs.declared.goods.Fuel.{Fuel}
 use Rattle.dump_reader.specs.declared.raw.RawItem.{RawItem}
 use Rattle.dump_reader.specs.declared.raw.RawModule.{RawModule}
-use Rattle.dump_reader.specs.declared.sections.Section.{Section}
-use Rattle.dump_reader.specs.declared.sections.Section.TheVariants.{Module}
+use Rattle.machine_reader.specs.declared.sections.Section.{Section}
+use Rattle.machine_reader.specs.declared.sections.Section.TheVariants.{Module}
 
 -- ---- fluid: one record, until it is known at which temperatures it is made
 abbrev pub fluid_of : Object → Reading Fluid
@@ -40,14 +40,18 @@ bonus_of effect =
     bonus_in effect Pollution within.EffectPollution ▸ λ pollution.
     Ok (record { speed = speed; productivity = productivity; consumption = consumption; pollution = pollution })
 
+-- the names of a list, of which there may be none
+unfoldable pub names_at : Object → Key → Reading (List (List ℕ))
+names_at object key =
+    list_or_empty object key ▸ λ elements.
+    names_in object key elements
+
 unfoldable pub module_of : Object → Reading RawModule
 module_of object =
     object_or_empty object Effect within.Effect ▸ λ effect.
     bonus_of effect ▸ λ bonus.
-    list_or_empty object Limitation ▸ λ recipes.
-    names_in object Limitation recipes ▸ λ limitation.
-    list_or_empty object LimitationBlacklist ▸ λ others.
-    names_in object LimitationBlacklist others ▸ λ blacklist.
+    names_at object Limitation ▸ λ limitation.
+    names_at object LimitationBlacklist ▸ λ blacklist.
     Ok (record { bonus = bonus; limitation = limitation; blacklist = blacklist })
 
 -- only what stands in the section of modules is one
@@ -59,14 +63,19 @@ optional_module section object = Ok None
 abbrev pub fuel_of : Option ℕ → Fraction → Fraction → Option Fuel
 fuel_of category value emissions = option_map (λ number. record { category = number; value = value; emissions = emissions }) category
 
-abbrev pub item_of : Section → Object → Names → Reading (RawItem × Names)
-item_of section object names =
-    name object PlaceResult ▸ λ place.
+unfoldable pub fuel_in : Object → Names → Reading (Option Fuel × Names)
+fuel_in object names =
     name object FuelCategory ▸ λ fuel_category.
     optional_category object FuelCategory fuel_category names ▸ λ category.
     energy_or object FuelValue zero_fraction ▸ λ value.
     amount_or object FuelEmissionsMultiplier one_fraction ▸ λ emissions.
+    Ok (fuel_of category.0 value emissions, category.1)
+
+abbrev pub item_of : Section → Object → Names → Reading (RawItem × Names)
+item_of section object names =
+    name object PlaceResult ▸ λ place.
+    fuel_in object names ▸ λ fuel.
     name object BurntResult ▸ λ burnt.
     optional_module section object ▸ λ found.
     launch_products object ▸ λ launch.
-    Ok (record { section = section; place = place; fuel = fuel_of category.0 value emissions; burnt = burnt; «module» = found; launch = launch }, category.1)
+    Ok (record { section = section; place = place; fuel = fuel.0; burnt = burnt; «module» = found; launch = launch }, fuel.1)

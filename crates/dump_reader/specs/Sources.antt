@@ -9,7 +9,7 @@ use Rattle.prototype_fields.specs.Values.{Reading, ◌▸◌, Names, name, name_
 use Rattle.craft_reader.specs.Goods.{products}
 use Rattle.craft_reader.specs.declared.goods.RawProduct.{RawProduct}
 use Rattle.dump_reader.specs.declared.raw.RawSource.{RawSource}
-use Rattle.dump_reader.specs.declared.sections.Section.{Section}
+use Rattle.machine_reader.specs.declared.sections.Section.{Section}
 
 -- no products where none are named
 abbrev pub or_none : Option (List RawProduct) → List RawProduct
@@ -24,13 +24,18 @@ abbrev pub fluid_taken : Option (List ℕ) → Option Fraction → Option (List 
 fluid_taken None amount = None
 fluid_taken (Some fluid) amount = Some (fluid, tenth_of amount)
 
+unfoldable pub taken_of : Object → Reading (Option (List ℕ × Fraction))
+taken_of minable =
+    name minable RequiredFluid ▸ λ fluid.
+    amount minable FluidAmount ▸ λ amount.
+    Ok (fluid_taken fluid amount)
+
 unfoldable pub drilled_of : Section → ℕ → Bool → Object → Reading RawSource
 drilled_of section category placed minable =
     required_positive minable MiningTime ▸ λ time.
     products within.MinableResults minable Count ▸ λ products.
-    name minable RequiredFluid ▸ λ fluid.
-    amount minable FluidAmount ▸ λ amount.
-    Ok (record { section = section; drilled = true; category = category; time = time; placed = placed; products = or_none products; fluid = fluid_taken fluid amount })
+    taken_of minable ▸ λ fluid.
+    Ok (record { section = section; drilled = true; category = category; time = time; placed = placed; products = or_none products; fluid = fluid })
 
 abbrev pub if_minable : (Object → Reading RawSource) → Option Object → Reading (Option RawSource)
 if_minable read None = Ok None

@@ -3,18 +3,14 @@ ghost use Rattle.std.specs.Prelude.{◌≡◌, ◌∷◌, ◌++◌, [], IfOk, le
 ghost use Rattle.json_text.specs.SpanSeen.{spans_seen};
 ghost use Rattle.prototype_fields.specs.Seen.{object_seen};
 ghost use Rattle.prototype_fields.specs.Values.{Gives, seen_as, with_names};
-ghost use Rattle.dump_reader.specs.Draft.{draft_seen, empty_game, taken, taken_beside, with_item, with_fluid, with_recipe, with_tech, source_taken, source_of, one_more, with_source, machine_of, with_machine, with_character, with_prototype};
+ghost use Rattle.dump_reader.specs.Draft.{draft_seen, empty_game, taken, taken_beside, with_item, with_fluid, with_recipe, with_tech, source_taken, source_of, one_more, with_source, with_machine, categories_at, with_character, with_prototype};
 
 use crate::goods::{read_fluid, read_item};
-use crate::machines::{
-    read_beacon, read_boiler, read_burner_generator, read_crafter, read_drill, read_generator,
-    read_lab, read_pump, read_reactor, read_solar,
-};
-use crate::raw::{RawItem, RawMachine, RawSource};
-use crate::sections::{Class, Section};
+use crate::raw::{RawItem, RawSource};
 use crate::sources::{read_plant, read_resource};
 use craft_reader::{RawRecipe, RawTech, raw_recipe, raw_tech};
 use game_types::{Fluid, NODE_LIMIT};
+use machine_reader::{Class, RawMachine, Section, read_machine};
 use name_table::{NAME_LIMIT, NameFault, Names};
 use plan_base::{Items, NoMemory};
 use prototype_fields::{FieldCode, FieldFault, Fields, Key, Within};
@@ -197,29 +193,6 @@ fn add_source(
     Ok(())
 }
 
-#[tactic(auto, unfolding(crate::specs::Draft::machine_of))]
-fn read_machine(
-    alloc: Global,
-    section: Section,
-    fields: &Fields<'_, '_>,
-    names: &mut Names,
-) -> Result<RawMachine, FieldFault>
-    ensures { Gives (machine_of section (object_seen fields.now) names.old) (with_names names.new result) }
-{
-    match section {
-        Section::MiningDrill => read_drill(alloc, section, fields, names),
-        Section::OffshorePump => read_pump(alloc, section, fields),
-        Section::Boiler => read_boiler(alloc, section, fields, names),
-        Section::Generator => read_generator(alloc, section, fields),
-        Section::BurnerGenerator => read_burner_generator(alloc, section, fields, names),
-        Section::SolarPanel => read_solar(section, fields),
-        Section::Reactor => read_reactor(alloc, section, fields, names),
-        Section::Lab => read_lab(alloc, section, fields, names),
-        Section::Beacon => read_beacon(alloc, section, fields, names),
-        _ => read_crafter(alloc, section, fields, names),
-    }
-}
-
 #[tactic(auto, unfolding(crate::specs::Draft::with_machine))]
 fn add_machine(
     alloc: Global,
@@ -248,6 +221,20 @@ fn put_behind(numbers: &mut Vec<u32>, more: &Items<u32>) -> Result<(), AllocErro
     numbers.extend_from_slice(more.as_slice())
 }
 
+// The categories of a list, of which there may be none.
+#[tactic(auto, unfolding(crate::specs::Draft::categories_at))]
+fn read_categories(
+    alloc: Global,
+    fields: &Fields<'_, '_>,
+    key: Key,
+    names: &mut Names,
+) -> Result<Items<u32>, FieldFault>
+    ensures { Gives (categories_at (object_seen fields.now) key names.old) (with_names names.new result) }
+{
+    let elements = fields.list_or_empty(key)?;
+    fields.categories(alloc, key, elements, names)
+}
+
 #[tactic(auto, unfolding(crate::specs::Draft::with_character))]
 fn add_character(
     alloc: Global,
@@ -256,15 +243,9 @@ fn add_character(
 ) -> Result<(), FieldFault>
     ensures { Gives (with_character (object_seen fields.now) (draft_seen draft.old)) (seen_as (λ done. draft_seen draft.new) result) }
 {
-    let elements = fields.list_or_empty(Key::CraftingCategories)?;
-    let crafting = fields.categories(
-        alloc,
-        Key::CraftingCategories,
-        elements,
-        &mut draft.categories,
-    )?;
-    let others = fields.list_or_empty(Key::MiningCategories)?;
-    let mining = fields.categories(alloc, Key::MiningCategories, others, &mut draft.categories)?;
+    let categories = &mut draft.categories;
+    let crafting = read_categories(alloc, fields, Key::CraftingCategories, categories)?;
+    let mining = read_categories(alloc, fields, Key::MiningCategories, categories)?;
     put_behind(&mut draft.crafting, &crafting)?;
     put_behind(&mut draft.mining, &mining)?;
     Ok(())

@@ -1,16 +1,16 @@
 //! Items and fluids.
-ghost use Rattle.std.specs.Prelude.{◌≡◌, IfOk, option_map};
+ghost use Rattle.std.specs.Prelude.{◌≡◌};
 ghost use Rattle.prototype_fields.specs.Seen.{object_seen};
 ghost use Rattle.prototype_fields.specs.Values.{Gives, with_names};
-ghost use Rattle.dump_reader.specs.Goods.{fluid_of, bonus_in, bonus_of, module_of, optional_module, fuel_of, item_of};
+ghost use Rattle.dump_reader.specs.Goods.{fluid_of, bonus_in, bonus_of, names_at, module_of, optional_module, fuel_of, fuel_in, item_of};
 
 use crate::raw::{RawItem, RawModule};
-use crate::sections::Section;
 use craft_reader::launch_products;
 use fractions::Ratio;
 use game_types::{Bonus, Fluid, Fuel};
+use machine_reader::{Section, read_name};
 use name_table::Names;
-use plan_base::{NoMemory, Text};
+use plan_base::{Items, Text};
 use prototype_fields::{FieldFault, Fields, Key, Within};
 use std::alloc::Global;
 
@@ -28,16 +28,6 @@ pub fn read_fluid(fields: &Fields<'_, '_>) -> Result<Fluid, FieldFault>
         of: None,
         at: default_temperature,
     })
-}
-
-/// A name of its own, where one is given.
-pub fn owned(alloc: Global, name: Option<&str>) -> Result<Option<Text>, NoMemory>
-    ensures { IfOk result (λ text. text ≡ option_map (λ name. name.now) name.entry) }
-{
-    match name {
-        Some(name) => Ok(Some(Text::copy(alloc, name)?)),
-        None => Ok(None),
-    }
 }
 
 // The bonus of one kind.
@@ -64,16 +54,23 @@ fn read_effect(effect: &Fields<'_, '_>) -> Result<Bonus, FieldFault>
     })
 }
 
+// The names of a list, of which there may be none.
+#[tactic(auto, unfolding(crate::specs::Goods::names_at))]
+fn read_names(alloc: Global, fields: &Fields<'_, '_>, key: Key) -> Result<Items<Text>, FieldFault>
+    ensures { Gives (names_at (object_seen fields.now) key) result }
+{
+    let elements = fields.list_or_empty(key)?;
+    fields.names_in(alloc, key, elements)
+}
+
 #[tactic(auto, unfolding(crate::specs::Goods::module_of))]
 fn read_module(alloc: Global, fields: &Fields<'_, '_>) -> Result<RawModule, FieldFault>
     ensures { Gives (module_of (object_seen fields.now)) result }
 {
     let effect = fields.object_or_empty(Key::Effect, Within::Effect)?;
     let bonus = read_effect(&effect)?;
-    let recipes = fields.list_or_empty(Key::Limitation)?;
-    let limitation = fields.names_in(alloc, Key::Limitation, recipes)?;
-    let others = fields.list_or_empty(Key::LimitationBlacklist)?;
-    let blacklist = fields.names_in(alloc, Key::LimitationBlacklist, others)?;
+    let limitation = read_names(alloc, fields, Key::Limitation)?;
+    let blacklist = read_names(alloc, fields, Key::LimitationBlacklist)?;
     Ok(RawModule {
         bonus,
         limitation,
@@ -108,6 +105,18 @@ fn fuel_of(category: Option<u32>, value: Ratio, emissions: Ratio) -> Option<Fuel
     }
 }
 
+// What an item is as a fuel, where it is one.
+#[tactic(auto, unfolding(crate::specs::Goods::fuel_in))]
+fn read_fuel(fields: &Fields<'_, '_>, names: &mut Names) -> Result<Option<Fuel>, FieldFault>
+    ensures { Gives (fuel_in (object_seen fields.now) names.old) (with_names names.new result) }
+{
+    let category = fields.name(Key::FuelCategory)?;
+    let category = fields.optional_category(Key::FuelCategory, category, names)?;
+    let value = fields.energy_or(Key::FuelValue, Ratio::zero())?;
+    let emissions = fields.amount_or(Key::FuelEmissionsMultiplier, Ratio::one())?;
+    Ok(fuel_of(category, value, emissions))
+}
+
 /// An item.
 pub fn read_item(
     alloc: Global,
@@ -117,18 +126,15 @@ pub fn read_item(
 ) -> Result<RawItem, FieldFault>
     ensures { Gives (item_of section (object_seen fields.now) names.old) (with_names names.new result) }
 {
-    let place = owned(alloc, fields.name(Key::PlaceResult)?)?;
-    let category = fields.name(Key::FuelCategory)?;
-    let category = fields.optional_category(Key::FuelCategory, category, names)?;
-    let value = fields.energy_or(Key::FuelValue, Ratio::zero())?;
-    let emissions = fields.amount_or(Key::FuelEmissionsMultiplier, Ratio::one())?;
-    let burnt = owned(alloc, fields.name(Key::BurntResult)?)?;
+    let place = read_name(alloc, fields, Key::PlaceResult)?;
+    let fuel = read_fuel(fields, names)?;
+    let burnt = read_name(alloc, fields, Key::BurntResult)?;
     let module = optional_module(alloc, section, fields)?;
     let launch = launch_products(alloc, fields)?;
     Ok(RawItem {
         section,
         place,
-        fuel: fuel_of(category, value, emissions),
+        fuel,
         burnt,
         module,
         launch,

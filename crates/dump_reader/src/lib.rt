@@ -1,16 +1,12 @@
-//! The whole dump: from its bytes to the typed game.
+//! The first pass over a dump: its prototypes with names in place of ids.
 #![tactic(auto)]
 
 mod draft;
-mod energy;
 mod goods;
-mod machines;
 mod passes;
 mod raw;
-mod sections;
 mod sources;
 
 pub use draft::Draft;
 pub use passes::read_draft;
-pub use raw::{RawEnergy, RawItem, RawKind, RawMachine, RawModule, RawSource};
-pub use sections::{Class, Section};
+pub use raw::{RawItem, RawModule, RawSource};

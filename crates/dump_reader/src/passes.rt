@@ -5,13 +5,13 @@ ghost use Rattle.prototype_fields.specs.Values.{Gives, seen_as};
 ghost use Rattle.craft_reader.specs.Faults.{GivesDump, IsBare, fault_in};
 ghost use Rattle.dump_reader.specs.Draft.{draft_seen};
 ghost use Rattle.dump_reader.specs.Dump.{each_after, member_of, named_of, no_object, prototype_of, section_of, sections, raw_game};
-ghost use Rattle.dump_reader.specs.Sections.{section_text};
+ghost use Rattle.machine_reader.specs.Sections.{section_text};
 ghost use Rattle.dump_reader.specs.Sound.{IsSoundDraft};
 
 use crate::draft::{Draft, add_prototype};
-use crate::sections::Section;
 use craft_reader::{DumpCode, DumpFault};
 use json_text::{SpanMember, SpanTree};
+use machine_reader::Section;
 use prototype_fields::{FieldCode, FieldFault, Fields, Within, as_object, if_utf8, value_at};
 use std::alloc::Global;
 

@@ -3,12 +3,12 @@ ghost use Rattle.std.specs.Prelude.{◌≡◌, [], IfOk, IfSome, option_map, is_
 ghost use Rattle.fractions.specs.Limits.{IsBelow};
 ghost use Rattle.prototype_fields.specs.Seen.{object_seen};
 ghost use Rattle.prototype_fields.specs.Values.{Gives, with_names};
-ghost use Rattle.dump_reader.specs.Sources.{or_none, tenth_of, fluid_taken, drilled_of, if_minable, mined_of, category_of, resource_of, gathered_of, plant_of};
+ghost use Rattle.dump_reader.specs.Sources.{or_none, tenth_of, fluid_taken, taken_of, drilled_of, if_minable, mined_of, category_of, resource_of, gathered_of, plant_of};
 
 use crate::raw::RawSource;
-use crate::sections::Section;
 use craft_reader::{RawProduct, products};
 use fractions::Ratio;
+use machine_reader::Section;
 use name_table::Names;
 use plan_base::{Items, NoMemory, Text};
 use prototype_fields::{FieldFault, Fields, Key, Within, tenth};
@@ -43,6 +43,16 @@ fn fluid_taken(
     }
 }
 
+// The fluid that one operation takes, where it takes one.
+#[tactic(auto, unfolding(crate::specs::Sources::taken_of))]
+fn read_taken(alloc: Global, minable: &Fields<'_, '_>) -> Result<Option<(Text, Ratio)>, FieldFault>
+    ensures { Gives (taken_of (object_seen minable.now)) result }
+{
+    let fluid = minable.name(Key::RequiredFluid)?;
+    let amount = minable.amount(Key::FluidAmount)?;
+    Ok(fluid_taken(alloc, fluid, amount)?)
+}
+
 #[tactic(auto, unfolding(crate::specs::Sources::drilled_of))]
 fn read_drilled(
     alloc: Global,
@@ -55,17 +65,14 @@ fn read_drilled(
 {
     let time = minable.required_positive(Key::MiningTime)?;
     let products = products(alloc, Within::MinableResults, minable, Key::Count)?;
-    let fluid = minable.name(Key::RequiredFluid)?;
-    let amount = minable.amount(Key::FluidAmount)?;
-    let products = or_none(alloc, products);
-    let fluid = fluid_taken(alloc, fluid, amount)?;
+    let fluid = read_taken(alloc, minable)?;
     Ok(RawSource {
         section,
         drilled: true,
         category,
         time,
         placed,
-        products,
+        products: or_none(alloc, products),
         fluid,
     })
 }

@@ -3,7 +3,7 @@ use Rattle.std.proofs.Common.{◌≡◌, ◌∙◌, ℕ, List, Ok, Err, Result, 
 use Rattle.craft_reader.specs.declared.fault.DumpFault.{DumpFault}
 use Rattle.dump_reader.specs.Dump.{◌▷◌}
 use Rattle.dump_reader.specs.Draft.{RawGame}
-use Rattle.dump_reader.specs.declared.sections.Section.TheVariants as section
+use Rattle.machine_reader.specs.declared.sections.Section.TheVariants as section
 use Rattle.game_types.specs.declared.games.Game.{Game}
 use Rattle.game_types.specs.declared.goods.Fluid.{Fluid}
 use Rattle.game_types.specs.declared.goods.Item.{Item}

@@ -14,11 +14,11 @@ use Rattle.craft_reader.specs.declared.fault.DumpCode.TheVariants as d
 use Rattle.craft_reader.specs.declared.fault.DumpFault.{DumpFault}
 use Rattle.craft_reader.specs.Faults.{GivesDump, code_of, fault_in, in_prototype}
 use Rattle.dump_reader.specs.declared.draft.Draft.{Draft}
-use Rattle.dump_reader.specs.declared.sections.Section.{Section}
-use Rattle.dump_reader.specs.declared.sections.Section.TheVariants as section
+use Rattle.machine_reader.specs.declared.sections.Section.{Section}
+use Rattle.machine_reader.specs.declared.sections.Section.TheVariants as section
 use Rattle.dump_reader.specs.Draft.{RawGame, draft_seen, empty_game}
 use Rattle.dump_reader.specs.Dump.{◌▷◌, each_after, game_in, member_of, members_in, named_of, no_object, prototype_of, raw_game, section_in, section_of, sections}
-use Rattle.dump_reader.specs.Sections.{section_text}
+use Rattle.machine_reader.specs.Sections.{section_text}
 use Rattle.game_types.specs.declared.games.Game.{Game}
 use Rattle.game_types.specs.Sound.{IsSound}
 use Rattle.plan_base.specs.Shape.{node_count}

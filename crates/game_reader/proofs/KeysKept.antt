@@ -4,9 +4,9 @@ use Rattle.json_text.specs.Kept.{is_among}
 use Rattle.prototype_fields.specs.declared.names.Key.{Key}
 use Rattle.prototype_fields.specs.declared.names.Key.TheVariants as k
 use Rattle.prototype_fields.specs.Names.{key_text}
-use Rattle.dump_reader.specs.declared.sections.Section.{Section}
-use Rattle.dump_reader.specs.declared.sections.Section.TheVariants as s
-use Rattle.dump_reader.specs.Sections.{section_text}
+use Rattle.machine_reader.specs.declared.sections.Section.{Section}
+use Rattle.machine_reader.specs.declared.sections.Section.TheVariants as s
+use Rattle.machine_reader.specs.Sections.{section_text}
 use Rattle.game_reader.specs.Keys.{dump_wishes}
 
 pub section_kept : (section : Section) → is_among dump_wishes.sections (section_text section) ≡ true

@@ -8,9 +8,9 @@ use Rattle.prototype_fields.proofs.Each.{next}
 use Rattle.prototype_fields.specs.Values.{Reading, ◌▸◌, each}
 use Rattle.craft_reader.specs.declared.fault.DumpFault.{DumpFault}
 use Rattle.craft_reader.specs.Faults.{in_prototype}
-use Rattle.dump_reader.specs.declared.sections.Section.{Section}
+use Rattle.machine_reader.specs.declared.sections.Section.{Section}
 use Rattle.dump_reader.specs.Dump.{◌▷◌}
-use Rattle.dump_reader.specs.Sections.{section_text}
+use Rattle.machine_reader.specs.Sections.{section_text}
 use Rattle.game_reader.specs.Links.{each_linked}
 
 -- ---- elements

@@ -34,20 +34,21 @@ use Rattle.game_types.specs.declared.recipes.Recipe.{Recipe}
 use Rattle.game_types.specs.declared.recipes.Source.{Source}
 use Rattle.game_types.specs.declared.research.Tech.{Tech}
 use Rattle.game_types.specs.Sound.{ArePlain, AreApart, IsBase, IsItem, IsGood, IsFluid, IsSound, IsSoundFluid, IsSoundItem, IsSoundModule, IsSoundRecipe, IsSoundSource, IsSoundKind, IsSoundEnergy, IsSoundBurning, IsSoundMachine, IsSoundTech, IsBurner, IsSoundBonus}
-use Rattle.dump_reader.specs.declared.raw.RawEnergy.{RawEnergy}
-use Rattle.dump_reader.specs.declared.raw.RawEnergy.TheVariants as raw_energy
+use Rattle.machine_reader.specs.declared.raw.RawEnergy.{RawEnergy}
+use Rattle.machine_reader.specs.declared.raw.RawEnergy.TheVariants as raw_energy
 use Rattle.dump_reader.specs.declared.raw.RawItem.{RawItem}
-use Rattle.dump_reader.specs.declared.raw.RawKind.{RawKind}
-use Rattle.dump_reader.specs.declared.raw.RawKind.TheVariants as raw_kind
-use Rattle.dump_reader.specs.declared.raw.RawMachine.{RawMachine}
+use Rattle.machine_reader.specs.declared.raw.RawKind.{RawKind}
+use Rattle.machine_reader.specs.declared.raw.RawKind.TheVariants as raw_kind
+use Rattle.machine_reader.specs.declared.raw.RawMachine.{RawMachine}
 use Rattle.dump_reader.specs.declared.raw.RawModule.{RawModule}
 use Rattle.dump_reader.specs.declared.raw.RawSource.{RawSource}
-use Rattle.dump_reader.specs.declared.sections.Section.{Section}
-use Rattle.dump_reader.specs.declared.sections.Section.TheVariants as section
+use Rattle.machine_reader.specs.declared.sections.Section.{Section}
+use Rattle.machine_reader.specs.declared.sections.Section.TheVariants as section
 use Rattle.dump_reader.specs.Draft.{RawGame}
 use Rattle.dump_reader.specs.Dump.{◌▷◌}
-use Rattle.dump_reader.specs.Sections.{section_text}
-use Rattle.dump_reader.specs.Sound.{IsSoundRawItem, IsSoundRawKind, IsSoundRawEnergy, IsRawBurner, IsSoundRawBurning, IsSoundRawMachine, IsSoundDraft}
+use Rattle.machine_reader.specs.Sections.{section_text}
+use Rattle.machine_reader.specs.Sound.{IsSoundRawKind, IsSoundRawEnergy, IsRawBurner, IsSoundRawBurning, IsSoundRawMachine}
+use Rattle.dump_reader.specs.Sound.{IsSoundRawItem, IsSoundDraft}
 use Rattle.game_reader.specs.declared.families.Families.{Families}
 use Rattle.game_reader.specs.Links.{Working, each_linked, families_of, fluid_named, good_at, good_by, if_given, item_named, known_machine, known_recipes, linked, linked_energy, linked_fluid, linked_good, linked_item, linked_kind, linked_launch, linked_machine, linked_module, linked_pack, linked_part, linked_product, linked_recipe, linked_source, linked_tech, linked_working, machine_at, or_unknown, recipe_at, recipe_named, tech_at, tech_named}
 

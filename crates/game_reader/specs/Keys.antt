@@ -3,7 +3,7 @@
 use Rattle.std.specs.Prelude.{ℕ, List, [], ◌∷◌, codes, map}
 use Rattle.json_text.specs.Kept.{Wishes}
 use Rattle.dump_reader.specs.Dump.{sections}
-use Rattle.dump_reader.specs.Sections.{section_text}
+use Rattle.machine_reader.specs.Sections.{section_text}
 
 -- the keys that are read within prototypes, whatever the section
 abbrev pub field_keys : List (List ℕ)

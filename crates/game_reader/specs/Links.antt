@@ -39,19 +39,19 @@ use Rattle.game_types.specs.declared.recipes.Product.{Product}
 use Rattle.game_types.specs.declared.recipes.Recipe.{Recipe}
 use Rattle.game_types.specs.declared.recipes.Source.{Source}
 use Rattle.game_types.specs.declared.research.Tech.{Tech}
-use Rattle.dump_reader.specs.declared.raw.RawEnergy.{RawEnergy}
-use Rattle.dump_reader.specs.declared.raw.RawEnergy.TheVariants as raw_energy
+use Rattle.machine_reader.specs.declared.raw.RawEnergy.{RawEnergy}
+use Rattle.machine_reader.specs.declared.raw.RawEnergy.TheVariants as raw_energy
 use Rattle.dump_reader.specs.declared.raw.RawItem.{RawItem}
-use Rattle.dump_reader.specs.declared.raw.RawKind.{RawKind}
-use Rattle.dump_reader.specs.declared.raw.RawKind.TheVariants as raw_kind
-use Rattle.dump_reader.specs.declared.raw.RawMachine.{RawMachine}
+use Rattle.machine_reader.specs.declared.raw.RawKind.{RawKind}
+use Rattle.machine_reader.specs.declared.raw.RawKind.TheVariants as raw_kind
+use Rattle.machine_reader.specs.declared.raw.RawMachine.{RawMachine}
 use Rattle.dump_reader.specs.declared.raw.RawModule.{RawModule}
 use Rattle.dump_reader.specs.declared.raw.RawSource.{RawSource}
-use Rattle.dump_reader.specs.declared.sections.Section.{Section}
-use Rattle.dump_reader.specs.declared.sections.Section.TheVariants as section
+use Rattle.machine_reader.specs.declared.sections.Section.{Section}
+use Rattle.machine_reader.specs.declared.sections.Section.TheVariants as section
 use Rattle.dump_reader.specs.Draft.{RawGame}
 use Rattle.dump_reader.specs.Dump.{◌▷◌}
-use Rattle.dump_reader.specs.Sections.{section_text}
+use Rattle.machine_reader.specs.Sections.{section_text}
 use Rattle.game_reader.specs.declared.families.Families.{Families}
 
 -- ---- names

@@ -1,11 +1,13 @@
 //! Machines with ids in place of names.
-ghost use Rattle.std.specs.Prelude.{◌≡◌};
-ghost use Rattle.prototype_fields.specs.Values.{Gives};
-ghost use Rattle.game_reader.specs.Links.{linked_energy, linked_kind, linked_machine};
+ghost use Rattle.std.specs.Prelude.{◌≡◌, Ok};
+ghost use Rattle.prototype_fields.specs.Values.{Gives, ◌▸◌};
+ghost use Rattle.game_reader.specs.Links.{linked_energy, linked_kind, linked_machine, linked_working};
 
 use crate::families::Families;
-use dump_reader::{RawEnergy, RawKind, RawMachine};
+use fractions::Ratio;
 use game_types::{Energy, Machine, MachineKind};
+use machine_reader::{RawEnergy, RawKind, RawMachine};
+use plan_base::{Items, Text};
 use prototype_fields::{FieldFault, Key, Within};
 use std::alloc::Global;
 
@@ -38,6 +40,94 @@ fn link_energy(names: &Families, source: RawEnergy) -> Result<Energy, FieldFault
     }
 }
 
+// What a machine does, beside its energy.
+fn with_energy(
+    names: &Families,
+    kind: MachineKind,
+    source: RawEnergy,
+) -> Result<(MachineKind, Energy), FieldFault>
+    ensures { result ≡ (linked_energy names.now source ▸ λ power. Ok (kind, power)) }
+{
+    match link_energy(names, source) {
+        Ok(energy) => Ok((kind, energy)),
+        Err(fault) => Err(fault),
+    }
+}
+
+// What crafts.
+fn link_crafter(
+    names: &Families,
+    speed: Ratio,
+    categories: Items<u32>,
+    fixed: Option<Text>,
+    source: RawEnergy,
+) -> Result<(MachineKind, Energy), FieldFault>
+    ensures { result ≡ linked_working names.now (RawKind.Crafter speed categories fixed) source }
+{
+    let energy = link_energy(names, source)?;
+    let fixed = names.optional_recipe(Within::Prototype, Key::FixedRecipe, &fixed)?;
+    Ok((
+        MachineKind::Crafter {
+            speed,
+            categories,
+            fixed,
+        },
+        energy,
+    ))
+}
+
+// A pump.
+fn link_pump(
+    names: &Families,
+    fluid: Text,
+    speed: Ratio,
+    source: RawEnergy,
+) -> Result<(MachineKind, Energy), FieldFault>
+    ensures { result ≡ linked_working names.now (RawKind.Pump fluid speed) source }
+{
+    let fluid = names.fluid(Within::Prototype, Key::Fluid, fluid.as_str())?;
+    with_energy(names, MachineKind::Pump { fluid, speed }, source)
+}
+
+// A boiler.
+fn link_boiler(
+    names: &Families,
+    input: Option<Text>,
+    output: Option<Text>,
+    is_one_fluid: bool,
+    temperature: Ratio,
+    source: RawEnergy,
+) -> Result<(MachineKind, Energy), FieldFault>
+    ensures { result ≡ linked_working names.now (RawKind.Boiler input output is_one_fluid temperature) source }
+{
+    let energy = link_energy(names, source)?;
+    let input = names.optional_fluid(Within::FluidBox, Key::Filter, &input)?;
+    let output = names.optional_fluid(Within::OutputFluidBox, Key::Filter, &output)?;
+    let output = if is_one_fluid { input } else { output };
+    Ok((
+        MachineKind::Boiler {
+            input,
+            output,
+            temperature,
+        },
+        energy,
+    ))
+}
+
+// A lab.
+fn link_lab(
+    alloc: Global,
+    names: &Families,
+    inputs: Items<Text>,
+    speed: Ratio,
+    source: RawEnergy,
+) -> Result<(MachineKind, Energy), FieldFault>
+    ensures { Gives (linked_working names.now (RawKind.Lab inputs speed) source) result }
+{
+    let inputs = names.each_item(alloc, Within::Prototype, Key::Inputs, &inputs)?;
+    with_energy(names, MachineKind::Lab { inputs, speed }, source)
+}
+
 // What a machine does, and its energy.
 #[tactic(auto, unfolding(crate::specs::Links::linked_kind))]
 fn link_kind(
@@ -53,57 +143,27 @@ fn link_kind(
             speed,
             categories,
             fixed,
-        } => {
-            let energy = link_energy(names, source)?;
-            let fixed = names.optional_recipe(Within::Prototype, Key::FixedRecipe, &fixed)?;
-            Ok((
-                MachineKind::Crafter {
-                    speed,
-                    categories,
-                    fixed,
-                },
-                energy,
-            ))
-        }
+        } => link_crafter(names, speed, categories, fixed, source),
         RawKind::Drill {
             speed,
             categories,
             fluid_box,
-        } => {
-            let energy = link_energy(names, source)?;
-            Ok((
-                MachineKind::Drill {
-                    speed,
-                    categories,
-                    fluid_box,
-                },
-                energy,
-            ))
-        }
-        RawKind::Pump { fluid, speed } => {
-            let fluid = names.fluid(Within::Prototype, Key::Fluid, fluid.as_str())?;
-            let energy = link_energy(names, source)?;
-            Ok((MachineKind::Pump { fluid, speed }, energy))
-        }
+        } => with_energy(
+            names,
+            MachineKind::Drill {
+                speed,
+                categories,
+                fluid_box,
+            },
+            source,
+        ),
+        RawKind::Pump { fluid, speed } => link_pump(names, fluid, speed, source),
         RawKind::Boiler {
             input,
             output,
             is_one_fluid,
             temperature,
-        } => {
-            let energy = link_energy(names, source)?;
-            let input = names.optional_fluid(Within::FluidBox, Key::Filter, &input)?;
-            let output = names.optional_fluid(Within::OutputFluidBox, Key::Filter, &output)?;
-            let output = if is_one_fluid { input } else { output };
-            Ok((
-                MachineKind::Boiler {
-                    input,
-                    output,
-                    temperature,
-                },
-                energy,
-            ))
-        }
+        } => link_boiler(names, input, output, is_one_fluid, temperature, source),
         RawKind::Generator {
             input,
             effectivity,
@@ -113,8 +173,8 @@ fn link_kind(
             output,
         } => {
             let input = names.optional_fluid(Within::FluidBox, Key::Filter, &input)?;
-            let energy = link_energy(names, source)?;
-            Ok((
+            with_energy(
+                names,
                 MachineKind::Generator {
                     input,
                     effectivity,
@@ -123,29 +183,19 @@ fn link_kind(
                     burns,
                     output,
                 },
-                energy,
-            ))
+                source,
+            )
         }
         RawKind::BurnerGenerator { output } => {
-            let energy = link_energy(names, source)?;
-            Ok((MachineKind::BurnerGenerator { output }, energy))
+            with_energy(names, MachineKind::BurnerGenerator { output }, source)
         }
         RawKind::Solar { production } => {
-            let energy = link_energy(names, source)?;
-            Ok((MachineKind::Solar { production }, energy))
+            with_energy(names, MachineKind::Solar { production }, source)
         }
-        RawKind::Reactor => {
-            let energy = link_energy(names, source)?;
-            Ok((MachineKind::Reactor, energy))
-        }
-        RawKind::Lab { inputs, speed } => {
-            let inputs = names.each_item(alloc, Within::Prototype, Key::Inputs, &inputs)?;
-            let energy = link_energy(names, source)?;
-            Ok((MachineKind::Lab { inputs, speed }, energy))
-        }
+        RawKind::Reactor => with_energy(names, MachineKind::Reactor, source),
+        RawKind::Lab { inputs, speed } => link_lab(alloc, names, inputs, speed, source),
         RawKind::Beacon { effectivity } => {
-            let energy = link_energy(names, source)?;
-            Ok((MachineKind::Beacon { effectivity }, energy))
+            with_energy(names, MachineKind::Beacon { effectivity }, source)
         }
     }
 }

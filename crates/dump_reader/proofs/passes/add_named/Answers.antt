@@ -2,7 +2,7 @@ use Rattle.craft_reader.proofs.FaultsLemmas.{placed_fault}
 use Rattle.json_text.specs.SpanSeen.{span_seen}
 use Rattle.dump_reader.specs.Draft.{draft_seen}
 use Rattle.dump_reader.specs.Dump.{prototype_of, named_of}
-use Rattle.dump_reader.specs.Sections.{section_text}
+use Rattle.machine_reader.specs.Sections.{section_text}
 use Rattle.std.proofs.Common.{sym}
 use Rattle.dump_reader.proofs.passes.add_named.Goals as goal
 

@@ -1,6 +1,6 @@
 use Rattle.std.proofs.Common.{sym}
 use Rattle.craft_reader.proofs.FaultsLemmas.{placed_fault}
-use Rattle.dump_reader.specs.Sections.{section_text}
+use Rattle.machine_reader.specs.Sections.{section_text}
 use Rattle.game_reader.proofs.links.in_prototype.Goals as goal
 
 pub returns-in-Err : goal.returns-in-Err

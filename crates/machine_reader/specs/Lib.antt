@@ -1,0 +1,4 @@
+pub mod Sections
+pub mod Energy
+pub mod Machines
+pub mod Sound
