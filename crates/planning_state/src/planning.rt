@@ -1,7 +1,7 @@
 //! The planning state, with the rows and the ranks of every world beside it.
 ghost use Rattle.std.specs.Prelude.{◌≡◌, ◌≢◌, ℕ, ◌+◌, ◌*◌, ◌<◌, ◌≤◌, ◌∷◌, [], All, Bool, false, true, List, None, Some, Ok, IfErr, IfOk, MatchResult, OnErr, OnOk, length, slice_get, slice_index_or};
 ghost use Rattle.plan_base.specs.Shape.{count_of, first_of, node_count};
-ghost use Rattle.graph_store.specs.Rows.{member_count};
+ghost use Rattle.graph_store.specs.Rows.{AreMembersBelow, member_count};
 ghost use Rattle.game_types.specs.Nodes.{shape_of};
 ghost use Rattle.game_types.specs.Sound.{IsSound};
 ghost use Rattle.data_edit.specs.Books.{IsSoundBook};
@@ -23,7 +23,7 @@ use depend_index::Index;
 use depend_rows::{RowsFault, rows_within};
 use edit_undo::{Editable, EntryFault};
 use game_types::Game;
-use graph_store::{Graph, Group, Rows};
+use graph_store::{Graph, Group, Row, Rows};
 use kept_worlds::{
     add_milestone, apply_held, drop_milestone, put_milestone, restore_held, take_milestone,
 };
@@ -92,6 +92,50 @@ fn assemble(alloc: Global, book: Book, index: Index, graph: Graph, worlds: World
     }
 }
 
+// A planning state over the rows of its book, with no milestones and no tables.
+fn of_graph<L>(
+    alloc: Global,
+    book: Book,
+    index: Index,
+    graph: Graph,
+    steps: &mut Steps<L>,
+) -> Result<Planning, NoMemory>
+    requires sound { IsSoundBook book }
+    requires index { IsIndex book.game index }
+    requires rows { graph ≡ rows_of book.game }
+    ensures planning { IfOk result (λ planning. planning ≡ state_of book [] []) }
+    ensures steps { IfOk result (λ _. steps.new ≤ steps.old + 4 * (node_count (shape_of book.game) + member_count (rows_of book.game))) }
+    ensures later { steps.old ≤ steps.new }
+{
+    match first_worlds(alloc, &book, &graph, steps) {
+        Ok(worlds) => Ok(assemble(alloc, book, index, graph, worlds)),
+        Err(fault) => Err(fault),
+    }
+}
+
+// A planning state with these rows, those of its book, and with no milestones and no tables.
+fn of_rows<L>(
+    alloc: Global,
+    book: Book,
+    index: Index,
+    rows: Vec<Row>,
+    steps: &mut Steps<L>,
+) -> Result<Planning, NoMemory>
+    requires sound { IsSoundBook book }
+    requires index { IsIndex book.game index }
+    requires rows { rows.items ≡ rows_of book.game }
+    requires as_long { length rows.items ≡ node_count (shape_of book.game) }
+    requires members { AreMembersBelow (length rows.items) rows.items }
+    ensures planning { IfOk result (λ planning. planning ≡ state_of book [] []) }
+    ensures steps { IfOk result (λ _. steps.new ≤ steps.old + 4 * (node_count (shape_of book.game) + member_count (rows_of book.game))) }
+    ensures later { steps.old ≤ steps.new }
+{
+    match Graph::make(alloc, rows) {
+        Ok(graph) => of_graph(alloc, book, index, graph, steps),
+        Err(fault) => Err(fault),
+    }
+}
+
 impl Planning {
     /// The game with no marks and no milestones.
     ///
@@ -114,15 +158,10 @@ impl Planning {
             Ok(made) => made,
             Err(fault) => return Err(load_fault(fault)),
         };
-        let graph = match Graph::make(alloc, rows) {
-            Ok(graph) => graph,
-            Err(_) => return Err(LoadFault::NoMemory),
-        };
-        let worlds = match first_worlds(alloc, &book, &graph, steps) {
-            Ok(worlds) => worlds,
-            Err(_) => return Err(LoadFault::NoMemory),
-        };
-        Ok(assemble(alloc, book, index, graph, worlds))
+        match of_rows(alloc, book, index, rows, steps) {
+            Ok(planning) => Ok(planning),
+            Err(_) => Err(LoadFault::NoMemory),
+        }
     }
 
     /// The game as it stands.
