@@ -1,7 +1,6 @@
 pub mod Chain
 pub mod Codes
 pub mod KeysKept
-pub mod Loops
 pub mod OneGame
 pub mod SoundLinks
 pub mod WantedKeys

@@ -1,4 +1,3 @@
 pub mod Keys
-pub mod Links
 pub mod Games
 pub mod Lists

@@ -1,7 +1,7 @@
 //! Ingredients, products, science packs and items with ids in place of names.
 ghost use Rattle.std.specs.Prelude.{◌≡◌, IfOk, option_map};
 ghost use Rattle.prototype_fields.specs.Values.{Gives, each};
-ghost use Rattle.game_reader.specs.Links.{linked_good, linked_item, linked_launch, linked_module, linked_pack, linked_part, linked_product, product_with};
+ghost use Rattle.record_links.specs.Links.{linked_good, linked_item, linked_launch, linked_module, linked_pack, linked_part, linked_product, product_with};
 
 use crate::families::Families;
 use craft_reader::{GoodKind, NamedGood, RawPack, RawPart, RawProduct};

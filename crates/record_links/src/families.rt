@@ -3,7 +3,7 @@ ghost use Rattle.std.specs.Prelude.{◌≡◌, ◌<◌, ◌+◌, ℕ, IfOk, IfSo
 ghost use Rattle.std.specs.List.{filter_map};
 ghost use Rattle.name_table.specs.Names.{place_of};
 ghost use Rattle.prototype_fields.specs.Values.{Gives, each};
-ghost use Rattle.game_reader.specs.Links.{fluid_named, if_given, item_named, known_machine, known_recipes, or_unknown, recipe_named, tech_named, unknown_name};
+ghost use Rattle.record_links.specs.Links.{fluid_named, if_given, item_named, known_machine, known_recipes, or_unknown, recipe_named, tech_named, unknown_name};
 
 use name_table::{NAME_LIMIT, Names};
 use plan_base::{EntityId, GoodId, Items, NoMemory, RecipeId, TechId, Text};

@@ -1,7 +1,7 @@
 //! Machines with ids in place of names.
 ghost use Rattle.std.specs.Prelude.{◌≡◌};
 ghost use Rattle.prototype_fields.specs.Values.{Gives};
-ghost use Rattle.game_reader.specs.Links.{linked_energy, linked_kind, linked_machine};
+ghost use Rattle.record_links.specs.Links.{linked_energy, linked_kind, linked_machine};
 
 use crate::families::Families;
 use game_types::{Energy, Machine, MachineKind};

@@ -52,7 +52,7 @@ use Rattle.machine_reader.specs.declared.sections.Section.TheVariants as section
 use Rattle.dump_reader.specs.Draft.{RawGame}
 use Rattle.dump_reader.specs.Dump.{◌▷◌}
 use Rattle.machine_reader.specs.Sections.{section_text}
-use Rattle.game_reader.specs.declared.families.Families.{Families}
+use Rattle.record_links.specs.declared.families.Families.{Families}
 
 -- ---- names
 -- the number that a name stands for, or the fault of the field that names it

@@ -1,7 +1,7 @@
 //! Recipes, sources and technologies with ids in place of names.
 ghost use Rattle.std.specs.Prelude.{◌≡◌};
 ghost use Rattle.prototype_fields.specs.Values.{Gives};
-ghost use Rattle.game_reader.specs.Links.{if_given, linked_fluid, linked_recipe, linked_source, linked_tech};
+ghost use Rattle.record_links.specs.Links.{if_given, linked_fluid, linked_recipe, linked_source, linked_tech};
 
 use crate::families::Families;
 use crate::goods::{link_packs, link_parts, link_products};

@@ -11,7 +11,7 @@ use Rattle.craft_reader.specs.Faults.{in_prototype}
 use Rattle.machine_reader.specs.declared.sections.Section.{Section}
 use Rattle.dump_reader.specs.Dump.{◌▷◌}
 use Rattle.machine_reader.specs.Sections.{section_text}
-use Rattle.game_reader.specs.Links.{each_linked}
+use Rattle.record_links.specs.Links.{each_linked}
 
 -- ---- elements
 abbrev pub each_onto : {A B : Type 0} → (A → Reading B) → List B → List A → Reading (List B)
