@@ -1,11 +1,12 @@
 -- Loops over lists: what all give is what was found so far, and what the rest gives behind it.
 use Rattle.std.proofs.Common.{◌≡◌, ◌∙◌, ◌+◌, ◌<◌, ◌≤◌, ℕ, List, [], ◌∷◌, ◌++◌, Some, Ok, Err, Result, length, drop, refl, ap, sym, append_assoc, append-nil, arith, add-one}
-use Rattle.std.specs.Prelude.{slice_get}
+use Rattle.std.specs.Prelude.{slice_get, get_or}
 use Rattle.std.proofs.lemmas.Grind.{common_steps}
 use Rattle.std.proofs.lemmas.List.{length-append}
 use Rattle.std.proofs.lemmas.Option.{get_or_from_slice_get, slice_get_within}
 use Rattle.prototype_fields.proofs.Each.{next}
 use Rattle.prototype_fields.specs.Values.{Reading, ◌▸◌, each}
+use Rattle.prototype_fields.specs.declared.fault.FieldFault.{FieldFault}
 use Rattle.craft_reader.specs.declared.fault.DumpFault.{DumpFault}
 use Rattle.craft_reader.specs.Faults.{in_prototype}
 use Rattle.machine_reader.specs.declared.sections.Section.{Section}
@@ -39,6 +40,25 @@ nothing_before (Err fault) = refl
 
 pub each_from_nothing : {A B : Type 0} (read : A → Reading B) (xs : List A) → each read xs ≡ each_onto read [] xs
 each_from_nothing read xs = sym (each_onto_is read [] xs ∙ nothing_before (each read xs))
+
+-- a loop over a list: nothing was found before it, one more in a turn, the first fault, and the end
+pub each_first : {A B : Type 0} (read : A → Reading B) (xs : List A) (found : List B) → found ≡ [] → each read xs ≡ each_onto read found (drop 0 xs)
+each_first read xs found none = each_from_nothing read xs ∙ ap (λ some. each_onto read some xs) (sym none)
+
+each_turn : {A B : Type 0} (read : A → Reading B) (xs : List A) (k : ℕ) (raw x : A) (found : List B) (r : Reading B) → k < length xs → raw ≡ get_or xs k raw → x ≡ raw → r ≡ read x
+    → each read xs ≡ each_onto read found (drop k xs) → each read xs ≡ (r ▸ λ y. each_onto read (found ++ y ∷ []) (drop (k + 1) xs))
+each_turn read xs k raw x found r within at shown gives before =
+    before ∙ ap (each_onto read found) (next xs k raw within at) ∙ ap (λ first. first ▸ λ y. each_onto read (found ++ y ∷ []) (drop (k + 1) xs)) (ap read (sym shown) ∙ sym gives)
+
+pub each_more : {A B : Type 0} (read : A → Reading B) (xs : List A) (k : ℕ) (raw x : A) (found more : List B) (y : B) → k < length xs → raw ≡ get_or xs k raw → x ≡ raw → Ok y ≡ read x → more ≡ found ++ y ∷ []
+    → each read xs ≡ each_onto read found (drop k xs) → each read xs ≡ each_onto read more (drop (k + 1) xs)
+each_more read xs k raw x found more y within at shown gives put before =
+    each_turn read xs k raw x found (Ok y) within at shown gives before ∙ ap (λ some. each_onto read some (drop (k + 1) xs)) (sym put)
+
+pub each_fails : {A B : Type 0} (read : A → Reading B) (xs all : List A) (k : ℕ) (raw x : A) (found : List B) (fault : FieldFault) → k < length xs → raw ≡ get_or xs k raw → x ≡ raw → Err fault ≡ read x
+    → xs ≡ all → each read xs ≡ each_onto read found (drop k xs) → each read all ≡ Err fault
+each_fails read xs all k raw x found fault within at shown gives same before =
+    ap (each read) (sym same) ∙ each_turn read xs k raw x found (Err fault) within at shown gives before
 
 -- ---- prototypes beside their names
 abbrev pub linked_onto : {A B : Type 0} → (A → Section) → (A → Reading B) → List B → List A → List (List ℕ) → Result (List B) DumpFault
