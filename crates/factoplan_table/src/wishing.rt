@@ -130,6 +130,14 @@ fn joined(script: Vec<u8>, lines: &str) -> Result<Vec<u8>, NoMemory> {
     Ok(all)
 }
 
+// A script with the lines that come behind it, where there are any.
+fn with_lines(script: Vec<u8>, lines: Result<String, Failure>) -> Result<Vec<u8>, Failure> {
+    match lines {
+        Ok(lines) => Ok(joined(script, lines.as_str())?),
+        Err(failure) => Err(failure),
+    }
+}
+
 /// The lines of the script and of the table that is asked for.
 ///
 /// # Errors
@@ -148,8 +156,6 @@ pub fn output<L>(
         mut planner,
         script,
     } = ready;
-    match lines_behind(alloc, &mut planner, &script, asked, said, steps) {
-        Ok(lines) => Ok(joined(script, lines.as_str())?),
-        Err(failure) => Err(failure),
-    }
+    let lines = lines_behind(alloc, &mut planner, &script, asked, said, steps);
+    with_lines(script, lines)
 }
