@@ -1,6 +1,6 @@
 -- What a claim about a linear form comes to: shown by the numbers that the claim gives, rejected for the first fault of a checker, or
 -- open where nothing is claimed.
-use Rattle.std.specs.Prelude.{◌≡◌, ◌⊎◌, ◌==◌, ℕ, Bool, true, false, List, ◌++◌, Option, Some, None, codes, decimal, find, option_map, ⊤}
+use Rattle.std.specs.Prelude.{◌⊎◌, ◌==◌, ℕ, Bool, true, false, List, ◌++◌, Option, Some, None, codes, decimal, find, option_map, ⊤}
 use Rattle.linear_table.specs.declared.Linear.{Linear}
 use Rattle.linear_table.specs.declared.Plan.{Plan}
 use Rattle.plan_certificate.specs.Faults.{AreAcceptedPrices, AreAcceptedRefusals, IsAcceptedPlan, IsLeastFault, IsNoneFault, IsPlanFault}

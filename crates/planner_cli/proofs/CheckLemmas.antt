@@ -1,6 +1,6 @@
 -- What a check leaves whose certificate gives no entries, and which files it begins.
-use Rattle.std.proofs.Common.{◌≡◌, ◌≢◌, ◌≤◌, ◌<◌, ◌+◌, ◌-◌, ◌∙◌, inl, inr, [], ℕ, List, arith, length, refl, subst, sym, ap}
-use Rattle.std.specs.Prelude.{Option, Some, None, IsSome}
+use Rattle.std.proofs.Common.{◌≡◌, ◌≢◌, ◌≤◌, ◌+◌, ◌∙◌, inr, ℕ, List, arith, length, refl, subst, sym}
+use Rattle.std.specs.Prelude.{Option, Some, IsSome}
 use Rattle.plan_io.specs.Store.{Shelf, Begun}
 use Rattle.planner_core.specs.Lines.{Planned}
 use Rattle.certificate_file.specs.declared.CertEntry.{CertEntry}
@@ -17,7 +17,6 @@ use Rattle.run_inputs.specs.Certs.{EndsReadingCert}
 use Rattle.run_inputs.specs.Early.{EndsEarly, IsTold}
 use Rattle.run_inputs.specs.Ready.{IsReady}
 use Rattle.run_inputs.specs.Told.{status_of}
-use Rattle.run_inputs.specs.Inputs.{IsBase}
 use Rattle.cli_words.specs.Words.{FileNames, Files, Check, Run}
 use Rattle.planner_cli.proofs.EndingLemmas.{base_for, begins_told}
 

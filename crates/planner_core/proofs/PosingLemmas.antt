@@ -13,7 +13,7 @@ use Rattle.table_words.specs.declared.refusals.TableRefusal.{TableRefusal}
 use Rattle.production_table.specs.declared.tables.Table.{Table}
 use Rattle.game_types.specs.Steps.{◌▸◌}
 use Rattle.planner_tables.specs.Questions.{linear_named}
-use Rattle.planner_core.specs.Lines.{Held, IsFree, IsStep, IsStepIn, Planned, is_free}
+use Rattle.planner_core.specs.Lines.{Held, IsStep, IsStepIn, Planned, is_free}
 use Rattle.planner_core.specs.Posing.{IsPosed, IsPosedTable, IsPosedWhere, form_asked, form_in, form_of}
 use Rattle.planner_core.specs.declared.posing.Posed.{Posed}
 use Rattle.planner_core.specs.declared.posing.Posed.TheVariants as posed

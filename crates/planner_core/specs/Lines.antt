@@ -1,5 +1,5 @@
 -- What a line does: the planner after it, and its reply.
-use Rattle.std.specs.Prelude.{◌≡◌, ℕ, ◌+◌, Bool, true, false, List, [], ◌∷◌, ◌++◌, Option, None, Some, Result, Ok, Err, if◌then◌else◌, length, map, nat_lt, slice_get}
+use Rattle.std.specs.Prelude.{◌≡◌, ℕ, Bool, true, false, List, [], ◌∷◌, ◌++◌, Option, None, Some, Result, Ok, Err, if◌then◌else◌, length, map, nat_lt, slice_get}
 use Rattle.plan_base.specs.declared.ids.NodeId.{NodeId}
 use Rattle.game_types.specs.declared.games.Game.{Game}
 use Rattle.edit_undo.specs.Edits.{apply_edits}

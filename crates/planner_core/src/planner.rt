@@ -1,5 +1,5 @@
 //! The planner: what each line of a script does, and its reply.
-ghost use Rattle.std.specs.Prelude.{◌≡◌, ℕ, ◌+◌, ◌*◌, ◌<◌, ◌≤◌, ◌∷◌, ◌++◌, [], List, None, Some, false, true, MatchResult, IfOk, OnErr, length, nat_lt, option_map, vec_capacity, vec_len};
+ghost use Rattle.std.specs.Prelude.{◌≡◌, ℕ, ◌+◌, ◌*◌, ◌<◌, ◌≤◌, ◌∷◌, ◌++◌, [], List, None, Some, Err, false, true, MatchResult, IfOk, OnErr, OnOk, length, nat_lt, option_map, vec_capacity, vec_len};
 ghost use Rattle.plan_base.specs.Shape.{node_count};
 ghost use Rattle.graph_store.specs.Rows.{member_count};
 ghost use Rattle.game_types.specs.Nodes.{shape_of};
@@ -18,7 +18,7 @@ ghost use Rattle.planner_core.specs.Posing.{IsFormed, IsPosed, IsPosedTable, pos
 ghost use Rattle.planner_core.specs.declared.posing.Posed.TheVariants.{Reply as PosedReply};
 ghost use Rattle.plan_report.specs.declared.reply.Reply.{Reply as ReplyTo};
 ghost use Rattle.std.specs.List.{list_all};
-ghost use Rattle.planner_core.specs.Lines.{changes_of, entry_work, first_planned, is_free, is_refused, line_at, line_work, Does, Ends, Held as HeldChange, HoldsChange, IsFree, IsOpen, IsSessionOf, IsStep, Moves};
+ghost use Rattle.planner_core.specs.Lines.{changes_of, entry_work, first_planned, is_free, is_refused, line_at, line_work, Does, Ends, Held as HeldChange, Holds, HoldsChange, IsFree, IsOpen, IsSessionOf, IsStep, Moves};
 
 use crate::posing::{Posed, pose_table};
 use edit_undo::{DoFault, History};
@@ -32,6 +32,7 @@ use planner_replies::{
 use planning_state::{LoadFault, Planning, Undo, can_be_held};
 use production_table::Table;
 use script_reader::{Change, Command};
+use state_changes::put;
 use std::alloc::Global;
 use std::marker::Model;
 
@@ -212,15 +213,25 @@ impl Planner {
         ensures state { (self.new.state ≡ self.old.state) × (self.new.kept ≡ self.old.kept) }
         ensures err { OnErr result (self.new ≡ self.old) }
     {
-        if !can_be_held(&change) {
-            return Ok(refused_as(RefusalCode::H3));
+        if can_be_held(&change) {
+            self.hold_one(line, change)
+        } else {
+            Ok(refused_as(RefusalCode::H3))
         }
-        let alloc = self.alloc;
+    }
+
+    // Holds a change that can be held in the open batch.
+    fn hold_one(&mut self, line: u32, change: Change) -> Result<Reply, NoMemory>
+        requires holdable { can_be_held change ≡ true }
+        ensures reply { IfOk result (λ answer. (held : List HeldChange) → self.old.batch ≡ Some held → Holds line self.old held change (nat_lt (length held) 1_024) self.new answer) }
+        ensures state { (self.new.state ≡ self.old.state) × (self.new.kept ≡ self.old.kept) }
+        ensures err { OnErr result (self.new ≡ self.old) }
+    {
         let quiet = self.quiet;
-        let Some(held) = &mut self.batch else {
-            return Err(NoMemory);
-        };
-        hold_in(alloc, held, line, change, quiet)
+        match &mut self.batch {
+            Some(held) => hold_in(held, line, change, quiet),
+            None => Err(NoMemory),
+        }
     }
 
     // Closes the batch, and does what it holds as one entry.
@@ -379,17 +390,6 @@ impl Planner {
     }
 }
 
-// Puts an item into the room that was reserved for it.
-fn put<T: Drop>(list: &mut Vec<T>, item: T)
-    requires { vec_len list.old < vec_capacity list.old }
-    ensures { list.new.items ≡ list.old.items ++ item ∷ [] }
-{
-    match list.push(item) {
-        Ok(()) => {}
-        Err(_) => unreachable!(),
-    }
-}
-
 // A list of one change.
 fn one(alloc: Global, change: Change) -> Result<Vec<Change>, NoMemory>
     ensures { IfOk result (λ edits. edits.items ≡ change ∷ []) }
@@ -435,9 +435,40 @@ fn copies(alloc: Global, held: &[(u32, Change)]) -> Result<Vec<Change>, NoMemory
     Ok(edits)
 }
 
+// Why a change isn't held.
+#[derive(Clone, Copy)]
+enum HoldFault {
+    Full,
+    NoMemory,
+}
+
+// Room for one more change in a batch.
+fn room_in(held: &mut Vec<(u32, Change)>) -> Result<(), HoldFault>
+    ensures same { held.new.items ≡ held.old.items }
+    ensures room { OnOk result ((nat_lt (length held.old.items) 1_024 ≡ true) × (vec_len held.new < vec_capacity held.new)) }
+    ensures full { result ≡ Err HoldFault.Full → nat_lt (length held.old.items) 1_024 ≡ false }
+{
+    if held.len() >= BATCH_LIMIT {
+        return Err(HoldFault::Full);
+    }
+    if held.reserve(1).is_err() {
+        return Err(HoldFault::NoMemory);
+    }
+    Ok(())
+}
+
+// The answer where there is no room.
+fn no_room(fault: HoldFault) -> Result<Reply, NoMemory>
+    ensures { IfOk result (λ answer. (fault ≡ HoldFault.Full) × (answer ≡ refused_as RefusalCode.H5)) }
+{
+    match fault {
+        HoldFault::Full => Ok(refused_as(RefusalCode::H5)),
+        HoldFault::NoMemory => Err(NoMemory),
+    }
+}
+
 // One more change for a batch, where there is room.
 fn hold_in(
-    alloc: Global,
     held: &mut Vec<(u32, Change)>,
     line: u32,
     change: Change,
@@ -452,12 +483,11 @@ fn hold_in(
     ensures few { length (changes_of held.new.items) ≤ 1_024 }
     ensures err { OnErr result (held.new.items ≡ held.old.items) }
 {
-    if held.len() >= BATCH_LIMIT {
-        return Ok(refused_as(RefusalCode::H5));
+    match room_in(held) {
+        Ok(()) => {
+            put(held, (line, change));
+            Ok(held_reply(quiet))
+        }
+        Err(fault) => no_room(fault),
     }
-    if held.reserve(1).is_err() {
-        return Err(NoMemory);
-    }
-    put(held, (line, change));
-    Ok(held_reply(quiet))
 }

@@ -67,8 +67,8 @@ fn step_named(alloc: Global, game: &Game, change: &Change) -> Result<Step, Chang
             parts,
             ..
         } => {
-            let setup = setup_named(alloc, game, activity, machine, parts.as_slice())?;
             let label = Text::copy(alloc, label.as_str())?;
+            let setup = setup_named(alloc, game, activity, machine, parts.as_slice())?;
             Ok(Step::Row { label, setup })
         }
         Change::Unrow { label, .. } => {

@@ -6,6 +6,7 @@ ghost use Rattle.production_table.specs.Tables.{is_label, labels_of};
 ghost use Rattle.table_rows.specs.Columns.{figures_of};
 ghost use Rattle.table_rows.specs.Setups.{IsFitting};
 ghost use Rattle.planner_tables.specs.Effects.{AreSoundTables, IsSoundOn};
+ghost use Rattle.planner_tables.specs.Figures.{answer_figures};
 ghost use Rattle.planner_tables.specs.Questions.{column_names, IsSolved, IsSolvedWhere, IsSolveReply, linear_named, linear_outcome, rate_outcome, rate_reply, rates_outcome, rates_reply, row_rates_outcome, solved};
 ghost use Rattle.table_words.specs.Refusals.{Gives};
 
@@ -18,7 +19,7 @@ use game_types::{Effects, Game, Rates};
 use linear_table::{Column, Linear, LinearColumn, SolveAnswer};
 use pivot_solver::solve;
 use plan_base::{Items, NoMemory, Text};
-use plan_report::Reply;
+use plan_report::{Figures, Reply};
 use production_table::{Table, TableRow};
 use std::alloc::Global;
 use table_rows::row_rates;
@@ -153,6 +154,39 @@ fn column_names(alloc: Global, columns: &[LinearColumn]) -> Result<Items<Column>
     Ok(Items::from_vec(names))
 }
 
+// What a reply tells of a table beside what the solver says.
+struct Told {
+    name: Text,
+    labels: Items<Text>,
+    columns: Items<Column>,
+    rows: Items<Figures>,
+}
+
+// The names and the figures of a table that the solver answered.
+fn told_of(
+    alloc: Global,
+    game: &Game,
+    table: &Table,
+    linear: &Linear,
+    answer: &SolveAnswer,
+) -> Result<Told, NoMemory>
+    requires sound { IsSound game.now }
+    requires table { IsSoundOn game.now table.now }
+    ensures names { IfOk result (λ told. (told.name ≡ table.now.name) × (told.labels ≡ labels_of table.now.rows) × (told.columns ≡ column_names linear.now.columns)) }
+    ensures rows { IfOk result (λ told. told.rows ≡ answer_figures game.now table.now.rows answer.now) }
+{
+    let name = Text::copy(alloc, table.name.as_str())?;
+    let labels = labels_of(alloc, table.rows.as_slice())?;
+    let columns = column_names(alloc, linear.columns.as_slice())?;
+    let rows = answer_figures(alloc, game, table.rows.as_slice(), answer)?;
+    Ok(Told {
+        name,
+        labels,
+        columns,
+        rows,
+    })
+}
+
 // The reply that tells what the solver says of a table.
 fn solved(
     alloc: Global,
@@ -165,20 +199,25 @@ fn solved(
     requires table { IsSoundOn game.now table.now }
     ensures { IfOk result (λ reply. reply ≡ solved game.now table.now linear answer) }
 {
-    let name = Text::copy(alloc, table.name.as_str())?;
-    let labels = labels_of(alloc, table.rows.as_slice())?;
-    let columns = column_names(alloc, linear.columns.as_slice())?;
-    let rows = answer_figures(alloc, game, table.rows.as_slice(), &answer)?;
-    let total = summed(rows.as_slice());
-    Ok(Reply::Solved {
-        table: name,
-        labels,
-        goods: linear.goods,
-        columns,
-        rows,
-        total,
-        answer,
-    })
+    match told_of(alloc, game, table, &linear, &answer) {
+        Ok(
+            Told {
+                name,
+                labels,
+                columns,
+                rows,
+            },
+        ) => Ok(Reply::Solved {
+            table: name,
+            labels,
+            goods: linear.goods,
+            columns,
+            total: summed(rows.as_slice()),
+            rows,
+            answer,
+        }),
+        Err(NoMemory) => Err(NoMemory),
+    }
 }
 
 // What the solver says of a table's linear form.

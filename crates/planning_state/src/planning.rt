@@ -73,15 +73,78 @@ impl Model for Planning {
     ghost invariant = { λ p. IsKept p.book p.graph p.worlds × AreSoundTables p.book.game p.tables.items × IsIndex p.book.game p.index };
 }
 
+// The rows of a book as a graph, and the ranks of its base world.
+fn graph_and_worlds<L>(
+    alloc: Global,
+    book: &Book,
+    rows: Vec<Row>,
+    steps: &mut Steps<L>,
+) -> Result<(Graph, Worlds), NoMemory>
+    requires sound { IsSoundBook book.now }
+    requires rows { rows.items ≡ rows_of book.now.game }
+    requires as_long { length rows.items ≡ node_count (shape_of book.now.game) }
+    requires members { AreMembersBelow (length rows.items) rows.items }
+    ensures graph { IfOk result (λ made. made.0 ≡ rows_of book.now.game) }
+    ensures worlds { IfOk result (λ made. AreWorlds (rows_of book.now.game) book.now.barred book.now.granted made.1) }
+    ensures none { IfOk result (λ made. made.1.milestones ≡ []) }
+    ensures steps { IfOk result (λ _. steps.new ≤ steps.old + 4 * (node_count (shape_of book.now.game) + member_count (rows_of book.now.game))) }
+    ensures later { steps.old ≤ steps.new }
+{
+    let graph = Graph::make(alloc, rows)?;
+    match first_worlds(alloc, book, &graph, steps) {
+        Ok(worlds) => Ok((graph, worlds)),
+        Err(fault) => Err(fault),
+    }
+}
+
+// What is kept beside a book.
+struct Kept {
+    index: Index,
+    graph: Graph,
+    worlds: Worlds,
+}
+
+// What is kept beside a book with no milestones.
+fn kept_beside<L>(alloc: Global, book: &Book, steps: &mut Steps<L>) -> Result<Kept, LoadFault>
+    requires { IsSoundBook book.now }
+    ensures members { MatchResult result
+        (λ _. member_count (rows_of book.now.game) ≤ MEMBER_LIMIT)
+        (λ fault. fault ≡ LoadFault.Members → MEMBER_LIMIT < member_count (rows_of book.now.game)) }
+    ensures index { IfOk result (λ kept. IsIndex book.now.game kept.index) }
+    ensures graph { IfOk result (λ kept. kept.graph ≡ rows_of book.now.game) }
+    ensures worlds { IfOk result (λ kept. AreWorlds (rows_of book.now.game) book.now.barred book.now.granted kept.worlds) }
+    ensures none { IfOk result (λ kept. kept.worlds.milestones ≡ []) }
+    ensures steps { IfOk result (λ _. steps.new ≤ steps.old + node_count (shape_of book.now.game) + 4 * (node_count (shape_of book.now.game) + member_count (rows_of book.now.game))) }
+    ensures later { steps.old ≤ steps.new }
+{
+    let (rows, index) = match rows_within(alloc, book, steps) {
+        Ok(made) => made,
+        Err(fault) => return Err(load_fault(fault)),
+    };
+    match graph_and_worlds(alloc, book, rows, steps) {
+        Ok((graph, worlds)) => Ok(Kept {
+            index,
+            graph,
+            worlds,
+        }),
+        Err(NoMemory) => Err(LoadFault::NoMemory),
+    }
+}
+
 // A planning state with no milestones and no tables.
-fn assemble(alloc: Global, book: Book, index: Index, graph: Graph, worlds: Worlds) -> Planning
+fn assemble(alloc: Global, book: Book, kept: Kept) -> Planning
     requires sound { IsSoundBook book }
-    requires index { IsIndex book.game index }
-    requires rows { graph ≡ rows_of book.game }
-    requires none { worlds.milestones ≡ [] }
-    requires worlds { AreWorlds (rows_of book.game) book.barred book.granted worlds }
+    requires index { IsIndex book.game kept.index }
+    requires rows { kept.graph ≡ rows_of book.game }
+    requires none { kept.worlds.milestones ≡ [] }
+    requires worlds { AreWorlds (rows_of book.game) book.barred book.granted kept.worlds }
     ensures { result ≡ state_of book [] [] }
 {
+    let Kept {
+        index,
+        graph,
+        worlds,
+    } = kept;
     Planning {
         alloc,
         book,
@@ -92,46 +155,17 @@ fn assemble(alloc: Global, book: Book, index: Index, graph: Graph, worlds: World
     }
 }
 
-// A planning state over the rows of its book, with no milestones and no tables.
-fn of_graph<L>(
-    alloc: Global,
-    book: Book,
-    index: Index,
-    graph: Graph,
-    steps: &mut Steps<L>,
-) -> Result<Planning, NoMemory>
-    requires sound { IsSoundBook book }
-    requires index { IsIndex book.game index }
-    requires rows { graph ≡ rows_of book.game }
-    ensures planning { IfOk result (λ planning. planning ≡ state_of book [] []) }
-    ensures steps { IfOk result (λ _. steps.new ≤ steps.old + 4 * (node_count (shape_of book.game) + member_count (rows_of book.game))) }
+// A planning state of a book, with no milestones and no tables.
+fn of_book<L>(alloc: Global, book: Book, steps: &mut Steps<L>) -> Result<Planning, LoadFault>
+    requires { IsSoundBook book }
+    ensures planning { MatchResult result
+        (λ planning. (planning ≡ state_of book [] []) × (member_count (rows_of book.game) ≤ MEMBER_LIMIT))
+        (λ fault. fault ≡ LoadFault.Members → MEMBER_LIMIT < member_count (rows_of book.game)) }
+    ensures steps { IfOk result (λ _. steps.new ≤ steps.old + node_count (shape_of book.game) + 4 * (node_count (shape_of book.game) + member_count (rows_of book.game))) }
     ensures later { steps.old ≤ steps.new }
 {
-    match first_worlds(alloc, &book, &graph, steps) {
-        Ok(worlds) => Ok(assemble(alloc, book, index, graph, worlds)),
-        Err(fault) => Err(fault),
-    }
-}
-
-// A planning state with these rows, those of its book, and with no milestones and no tables.
-fn of_rows<L>(
-    alloc: Global,
-    book: Book,
-    index: Index,
-    rows: Vec<Row>,
-    steps: &mut Steps<L>,
-) -> Result<Planning, NoMemory>
-    requires sound { IsSoundBook book }
-    requires index { IsIndex book.game index }
-    requires rows { rows.items ≡ rows_of book.game }
-    requires as_long { length rows.items ≡ node_count (shape_of book.game) }
-    requires members { AreMembersBelow (length rows.items) rows.items }
-    ensures planning { IfOk result (λ planning. planning ≡ state_of book [] []) }
-    ensures steps { IfOk result (λ _. steps.new ≤ steps.old + 4 * (node_count (shape_of book.game) + member_count (rows_of book.game))) }
-    ensures later { steps.old ≤ steps.new }
-{
-    match Graph::make(alloc, rows) {
-        Ok(graph) => of_graph(alloc, book, index, graph, steps),
+    match kept_beside(alloc, &book, steps) {
+        Ok(kept) => Ok(assemble(alloc, book, kept)),
         Err(fault) => Err(fault),
     }
 }
@@ -150,16 +184,8 @@ impl Planning {
         ensures steps { IfOk result (λ _. steps.new ≤ steps.old + node_count (shape_of game) + 4 * (node_count (shape_of game) + member_count (rows_of game))) }
         ensures later { steps.old ≤ steps.new }
     {
-        let book = match Book::make(alloc, game) {
-            Ok(book) => book,
-            Err(_) => return Err(LoadFault::NoMemory),
-        };
-        let (rows, index) = match rows_within(alloc, &book, steps) {
-            Ok(made) => made,
-            Err(fault) => return Err(load_fault(fault)),
-        };
-        match of_rows(alloc, book, index, rows, steps) {
-            Ok(planning) => Ok(planning),
+        match Book::make(alloc, game) {
+            Ok(book) => of_book(alloc, book, steps),
             Err(_) => Err(LoadFault::NoMemory),
         }
     }

@@ -1,6 +1,6 @@
 -- How a run ends whose dump or script can't be had, and which files it begins.
-use Rattle.std.proofs.Common.{◌≡◌, ◌≤◌, ◌<◌, ◌+◌, ◌-◌, ◌∙◌, inl, inr, ℕ, List, Vec, arith, refl, sym, subst, length}
-use Rattle.std.specs.Prelude.{Option, Some, IsErr, IsErrAnd, IsSome, MatchResult, Result, Ok, Err}
+use Rattle.std.proofs.Common.{◌≡◌, ◌≤◌, ◌+◌, ◌∙◌, inl, inr, ℕ, List, Vec, arith, sym, subst}
+use Rattle.std.specs.Prelude.{Some, IsErr, IsErrAnd, IsSome, MatchResult, Result, Ok, Err}
 use Rattle.std.specs.Global.{Global}
 use Rattle.plan_io.specs.Store.{Shelf, Begun}
 use Rattle.game_types.specs.declared.games.Game.{Game}

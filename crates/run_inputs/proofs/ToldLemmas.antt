@@ -1,5 +1,5 @@
 -- An early end that has no line of its own.
-use Rattle.std.proofs.Common.{◌≡◌, ◌≢◌, [], ℕ, List, false, refl}
+use Rattle.std.proofs.Common.{◌≢◌, [], ℕ, List, false, refl}
 use Rattle.std.specs.Prelude.{Option}
 use Rattle.script_lines.specs.Writing.{Adds}
 use Rattle.run_inputs.specs.declared.status.Status.{Status}

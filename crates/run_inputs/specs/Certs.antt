@@ -1,9 +1,8 @@
 -- How the reading of a certificate ends that gives no entries.
-use Rattle.std.specs.Prelude.{◌≡◌, ◌≢◌, List, ℕ, ⊤}
+use Rattle.std.specs.Prelude.{◌≢◌, List, ℕ, ⊤}
 use Rattle.plan_io.specs.Store.{Shelf}
 use Rattle.certificate_file.specs.Said.{IsCertFault}
 use Rattle.certificate_file.specs.declared.CertFault.TheVariants as of_cert
-use Rattle.run_inputs.specs.Early.{EndsReading}
 use Rattle.run_inputs.specs.Inputs.{IsBadCertOf, IsLong}
 use Rattle.run_inputs.specs.declared.status.Status.{Status}
 use Rattle.run_inputs.specs.declared.status.Status.TheVariants.{ReadFault, NoMemory, TooLong, BadCert}

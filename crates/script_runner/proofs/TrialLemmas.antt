@@ -1,7 +1,6 @@
 -- What is so while the lines of a script are judged.
-use Rattle.std.proofs.Common.{◌≡◌, ◌<◌, ◌≤◌, ◌+◌, ◌++◌, ◌∷◌, [], ℕ, zero, suc, List, length, take, drop, arith, ap, sym, subst, refl, inl, inr, Bool, true, false, ◌∙◌, append-nil, add-one, cond}
-use Rattle.std.specs.Prelude.{Option, Some, None, ◌||◌, ◌&&◌, ◌==◌, not, flat_map, sum_by, count_by}
-use Rattle.std.specs.List.{list_any}
+use Rattle.std.proofs.Common.{◌≡◌, ◌<◌, ◌≤◌, ◌+◌, ◌++◌, ◌∷◌, [], ℕ, List, length, take, drop, arith, ap, sym, subst, refl, inl, inr, Bool, true, false, ◌∙◌, append-nil, add-one, cond}
+use Rattle.std.specs.Prelude.{Option, ◌||◌, count_by}
 use Rattle.std.specs.Io.KnownBytes.{Appends}
 use Rattle.std.proofs.lemmas.List.{length-append}
 use Rattle.std.proofs.lemmas.List.Concat.{flat_map-append}

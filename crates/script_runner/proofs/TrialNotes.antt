@@ -1,5 +1,5 @@
 -- What is known of one line that is judged.
-use Rattle.std.proofs.Common.{◌≡◌, ◌≤◌, ◌+◌, ℕ, List, [], Bool, refl, sym, true, false}
+use Rattle.std.proofs.Common.{◌≡◌, ◌≤◌, ◌+◌, ℕ, List, [], refl, sym, true, false}
 use Rattle.std.specs.Prelude.{Option, Some, None, Result, IfOk}
 use Rattle.std.proofs.lemmas.Result.{IfOk-weaker}
 use Rattle.linear_table.specs.declared.Linear.{Linear}

@@ -1,5 +1,5 @@
 -- How a script ends that is checked against claims, the text that this leaves, and within how many steps.
-use Rattle.std.specs.Prelude.{◌≡◌, ◌⊎◌, ◌≤◌, ◌++◌, ℕ, Bool, true, false, List, length, take}
+use Rattle.std.specs.Prelude.{◌≡◌, ◌⊎◌, ◌++◌, ℕ, Bool, true, false, List, take}
 use Rattle.planner_core.specs.Lines.{Planned}
 use Rattle.certificate_file.specs.declared.CertEntry.{CertEntry}
 use Rattle.script_runner.specs.declared.run.ScriptEnd.{ScriptEnd}

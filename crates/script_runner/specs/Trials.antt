@@ -1,6 +1,6 @@
 -- Trials of claims: lines that are answered one after another with nothing solved, each line that would have the solver settle a table
 -- by a verdict on what is claimed of it.
-use Rattle.std.specs.Prelude.{◌≡◌, ◌≤◌, ◌+◌, ◌++◌, ◌==◌, ◌&&◌, ℕ, Bool, true, false, not, List, [], ◌∷◌, Option, Some, None, Ok, Err, codes, count_by, decimal, flat_map, if◌then◌else◌, option_map, sum_by, ⊤}
+use Rattle.std.specs.Prelude.{◌≡◌, ◌+◌, ◌++◌, ◌==◌, ◌&&◌, ℕ, Bool, true, false, not, List, [], ◌∷◌, Option, Some, None, Ok, Err, codes, count_by, decimal, flat_map, if◌then◌else◌, sum_by, ⊤}
 use Rattle.std.specs.List.{list_any}
 use Rattle.game_types.specs.declared.games.Game.{Game}
 use Rattle.script_reader.specs.Lines.{command_of_line}

@@ -1,10 +1,13 @@
 //! The answer to one line.
 ghost use Rattle.std.specs.Prelude.{◌≡◌, ◌≤◌, ◌+◌, IfOk};
+ghost use Rattle.game_types.specs.Sound.{IsSound};
+ghost use Rattle.plan_report.specs.Replies.{printed_reply};
 ghost use Rattle.state_changes.specs.States.{State};
 ghost use Rattle.planner_core.specs.Lines.{IsSessionOf};
 ghost use Rattle.script_runner.specs.Answers.{gives_up, is_refusal_reply, reading_work, solved_in, AnswersLine, IsReply};
 
 use crate::reading::{Reading, reading_of, refused_for};
+use game_types::Game;
 use linear_table::SolveAnswer;
 use plan_base::{NoMemory, Steps, Text};
 use plan_report::{Reply, print_reply};
@@ -77,6 +80,24 @@ fn solved_in(reply: Reply) -> Option<SolveAnswer>
     }
 }
 
+// A reply as it is told.
+fn told_as(alloc: Global, number: u32, reply: Reply, game: &Game) -> Result<Told, NoMemory>
+    requires { IsSound game.now }
+    ensures { IfOk result (λ told. (told.text ≡ printed_reply game.now number reply) × (told.refused ≡ is_refusal_reply reply) × (told.solved ≡ solved_in reply)) }
+{
+    let printed = print_reply(alloc, number, &reply, game);
+    let refused = is_refusal(&reply);
+    let solved = solved_in(reply);
+    match printed {
+        Ok(text) => Ok(Told {
+            text,
+            refused,
+            solved,
+        }),
+        Err(NoMemory) => Err(NoMemory),
+    }
+}
+
 /// Answers the line with this number.
 ///
 /// # Errors
@@ -96,11 +117,5 @@ pub fn answer_line<L>(
 {
     let reading = reading_of(alloc, line)?;
     let reply = reply_to(planner, number, reading, steps)?;
-    let text = print_reply(alloc, number, &reply, planner.game())?;
-    let refused = is_refusal(&reply);
-    Ok(Told {
-        text,
-        refused,
-        solved: solved_in(reply),
-    })
+    told_as(alloc, number, reply, planner.game())
 }

@@ -1,5 +1,5 @@
 //! The certificate of a script.
-ghost use Rattle.std.specs.Prelude.{◌≡◌, ◌≤◌, ◌<◌, ◌++◌, ◌∷◌, [], codes, vec_len, vec_capacity, MatchResult, IfOk, OnOk, OnErr, length, option_map, option_to_list};
+ghost use Rattle.std.specs.Prelude.{◌≡◌, ◌≤◌, ◌++◌, ◌∷◌, [], codes, MatchResult, IfOk, OnOk, OnErr, length, option_map, option_to_list};
 ghost use Rattle.std.specs.Io.KnownBytes.{Appends};
 ghost use Rattle.plan_io.specs.Causes.{HasCause, Rose};
 ghost use Rattle.script_lines.specs.Writing.{AppendsFront};
@@ -21,6 +21,7 @@ use plan_base::{Items, NoMemory, Steps, Text};
 use plan_io::{Failed, Sink};
 use planner_core::Planner;
 use script_lines::{split_line, trim_return, write_all};
+use state_changes::put;
 use std::alloc::Global;
 
 fn copied(alloc: Global, fractions: &[Ratio]) -> Result<Items<Ratio>, NoMemory>
@@ -66,17 +67,6 @@ fn entry_for(alloc: Global, number: u32, answer: &SolveAnswer) -> Result<CertEnt
         line: number,
         claim,
     })
-}
-
-// Puts an entry into the room that was reserved for it.
-fn put(entries: &mut Vec<CertEntry>, entry: CertEntry)
-    requires { vec_len entries.old < vec_capacity entries.old }
-    ensures { entries.new.items ≡ entries.old.items ++ entry ∷ [] }
-{
-    match entries.push(entry) {
-        Ok(()) => {}
-        Err(_) => unreachable!(),
-    }
 }
 
 // Enters what the solver answered to a line, where it did.

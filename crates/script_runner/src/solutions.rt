@@ -1,19 +1,9 @@
 //! What the solver answered, line by line.
-ghost use Rattle.std.specs.Prelude.{◌≡◌, ◌<◌, ◌++◌, ◌∷◌, [], OnErr, OnOk, option_to_list, vec_capacity, vec_len};
+ghost use Rattle.std.specs.Prelude.{◌≡◌, ◌++◌, ◌∷◌, [], OnErr, OnOk, option_to_list};
 
 use linear_table::SolveAnswer;
 use plan_base::NoMemory;
-
-// Puts an answer into the room that was reserved for it.
-fn put(solved: &mut Vec<SolveAnswer>, answer: SolveAnswer)
-    requires { vec_len solved.old < vec_capacity solved.old }
-    ensures { solved.new.items ≡ solved.old.items ++ answer ∷ [] }
-{
-    match solved.push(answer) {
-        Ok(()) => {}
-        Err(_) => unreachable!(),
-    }
-}
+use state_changes::put;
 
 fn add(solved: &mut Vec<SolveAnswer>, answer: SolveAnswer) -> Result<(), NoMemory>
     ensures ok { OnOk result (solved.new.items ≡ solved.old.items ++ answer ∷ []) }

@@ -1,7 +1,6 @@
-use Rattle.std.proofs.Common.{◌<◌, ◌≤◌, [], ℕ, List, length, refl, subst, sym}
+use Rattle.std.proofs.Common.{[], List, refl, subst, sym}
 use Rattle.std.specs.Prelude.{Some}
 use Rattle.certificate_file.specs.declared.CertEntry.{CertEntry}
-use Rattle.script_lines.specs.Lines.{lines_of}
 use Rattle.run_inputs.specs.Inputs.{IsCert}
 use Rattle.cli_words.specs.Words.{Check, Files}
 use Rattle.planner_cli.proofs.CheckLemmas.{cert_begins_checked, cert_begins_early, cert_begins_many, cert_early, cert_no_cut}

@@ -1,4 +1,4 @@
-use Rattle.std.proofs.Common.{◌-◌, ◌≤◌, ℕ, List, subst, sym}
+use Rattle.std.proofs.Common.{◌-◌, ℕ, List, subst, sym}
 use Rattle.std.specs.Prelude.{Some}
 use Rattle.state_changes.specs.States.{first_state}
 use Rattle.planner_core.specs.Lines.{IsSessionOf}

@@ -5,7 +5,7 @@ use Rattle.planning_state.proofs.planning.assemble.Goals as goal
 
 pub invariant_of-result : goal.invariant_of-result
 invariant_of-result c = (
-  kept-first c.args.book c.args.graph c.args.worlds c.requires.sound c.requires.rows c.requires.none c.requires.worlds,
+  kept-first c.args.book c.args.kept.graph c.args.kept.worlds c.requires.sound c.requires.rows c.requires.none c.requires.worlds,
   subst (AreSoundTables c.args.book.game) (sym c.new.ensures.items) (no-tables c.args.book.game),
   c.requires.index,
 )

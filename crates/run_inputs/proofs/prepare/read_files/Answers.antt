@@ -1,10 +1,5 @@
 use Rattle.std.proofs.Common.{arith}
-use Rattle.std.specs.Prelude.{Some}
-use Rattle.run_inputs.specs.Early.{EndsEarly}
-use Rattle.run_inputs.specs.Ready.{IsReady}
-use Rattle.cli_words.specs.Words.{FileNames, Files, Run}
-use Rattle.run_inputs.specs.declared.prepare.Ready.{Ready}
-use Rattle.run_inputs.specs.declared.status.Status.{Status}
+use Rattle.cli_words.specs.Words.{FileNames}
 use Rattle.run_inputs.proofs.PrepareLemmas.{base_begins, base_early, based, dump_begins, dump_early, ends_by, script_begins, script_named, script_read, script_ready}
 use Rattle.run_inputs.proofs.prepare.read_files.Goals as goal
 

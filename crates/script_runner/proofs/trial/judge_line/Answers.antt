@@ -1,5 +1,3 @@
-use Rattle.std.proofs.Common.{◌≡◌, sym, subst}
-use Rattle.game_types.specs.declared.games.Game.{Game}
 use Rattle.script_runner.proofs.TrialNotes.{judges_noted}
 use Rattle.script_runner.proofs.trial.judge_line.Goals as goal
 
