@@ -1,10 +1,9 @@
-"""The man pages and the completions of all words, made from tools/words.txt and the launcher's own help."""
-import subprocess
+"""The man pages and the completions of all words, made from tools/words.txt."""
+import re
 from typing import Dict, List
 
 import tree
 
-DAY = "2026-11-29"
 # The options of the launcher that stand before a word, with what is behind them: nothing, a folder or a program.
 BEFORE = [
     ("--build", "", "proves and builds first"),
@@ -31,6 +30,12 @@ ENDS = [
 FILES = ("DUMP", "SCRIPT", "FILE", "OLD")
 
 
+def day() -> str:
+    """The day of the version, as CHANGELOG.md has it."""
+    text = (tree.TOP / "CHANGELOG.md").read_text(encoding="utf-8")
+    return re.search(rf"(?m)^## {re.escape(tree.version())}, (\S+)", text)[1]
+
+
 def own_name(word: tree.Word) -> str:
     """The name of the program that has this word alone, as factoplan_table; empty where the launcher is the way to it."""
     return f"factoplan_{word.name}" if not word.is_script and word.program != "factoplan" and word.program != "factoplan_data" else ""
@@ -43,7 +48,7 @@ def roff(text: str) -> str:
 
 
 def page_head(name: str, about: str) -> List[str]:
-    return [f'.TH {name.upper()} 1 "{DAY}" "factoplan {tree.version()}" "User commands"', ".SH NAME", f"{roff(name)} \\- {roff(about)}", ".SH SYNOPSIS"]
+    return [f'.TH {name.upper()} 1 "{day()}" "factoplan {tree.version()}" "User commands"', ".SH NAME", f"{roff(name)} \\- {roff(about)}", ".SH SYNOPSIS"]
 
 
 def ends(more) -> List[str]:
@@ -99,7 +104,7 @@ def main_page(words: List[tree.Word]) -> str:
         ".B XDG_CACHE_HOME",
         "where a checkout unpacks its release, as the folder factoplan; ~/.cache by default",
         ".SH SEE ALSO",
-        ", ".join(f".BR factoplan\\-{roff(word.name)} (1)" if at == 0 else f"factoplan\\-{roff(word.name)}(1)" for at, word in enumerate(words)),
+        *(f".BR factoplan\\-{roff(word.name)} (1){'' if word is words[-1] else ','}" for word in words),
     ]
     return "\n".join(lines) + "\n"
 
@@ -209,8 +214,3 @@ def fish(words: List[tree.Word]) -> str:
             if own_name(word):
                 lines.append(f"complete -c {own_name(word)} -l {parts[0][2:]}{takes} -d '{quoted(does)}'")
     return "\n".join(lines) + "\n"
-
-
-def help_text() -> str:
-    """The launcher's own help, which must name each option that stands before a word."""
-    return subprocess.run(["sh", str(tree.TOP / "factoplan"), "--help"], stdout=subprocess.PIPE, universal_newlines=True).stdout
