@@ -175,6 +175,7 @@ def zsh(words: List[tree.Word]) -> str:
 # zsh completion of factoplan and its programs, made by tools/manual.py
 _factoplan_word() {{
   case $1 in
+    help) _describe word words_of_factoplan ;;
 {chr(10).join(cases)}
   esac
 }}
