@@ -17,7 +17,7 @@ the answers from each thing that is not reached to the causes at their ends. It 
 --kinds          the kinds that are judged: item,fluid,recipe,tech by default; source and machine may be added
 --hidden         judges hidden items, recipes and technologies too
 --show N         how many causes are written for each thing, 5 by default
---program        the command that runs factoplan, by default ../factoplan beside this script's folder
+--program        the command that runs factoplan, by default ../factoplan beside this script's folder, which builds nothing for it
 --script FILE    writes the first script that factoplan is given to this file, to be run by hand
 """
 import argparse
@@ -265,8 +265,8 @@ def main():
             parser.error("%s is no kind" % kind)
     if options.write_expect and options.expect is None:
         parser.error("--write-expect needs --expect FILE")
-    beside = os.path.join(os.path.dirname(os.path.abspath(__file__)), "..", "factoplan")
-    command = shlex.split(options.program) if options.program else [beside]
+    beside = os.environ.get("FACTOPLAN") or os.path.join(os.path.dirname(os.path.abspath(__file__)), "..", "factoplan")
+    command = shlex.split(options.program) if options.program else [beside, "--no-build"]
 
     things = things_of(read_dump(options.dump))
     if not things:
