@@ -47,7 +47,7 @@ no_own g good (own ∷ at) h base each =
     ∙ no_own g good at h base (All-tail (λ (o : GoodId). IsFluid g o.0) own at each)
 
 -- it is its own fit
-no_fluid_at : (g : Game) (good : ℕ) → good < length g.items → fluid_at g good ≡ None
+pub no_fluid_at : (g : Game) (good : ℕ) → good < length g.items → fluid_at g good ≡ None
 unfolding fluid_at
 no_fluid_at g good h = let e : nat_lt good (length g.items) ≡ true = grind (arith, nat_tests) in rw (e) refl
 

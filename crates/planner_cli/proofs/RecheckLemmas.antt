@@ -64,7 +64,7 @@ proves side certificate is =
       ends = subst (λ (t : List ℕ). EndsProof (first_planned all.game) all.script is.solved script_end.Done t all.line_work) (sym is.ends.whole) all.ends;
     }
 
-first_grown : (game : Game) → IsSessionOf (first_state game) (first_planned game)
+pub first_grown : (game : Game) → IsSessionOf (first_state game) (first_planned game)
 first_grown game = record { past = refl; future = tt }
 
 few_lines : (first : Planned) (bytes : List ℕ) (solved : List SolveAnswer) (certificate : List ℕ) (steps : ℕ) → EndsProof first bytes solved script_end.Done certificate steps → length (lines_of bytes) ≤ 100_000

@@ -8,7 +8,7 @@ use Rattle.planner_cli.specs.Ending.{EndsRun}
 use Rattle.cli_words.specs.Words.{Asked, asked_of}
 use Rattle.run_inputs.specs.declared.status.Status.TheVariants.{BadWords, NoMemory}
 use Rattle.planner_cli.proofs.EndingLemmas.{asked_from, begins_nothing, begins_told, leaves_told}
-use Rattle.planner_cli.proofs.top.status_of_run.Goals as goal
+use Rattle.planner_cli.proofs.asked.status_of_run.Goals as goal
 
 pub returns-in_default-clause-leaves : goal.returns-in_default-clause-leaves
 returns-in_default-clause-leaves g c =

@@ -8,7 +8,7 @@ use Rattle.run_inputs.specs.Early.{is_cut}
 use Rattle.planner_cli.specs.Ending.{EndsRun}
 use Rattle.cli_words.specs.Words.{Asked, Check, FileNames, Files, Prove, Run, Sample}
 use Rattle.cli_words.specs.declared.words.FileMode.{FileMode as ModeWords}
-use Rattle.planner_cli.proofs.top.run_asked.Goals as goal
+use Rattle.planner_cli.proofs.asked.run_asked.Goals as goal
 
 pub returns-in-Run-clause-leaves : goal.returns-in-Run-clause-leaves
 returns-in-Run-clause-leaves g c =
