@@ -1,11 +1,8 @@
 //! The words of the program, as clap reads them.
 use clap::{Arg, ArgMatches, Command};
 use plan_base::{NoMemory, Text};
-use program_runs::Names;
+use program_runs::{Names, VERSION};
 use std::alloc::{AllocError, Global};
-
-/// The version of the program.
-const VERSION: &str = "0.5.0";
 
 // A word that must be there.
 fn word<'a>(alloc: Global, name: &'a str, help: &'a str) -> Arg<'a> {
