@@ -104,7 +104,7 @@ fn with_ends<'a>(alloc: Global, command: Command<'a>) -> Result<Command<'a>, All
 /// `AllocError` where memory could not be had.
 pub fn command<'a>(alloc: Global) -> Result<Command<'a>, AllocError> {
     let command = Command::new(alloc, "factoplan_table")
-        .version("0.5.0")
+        .version("0.6.0")
         .about(
             "Prints the lines of a script for `factoplan run` that make a table of GOOD at RATE a second",
         );
