@@ -1,13 +1,14 @@
 //! How the programs end, and what they say of it on standard error.
+use crate::files::{read_error, whole_file};
+use craft_reader::DumpCode;
 use plan_base::{NoMemory, Text};
-use planner_cli::Status;
+use planner_cli::{DUMP_LIMIT, Status};
 use run_hints::{hint, unread_hint};
 use std::alloc::Global;
-use std::fs::File;
-use std::io;
 use std::io::Write;
 use std::process::ExitCode;
-use std::rt::Files;
+use std::rt::{Env, Files};
+use std::{env, io};
 
 /// The end of a program: what it says on standard error, and the number that it ends with.
 #[derive(Drop)]
@@ -47,15 +48,22 @@ fn run_words(alloc: Global, names: Names<'_>) -> Result<Vec<Text>, NoMemory> {
     Ok(words)
 }
 
-// Why a file can't be opened, where it can't.
+// Why a file can't be read, where it can't.
 fn unread<R: Files>(rt: &R, alloc: Global, name: &str) -> Option<Text> {
-    match File::open(rt, name) {
-        Ok(_) => None,
-        Err(error) => {
-            let why = format!(in alloc; "{error}").ok()?;
-            unread_hint(alloc, name, why.as_str()).ok()
-        }
-    }
+    let error = read_error(rt, name)?;
+    let why = format!(in alloc; "{error}").ok()?;
+    unread_hint(alloc, name, why.as_str()).ok()
+}
+
+// The bytes of a dump whose text is no JSON, to tell the line and the column. What isn't kept, as a pipe, isn't read again.
+fn faulty_dump<R: Files>(rt: &R, alloc: Global, status: &Status, name: &str) -> Option<Vec<u8>> {
+    let Status::BadDump(fault) = status else {
+        return None;
+    };
+    let DumpCode::Json(_) = fault.code else {
+        return None;
+    };
+    whole_file(rt, alloc, name, DUMP_LIMIT)
 }
 
 fn said<R: Files>(rt: &R, alloc: Global, status: &Status, names: Names<'_>) -> Option<Text> {
@@ -68,7 +76,8 @@ fn said<R: Files>(rt: &R, alloc: Global, status: &Status, names: Names<'_>) -> O
         }
     }
     let words = run_words(alloc, names).ok()?;
-    hint(alloc, status, words.as_slice(), None, None).ok()
+    let dump = faulty_dump(rt, alloc, status, names.dump);
+    hint(alloc, status, words.as_slice(), None, dump.as_deref()).ok()
 }
 
 /// The end by a status of a run over these files.
@@ -94,11 +103,44 @@ pub fn written<R: Files + Print>(
     }
 }
 
-/// Says what is to be said of an end, and answers its number.
-pub fn ended<R: Eprint>(rt: &R, end: &End) -> ExitCode {
+// The last part of a path.
+fn last_part(path: &str) -> &str {
+    match path.rsplit_once('/') {
+        Some((_, name)) => name,
+        None => path,
+    }
+}
+
+// Says what is said of a run in the name of this program, of which the first word is its path.
+fn say_as<R: Eprint>(rt: &R, path: &str, said: &str) {
+    // Where nothing can be said, the status still tells.
+    match said.strip_prefix("factoplan:") {
+        Some(rest) => {
+            let _ = rt.eprint(last_part(path));
+            let _ = rt.eprint(":");
+            let _ = rt.eprint(rest);
+        }
+        None => {
+            let _ = rt.eprint(said);
+        }
+    }
+}
+
+// Says a text in the name of this program.
+fn say<R: Env + AllocGlobal + Eprint>(rt: &R, said: &str) {
+    match env::args(rt) {
+        Ok(mut arguments) => match arguments.next() {
+            Some(path) => say_as(rt, path.as_str(), said),
+            None => say_as(rt, "factoplan", said),
+        },
+        Err(_) => say_as(rt, "factoplan", said),
+    }
+}
+
+/// Says what is to be said of an end, in the name of the program that runs, and answers its number.
+pub fn ended<R: Env + AllocGlobal + Eprint>(rt: &R, end: &End) -> ExitCode {
     if let Some(said) = &end.said {
-        // Where nothing can be said, the status still tells.
-        let _ = rt.eprint(said.as_str());
+        say(rt, said.as_str());
     }
     ExitCode::from(end.exit)
 }

@@ -2,9 +2,17 @@
 #![tactic(auto)]
 
 mod ends;
+mod files;
 mod lines;
 mod words;
 
+/// The version of the programs.
+pub const VERSION: &str = "0.6.0";
+
+/// The file of a run without a script: it is empty.
+pub const NO_SCRIPT: &str = "/dev/null";
+
 pub use ends::{End, Names, end_by, ended, written};
+pub use files::whole_file;
 pub use lines::{LINES, answered, loaded, step};
 pub use words::{end_by_words, program_words};

@@ -1,0 +1,255 @@
+//! Questions, and their answers.
+ghost use Rattle.std.specs.Prelude.{◌≡◌};
+ghost use Rattle.state_changes.specs.States.{State};
+ghost use Rattle.planner_core.specs.Lines.{IsSessionOf};
+
+use crate::answers::{Done, push_refusal, push_text};
+use crate::flows::{push_flow_answer, push_why_not};
+use crate::forced::Forced;
+use crate::limits::push_limits;
+use crate::state::push_state;
+use catalog_text::catalog_text;
+use plan_base::{NoMemory, Steps, Text};
+use plan_report::{RefusalCode, Reply};
+use planner_core::Planner;
+use planner_questions::{ask_rate, ask_solve};
+use script_reader::{Command, ScriptFault};
+use script_runner::{Reading, reading_of, refused_for};
+use shown_fields::ShownFields;
+use std::alloc::Global;
+
+// What a question asks for, by its first word.
+#[derive(Clone, Copy, Debug, PartialEq, Eq)]
+enum Asked {
+    Catalog,
+    State,
+    Flow,
+    WhyNot,
+    Limits,
+    Wish,
+}
+
+// The first word of a line, and what stands behind it.
+fn front_word(line: &[u8]) -> (&[u8], &[u8]) {
+    let mut count = 0;
+    for byte in line {
+        if *byte == b' ' || *byte == b'\t' {
+            return line.split_at(count);
+        }
+        count += 1;
+    }
+    (line, &[])
+}
+
+fn asked_by(word: &[u8]) -> Option<Asked> {
+    match word {
+        b"?catalog" => Some(Asked::Catalog),
+        b"?state" => Some(Asked::State),
+        b"?flow" => Some(Asked::Flow),
+        b"?why-not" => Some(Asked::WhyNot),
+        b"?limits" => Some(Asked::Limits),
+        b"?wish" => Some(Asked::Wish),
+        _ => None,
+    }
+}
+
+// Whether there are no words.
+fn is_blank(words: &[u8]) -> bool {
+    words.iter().all(|byte| *byte == b' ' || *byte == b'\t')
+}
+
+// Words behind the word of a command of a script, as a line of it.
+fn line_of(alloc: Global, command: &[u8], words: &[u8]) -> Result<Vec<u8>, NoMemory> {
+    let mut line = Vec::new(alloc);
+    line.extend_from_slice(command)?;
+    line.extend_from_slice(words)?;
+    Ok(line)
+}
+
+// What the words of a question are read as behind the word of a command of a script.
+fn read_as(alloc: Global, command: &[u8], words: &[u8]) -> Result<Reading, NoMemory> {
+    let line = line_of(alloc, command, words)?;
+    reading_of(alloc, line.as_slice())
+}
+
+// The refusal of what can't be read.
+fn unread(reading: Reading) -> Reply {
+    match reading {
+        Err(fault) => refused_for(fault),
+        Ok(_) => refused_for(ScriptFault::WrongWords),
+    }
+}
+
+// The reply to the `solve` that a question stands for.
+fn solved<L>(
+    alloc: Global,
+    planner: &mut Planner,
+    words: &[u8],
+    steps: &mut Steps<L>,
+) -> Result<Reply, NoMemory>
+    requires { (base : State) × IsSessionOf base planner.old }
+    ensures stays { planner.new ≡ planner.old }
+{
+    match read_as(alloc, b"solve", words)? {
+        Ok(Some(Command::Solve { table, budget })) => ask_solve(planner, table, budget, steps),
+        other => Ok(unread(other)),
+    }
+}
+
+// The reply to the `rate` that a question stands for.
+fn rated<L>(
+    alloc: Global,
+    planner: &mut Planner,
+    words: &[u8],
+    steps: &mut Steps<L>,
+) -> Result<Reply, NoMemory>
+    requires { (base : State) × IsSessionOf base planner.old }
+    ensures stays { planner.new ≡ planner.old }
+{
+    match read_as(alloc, b"rate", words)? {
+        Ok(Some(Command::Rate { table, label })) => ask_rate(planner, table, label, steps),
+        other => Ok(unread(other)),
+    }
+}
+
+fn push_flow<L>(
+    alloc: Global,
+    out: &mut String,
+    planner: &mut Planner,
+    words: &[u8],
+    steps: &mut Steps<L>,
+) -> Done
+    requires { (base : State) × IsSessionOf base planner.old }
+    ensures stays { planner.new ≡ planner.old }
+{
+    let reply = solved(alloc, planner, words, steps)?;
+    push_flow_answer(alloc, out, planner, &reply)
+}
+
+fn push_reason<L>(
+    alloc: Global,
+    out: &mut String,
+    planner: &mut Planner,
+    words: &[u8],
+    steps: &mut Steps<L>,
+) -> Done
+    requires { (base : State) × IsSessionOf base planner.old }
+    ensures stays { planner.new ≡ planner.old }
+{
+    let reply = solved(alloc, planner, words, steps)?;
+    push_why_not(alloc, out, planner.game(), &reply)
+}
+
+fn push_rate<L>(
+    alloc: Global,
+    out: &mut String,
+    planner: &mut Planner,
+    words: &[u8],
+    steps: &mut Steps<L>,
+) -> Done
+    requires { (base : State) × IsSessionOf base planner.old }
+    ensures stays { planner.new ≡ planner.old }
+{
+    let reply = rated(alloc, planner, words, steps)?;
+    push_limits(alloc, out, planner.game(), &reply)
+}
+
+// The catalog, which no words ask for and no open batch hinders.
+fn push_catalog<L>(
+    alloc: Global,
+    out: &mut String,
+    planner: &mut Planner,
+    shown: &ShownFields,
+    words: &[u8],
+    steps: &mut Steps<L>,
+) -> Done
+    requires { (base : State) × IsSessionOf base planner.old }
+    ensures stays { planner.new ≡ planner.old }
+{
+    if !is_blank(words) {
+        return push_refusal(alloc, out, RefusalCode::Q2, planner.game());
+    }
+    match catalog_text(alloc, planner, shown, steps)? {
+        Some(text) => push_text(out, text.as_str()),
+        None => push_refusal(alloc, out, RefusalCode::H3, planner.game()),
+    }
+}
+
+fn push_forced(
+    alloc: Global,
+    out: &mut String,
+    planner: &Planner,
+    forced: &Forced,
+    words: &[u8],
+) -> Done {
+    if is_blank(words) {
+        push_state(out, forced)
+    } else {
+        push_refusal(alloc, out, RefusalCode::Q2, planner.game())
+    }
+}
+
+// The answer to what is asked.
+fn push_asked<L>(
+    alloc: Global,
+    out: &mut String,
+    planner: &mut Planner,
+    forced: &Forced,
+    shown: &ShownFields,
+    asked: Asked,
+    words: &[u8],
+    steps: &mut Steps<L>,
+) -> Done
+    requires { (base : State) × IsSessionOf base planner.old }
+    ensures stays { planner.new ≡ planner.old }
+{
+    match asked {
+        Asked::Catalog => push_catalog(alloc, out, planner, shown, words, steps),
+        Asked::State => push_forced(alloc, out, planner, forced, words),
+        Asked::Flow => push_flow(alloc, out, planner, words, steps),
+        Asked::WhyNot => push_reason(alloc, out, planner, words, steps),
+        Asked::Limits => push_rate(alloc, out, planner, words, steps),
+        Asked::Wish => push_text(out, "? wish refused\n  wishes aren't answered here yet\n"),
+    }
+}
+
+// The answer to a question.
+fn push_question<L>(
+    alloc: Global,
+    out: &mut String,
+    planner: &mut Planner,
+    forced: &Forced,
+    shown: &ShownFields,
+    line: &[u8],
+    steps: &mut Steps<L>,
+) -> Done
+    requires { (base : State) × IsSessionOf base planner.old }
+    ensures stays { planner.new ≡ planner.old }
+{
+    let (word, words) = front_word(line);
+    match asked_by(word) {
+        Some(asked) => push_asked(alloc, out, planner, forced, shown, asked, words, steps),
+        None => push_refusal(alloc, out, RefusalCode::Q1, planner.game()),
+    }
+}
+
+/// Answers a question, which leaves the planner as it was.
+///
+/// # Errors
+///
+/// `NoMemory` where memory could not be had.
+pub fn answer_question<L>(
+    alloc: Global,
+    planner: &mut Planner,
+    forced: &Forced,
+    shown: &ShownFields,
+    line: &[u8],
+    steps: &mut Steps<L>,
+) -> Result<Text, NoMemory>
+    requires { (base : State) × IsSessionOf base planner.old }
+    ensures stays { planner.new ≡ planner.old }
+{
+    let mut out = String::new(alloc);
+    push_question(alloc, &mut out, planner, forced, shown, line, steps)?;
+    Ok(Text::from_string(out))
+}
