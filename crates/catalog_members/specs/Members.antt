@@ -20,17 +20,19 @@ name_of_kind g kind n = kind_word kind ++ 58 ∷ name_at g kind (n - first_of (s
 unfoldable pub id_text : Game → NodeId → List ℕ
 id_text g node = name_of_kind g (kind_at (shape_of g) node.0) node.0
 
-abbrev pub ids : Game → List NodeId → Items
-ids g [] = no_items
-ids g (node ∷ nodes) = item (string (id_text g node)) (ids g nodes)
+-- what each of a list is written as
+abbrev pub items_tree : {A : Type 0} → (A → Data) → List A → Items
+items_tree tree [] = no_items
+items_tree tree (x ∷ xs) = item (tree x) (items_tree tree xs)
 
-abbrev pub places : List ℕ → Items
-places [] = no_items
-places (n ∷ ns) = item (number (unsigned n)) (places ns)
+abbrev pub id_value : Game → NodeId → Data
+id_value g node = string (id_text g node)
 
-abbrev pub words : List (List ℕ) → Items
-words [] = no_items
-words (w ∷ ws) = item (string w) (words ws)
+abbrev pub place_value : ℕ → Data
+place_value n = number (unsigned n)
+
+abbrev pub word_value : List ℕ → Data
+word_value word = string word
 
 -- ---- members
 abbrev pub with_text : List ℕ → List ℕ → Members → Members
@@ -67,13 +69,13 @@ with_items key no_items ms = ms
 with_items key (item d ds) ms = put key (array (item d ds)) ms
 
 abbrev pub with_ids : List ℕ → Game → List NodeId → Members → Members
-with_ids key g nodes ms = with_items key (ids g nodes) ms
+with_ids key g nodes ms = with_items key (items_tree (id_value g) nodes) ms
 
 abbrev pub with_places : List ℕ → List ℕ → Members → Members
-with_places key ns ms = with_items key (places ns) ms
+with_places key ns ms = with_items key (items_tree place_value ns) ms
 
 abbrev pub with_words : List ℕ → List (List ℕ) → Members → Members
-with_words key ws ms = with_items key (words ws) ms
+with_words key ws ms = with_items key (items_tree word_value ws) ms
 
 abbrev pub with_object : List ℕ → Members → Members → Members
 with_object key inner ms = put key (object inner) ms

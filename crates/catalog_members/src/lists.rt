@@ -1,8 +1,8 @@
 //! Members that are lists. An empty list has no member.
-ghost use Rattle.std.specs.Prelude.{◌≡◌, IfOk, OnOk, map};
+ghost use Rattle.std.specs.Prelude.{◌≡◌, ◌++◌, ◌∷◌, [], IfOk, OnOk};
 ghost use Rattle.game_types.specs.Sound.{IsSound};
-ghost use Rattle.serde_json.specs.View.{items_view, members_view};
-ghost use Rattle.catalog_members.specs.Members.{ids, places, with_ids, with_items, with_places, with_words, words};
+ghost use Rattle.serde_json.specs.View.{items_view, members_view, view};
+ghost use Rattle.catalog_members.specs.Members.{id_value, items_tree, place_value, with_ids, with_items, with_places, with_words, word_value};
 
 use crate::ids::id_text;
 use crate::members::{Members, put};
@@ -33,14 +33,22 @@ pub fn put_items(
     }
 }
 
+fn id_value(alloc: Global, game: &Game, node: NodeId) -> Result<Value, NoMemory>
+    requires { IsSound game.now }
+    ensures { IfOk result (λ value. view value ≡ id_value game.now node) }
+{
+    let text = id_text(alloc, game, node)?;
+    Ok(Value::String(text))
+}
+
+#[tactic(auto, using(crate::proofs::Lists::none_written, crate::proofs::Lists::one_written, crate::proofs::Lists::all_written))]
 fn id_values(alloc: Global, game: &Game, nodes: &[NodeId]) -> Result<Vec<Value>, NoMemory>
     requires { IsSound game.now }
-    ensures { IfOk result (λ list. items_view list.items ≡ ids game.now nodes.now) }
+    ensures { IfOk result (λ list. items_view list.items ≡ items_tree (id_value game.now) nodes.now) }
 {
     let mut list = Vec::new(alloc);
     for node in nodes {
-        let text = id_text(alloc, game, *node)?;
-        push(&mut list, Value::String(text))?;
+        push(&mut list, id_value(alloc, game, *node)?)?;
     }
     Ok(list)
 }
@@ -60,12 +68,19 @@ pub fn put_ids(
     put_items(members, alloc, key, list)
 }
 
+fn place_value(place: u32) -> Value
+    ensures { view result ≡ place_value place }
+{
+    Value::from(place)
+}
+
+#[tactic(auto, using(crate::proofs::Lists::none_written, crate::proofs::Lists::one_written, crate::proofs::Lists::all_written))]
 fn place_values(alloc: Global, places: &[u32]) -> Result<Vec<Value>, NoMemory>
-    ensures { IfOk result (λ list. items_view list.items ≡ places places.now) }
+    ensures { IfOk result (λ list. items_view list.items ≡ items_tree place_value places.now) }
 {
     let mut list = Vec::new(alloc);
     for place in places {
-        push(&mut list, Value::from(*place))?;
+        push(&mut list, place_value(*place))?;
     }
     Ok(list)
 }
@@ -83,12 +98,19 @@ pub fn put_places(
     put_items(members, alloc, key, list)
 }
 
+fn word_value(alloc: Global, text: &Text) -> Result<Value, NoMemory>
+    ensures { IfOk result (λ value. view value ≡ word_value text.now) }
+{
+    Ok(Value::try_from_str(alloc, text.as_str())?)
+}
+
+#[tactic(auto, using(crate::proofs::Lists::none_written, crate::proofs::Lists::one_written, crate::proofs::Lists::all_written))]
 fn word_values(alloc: Global, texts: &[Text]) -> Result<Vec<Value>, NoMemory>
-    ensures { IfOk result (λ list. items_view list.items ≡ words texts.now) }
+    ensures { IfOk result (λ list. items_view list.items ≡ items_tree word_value texts.now) }
 {
     let mut list = Vec::new(alloc);
     for text in texts {
-        push(&mut list, Value::try_from_str(alloc, text.as_str())?)?;
+        push(&mut list, word_value(alloc, text)?)?;
     }
     Ok(list)
 }

@@ -12,7 +12,7 @@ use depend_index::Index;
 use game_types::Game;
 use plan_base::{Kind, NoMemory, NodeId, Shape, Steps};
 use planner_core::Planner;
-use planner_questions::{mask_of, milestones_of, rank_of};
+use planner_questions::{mask_of, milestones_of, places_of, rank_of};
 use serde_json::Value;
 use shown_fields::{ShownFields, shown_of};
 use std::alloc::Global;
@@ -30,6 +30,24 @@ fn count_of(shape: &Shape, kind: Kind) -> u32 {
     }
 }
 
+// The places of the milestones without which a node isn't reached.
+fn mask_places<L>(
+    alloc: Global,
+    planner: &mut Planner,
+    milestones: &[NodeId],
+    node: NodeId,
+    steps: &mut Steps<L>,
+) -> Result<Vec<u32>, NoMemory>
+    requires { (base : State) × IsSessionOf base planner.old }
+    ensures stays { planner.new ≡ planner.old }
+{
+    if milestones.is_empty() {
+        return Ok(Vec::new(alloc));
+    }
+    let mask = mask_of(alloc, planner, node, steps)?;
+    places_of(alloc, milestones, mask.as_slice())
+}
+
 // A thing as the planner has it.
 fn thing_of<L>(
     alloc: Global,
@@ -44,7 +62,7 @@ fn thing_of<L>(
 {
     let node = thing_node(planner.game(), kind, number);
     let rank = rank_of(alloc, planner, node, steps)?;
-    let mask = mask_of(alloc, planner, milestones, node, steps)?;
+    let mask = mask_places(alloc, planner, milestones, node, steps)?;
     Ok(Thing {
         kind,
         number,

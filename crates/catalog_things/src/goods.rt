@@ -1,7 +1,5 @@
 //! Items, fluids, electricity and heat.
-ghost use Rattle.std.specs.Prelude.{◌<◌, ◌+◌, length};
 ghost use Rattle.game_types.specs.Sound.{IsSound};
-ghost use Rattle.depend_index.specs.Indexed.{IsIndex};
 
 use crate::nodes::{good_node, thing_node};
 use crate::parts::put_products;

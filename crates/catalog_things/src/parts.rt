@@ -1,8 +1,5 @@
 //! What is taken and what is given.
 ghost use Rattle.game_types.specs.Sound.{IsSound};
-ghost use Rattle.std.specs.Prelude.{◌<◌, All, length, ◌+◌};
-ghost use Rattle.game_types.specs.Sound.{IsGood};
-ghost use Rattle.depend_index.specs.Indexed.{IsIndex};
 
 use crate::nodes::good_node;
 use catalog_members::{
@@ -122,9 +119,7 @@ fn put_part(
     index: &Index,
     part: &Part,
 ) -> Result<(), NoMemory>
-    requires sound { IsSound game.now }
-    requires index { IsIndex game.now index.now }
-    requires good { IsGood game.now part.now.good.0 }
+    requires { IsSound game.now }
 {
     let fits = fits_of(alloc, game, index, part)?;
     put_good(members, alloc, game, part.good, &part.amount)?;
@@ -134,9 +129,7 @@ fn put_part(
 }
 
 fn part_value(alloc: Global, game: &Game, index: &Index, part: &Part) -> Result<Value, NoMemory>
-    requires sound { IsSound game.now }
-    requires index { IsIndex game.now index.now }
-    requires good { IsGood game.now part.now.good.0 }
+    requires { IsSound game.now }
 {
     let mut members = Map::new(alloc);
     put_part(&mut members, alloc, game, index, part)?;
@@ -149,9 +142,7 @@ fn part_values(
     index: &Index,
     parts: &[Part],
 ) -> Result<Vec<Value>, NoMemory>
-    requires sound { IsSound game.now }
-    requires index { IsIndex game.now index.now }
-    requires parts { All (λ part. IsGood game.now part.good.0) parts.now }
+    requires { IsSound game.now }
 {
     let mut list = Vec::new(alloc);
     for part in parts {
@@ -168,9 +159,7 @@ pub fn put_parts(
     index: &Index,
     parts: &[Part],
 ) -> Result<(), NoMemory>
-    requires sound { IsSound game.now }
-    requires index { IsIndex game.now index.now }
-    requires parts { All (λ part. IsGood game.now part.good.0) parts.now }
+    requires { IsSound game.now }
 {
     let list = part_values(alloc, game, index, parts)?;
     put_items(members, alloc, "in", list)

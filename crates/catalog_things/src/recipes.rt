@@ -1,6 +1,6 @@
 //! Recipes and sources.
 ghost use Rattle.std.specs.Prelude.{◌<◌, length};
-ghost use Rattle.game_types.specs.Sound.{IsSound, IsSoundActivity, IsSoundRecipe};
+ghost use Rattle.game_types.specs.Sound.{IsSound, IsSoundActivity};
 ghost use Rattle.depend_index.specs.Indexed.{IsIndex};
 
 use crate::makers::{character_crafts, character_mines};
@@ -20,9 +20,7 @@ fn put_craft(
     index: &Index,
     recipe: &Recipe,
 ) -> Result<(), NoMemory>
-    requires sound { IsSound game.now }
-    requires index { IsIndex game.now index.now }
-    requires recipe { IsSoundRecipe game.now recipe.now }
+    requires { IsSound game.now }
 {
     put_amount(members, alloc, "time", &recipe.time)?;
     put_unless_one(members, alloc, "emissions", &recipe.emissions)?;

@@ -25,9 +25,13 @@ pub fn read_error<R: Files>(rt: &R, name: &str) -> Option<io::Error> {
 
 // Puts what is read behind other bytes. Answers how many came.
 fn read_piece<F: Read>(file: &mut F, buffer: &mut [u8], bytes: &mut Vec<u8>) -> Option<usize> {
-    let count = file.read(buffer).ok()?;
-    bytes.extend_from_slice(&buffer[..count]).ok()?;
-    Some(count)
+    match file.read(buffer) {
+        Ok(count) => match bytes.extend_from_slice(&buffer[..count]) {
+            Ok(()) => Some(count),
+            Err(_) => None,
+        },
+        Err(_) => None,
+    }
 }
 
 // Reads a file to its end, or until it has passed the limit.

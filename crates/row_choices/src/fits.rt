@@ -1,13 +1,8 @@
 //! The goods that may stand for an ingredient.
-ghost use Rattle.std.specs.Prelude.{◌≡◌, ◌+◌, ◌-◌, ◌<◌, All, IfOk, length, true};
-ghost use Rattle.game_types.specs.Sound.{IsSound};
-ghost use Rattle.game_types.specs.Temperatures.{is_fit};
-ghost use Rattle.node_lists.specs.Lists.{list_at};
-ghost use Rattle.depend_index.specs.Goods.{good_count};
-ghost use Rattle.depend_index.specs.Indexed.{IsIndex};
+ghost use Rattle.std.specs.Prelude.{◌≡◌};
 ghost use Rattle.row_choices.specs.Choices.{fits_by_itself};
 
-use depend_index::{Index, first_fluid, numbers_within};
+use depend_index::Index;
 use game_types::{Game, Part, is_within};
 use node_lists::list_of;
 use plan_base::{GoodId, NoMemory, NodeId};
@@ -23,11 +18,26 @@ fn fits_by_itself(game: &Game, part: &Part) -> bool
     }
 }
 
-// Nodes of these numbers.
-fn nodes_of(alloc: Global, numbers: &[u32]) -> Result<Vec<NodeId>, NoMemory> {
+// Whether a fluid that is a node is within the bounds of an ingredient.
+fn is_node_within(game: &Game, part: &Part, node: NodeId) -> bool {
+    match game.fluid(GoodId(node.0.saturating_sub(3))) {
+        Some(fluid) => is_within(&part.low, &part.high, &fluid.at),
+        None => false,
+    }
+}
+
+// Those of some nodes that are within the bounds of an ingredient.
+fn those_within(
+    alloc: Global,
+    game: &Game,
+    part: &Part,
+    variants: &[NodeId],
+) -> Result<Vec<NodeId>, NoMemory> {
     let mut nodes = Vec::new(alloc);
-    for number in numbers {
-        nodes.push(NodeId(*number))?;
+    for node in variants {
+        if is_node_within(game, part, *node) {
+            nodes.push(*node)?;
+        }
     }
     Ok(nodes)
 }
@@ -52,23 +62,11 @@ pub fn fits_of(
     game: &Game,
     index: &Index,
     part: &Part,
-) -> Result<Vec<NodeId>, NoMemory>
-    requires sound { IsSound game.now }
-    requires index { IsIndex game.now index.now }
-    requires good { part.now.good.0 < good_count game.now }
-{
-    let lists = index.coolest_variants.as_slice();
-    let variants = list_of(lists, part.good.0);
+) -> Result<Vec<NodeId>, NoMemory> {
+    let variants = list_of(index.coolest_variants.as_slice(), part.good.0);
     if variants.is_empty() {
-        return good_alone(alloc, game, part);
+        good_alone(alloc, game, part)
+    } else {
+        those_within(alloc, game, part, variants)
     }
-    let numbers = numbers_within(
-        alloc,
-        game.fluids.as_slice(),
-        first_fluid(game),
-        &part.low,
-        &part.high,
-        variants,
-    )?;
-    nodes_of(alloc, numbers.as_slice())
 }

@@ -6,7 +6,7 @@ ghost use Rattle.node_lists.specs.Members.{node as node_of};
 ghost use Rattle.row_choices.specs.Choices.{bare_row, does_power, does_in, machines_for};
 
 use depend_index::first_machine;
-use game_types::{Activity, Game, Machine, Setup};
+use game_types::{Activity, Game, Setup};
 use machine_rates::check_machine;
 use plan_base::{EntityId, Items, NoMemory, NodeId};
 use power_rows::{PowerFault, check_power};
@@ -39,7 +39,7 @@ fn does_power(checked: Result<(), PowerFault>) -> bool
 }
 
 /// Whether a machine does an activity: a row of the two isn't refused as K1, K2 or K3.
-#[tactic(auto, unfolding(crate::specs::Choices::does_in))]
+#[tactic(auto, using(crate::proofs::Passing::bare_sound), unfolding(crate::specs::Choices::does_in))]
 pub fn does(alloc: Global, game: &Game, machine: EntityId, activity: Activity) -> bool
     requires sound { IsSound game.now }
     requires machine { machine.0 < length game.now.machines }
@@ -79,7 +79,7 @@ pub fn machines_for(alloc: Global, game: &Game, activity: Activity) -> Result<Ve
     ensures { IfOk result (λ nodes. nodes.items ≡ machines_for game.now activity) }
 {
     let first = first_machine(game);
-    let count = game.machines.len() as u32;
+    let count = game.shape().machines;
     let mut nodes = Vec::new(alloc);
     for machine in 0..count {
         let belongs = does(alloc, game, EntityId(machine), activity);

@@ -3,6 +3,7 @@ ghost use Rattle.std.specs.Prelude.{◌≡◌, ◌+◌, IfOk, length};
 ghost use Rattle.game_types.specs.Sound.{IsSound};
 ghost use Rattle.row_choices.specs.Choices.{burns, fuels_of, may_hold, modules_of};
 
+use depend_index::first_fluid;
 use game_types::{Allowed, Energy, Fuel, Game, Item, Module, first_refused, takes_fuel};
 use node_lists::{Test, those};
 use plan_base::{NoMemory, NodeId};
@@ -42,7 +43,7 @@ pub fn fuels_of(alloc: Global, game: &Game, energy: &Energy) -> Result<Vec<NodeI
     requires { IsSound game.now }
     ensures { IfOk result (λ nodes. nodes.items ≡ fuels_of game.now energy.now) }
 {
-    let _shape = game.shape();
+    let _few = first_fluid(game);
     let test = BurntBy { energy };
     those(alloc, 3, game.items.as_slice(), &test)
 }
@@ -81,7 +82,7 @@ pub fn modules_of(alloc: Global, game: &Game, allowed: Allowed) -> Result<Vec<No
     requires { IsSound game.now }
     ensures { IfOk result (λ nodes. nodes.items ≡ modules_of game.now allowed) }
 {
-    let _shape = game.shape();
+    let _few = first_fluid(game);
     let test = HeldBy { allowed };
     those(alloc, 3, game.items.as_slice(), &test)
 }

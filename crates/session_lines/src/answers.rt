@@ -29,15 +29,20 @@ pub fn push_reply(alloc: Global, out: &mut String, reply: &Reply, game: &Game) -
     Ok(())
 }
 
+/// A refusal without details.
+pub fn refusal(code: RefusalCode) -> Reply {
+    Reply::Refused {
+        code,
+        detail: Detail::Bare,
+        at: None,
+    }
+}
+
 /// Writes a refusal without details.
 pub fn push_refusal(alloc: Global, out: &mut String, code: RefusalCode, game: &Game) -> Done
     requires { IsSound game.now }
 {
-    let reply = Reply::Refused {
-        code,
-        detail: Detail::Bare,
-        at: None,
-    };
+    let reply = refusal(code);
     push_reply(alloc, out, &reply, game)
 }
 

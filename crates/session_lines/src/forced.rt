@@ -1,9 +1,11 @@
 //! The lines in force: those of the entries of the history that are done, those of the entries that are undone, and those that an open
 //! batch holds.
 use plan_base::{NoMemory, Text};
-use script_reader::Command;
-use script_runner::Reading;
+use script_reader::{Command, ScriptFault};
 use std::alloc::Global;
+
+/// A line's command, none where it is blank or a comment, or why it has none.
+pub type Reading = Result<Option<Command>, ScriptFault>;
 
 /// A line with its number.
 #[derive(Drop)]

@@ -3,9 +3,9 @@ ghost use Rattle.std.specs.Prelude.{◌≡◌};
 ghost use Rattle.state_changes.specs.States.{State};
 ghost use Rattle.planner_core.specs.Lines.{IsSessionOf};
 
-use crate::answers::{Done, push_refusal, push_text};
+use crate::answers::{Done, push_refusal, push_text, refusal};
 use crate::flows::{push_flow_answer, push_why_not};
-use crate::forced::Forced;
+use crate::forced::{Forced, Reading};
 use crate::limits::push_limits;
 use crate::state::push_state;
 use catalog_text::catalog_text;
@@ -14,7 +14,7 @@ use plan_report::{RefusalCode, Reply};
 use planner_core::Planner;
 use planner_questions::{ask_rate, ask_solve};
 use script_reader::{Command, ScriptFault};
-use script_runner::{Reading, reading_of, refused_for};
+use script_runner::reading_of;
 use shown_fields::ShownFields;
 use std::alloc::Global;
 
@@ -72,11 +72,23 @@ fn read_as(alloc: Global, command: &[u8], words: &[u8]) -> Result<Reading, NoMem
     reading_of(alloc, line.as_slice())
 }
 
+// The code of what can't be read.
+fn fault_code(fault: ScriptFault) -> RefusalCode {
+    match fault {
+        ScriptFault::UnknownCommand => RefusalCode::Q1,
+        ScriptFault::WrongWords => RefusalCode::Q2,
+        ScriptFault::BadNumber => RefusalCode::Q3,
+        ScriptFault::BadQuoting => RefusalCode::Q4,
+        ScriptFault::BadObject => RefusalCode::Q5,
+        ScriptFault::NoMemory => RefusalCode::Q1,
+    }
+}
+
 // The refusal of what can't be read.
 fn unread(reading: Reading) -> Reply {
     match reading {
-        Err(fault) => refused_for(fault),
-        Ok(_) => refused_for(ScriptFault::WrongWords),
+        Err(fault) => refusal(fault_code(fault)),
+        Ok(_) => refusal(RefusalCode::Q2),
     }
 }
 

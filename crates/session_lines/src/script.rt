@@ -12,7 +12,7 @@ use game_types::Game;
 use plan_base::{NoMemory, Steps, Text};
 use plan_report::{Reply, print_reply};
 use planner_core::Planner;
-use script_runner::{Reading, is_refusal, reading_of, reply_to};
+use script_runner::{is_refusal, reading_of, reply_to};
 use std::alloc::Global;
 
 /// What a line of a script was answered.

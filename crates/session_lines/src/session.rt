@@ -1,5 +1,6 @@
 //! A session: lines come in, and each is answered before the next.
-ghost use Rattle.std.specs.Prelude.{◌≤◌, IfOk, length};
+ghost use Rattle.std.specs.Prelude.{◌<◌, IfSome, length};
+ghost use Rattle.std.specs.Io.{ReadsAtMost};
 ghost use Rattle.state_changes.specs.States.{State};
 ghost use Rattle.planner_core.specs.Lines.{IsSessionOf};
 
@@ -181,7 +182,9 @@ fn put_bytes(line: &mut Vec<u8>, more: &[u8]) -> Result<(), Status> {
 }
 
 // The place of the first newline.
-fn newline_in(bytes: &[u8]) -> Option<usize> {
+fn newline_in(bytes: &[u8]) -> Option<usize>
+    ensures { IfSome result (λ place. place < length bytes.now) }
+{
     bytes.iter().position(|byte| *byte == b'\n')
 }
 
@@ -219,7 +222,11 @@ fn take_piece<K: Sink, L>(
     ensures { (base : State) × IsSessionOf base planner.new }
 {
     let mut rest = piece;
-    while let Some(place) = newline_in(rest) {
+    // Each line that ends takes a byte at least.
+    for _ in 0..piece.len() {
+        let Some(place) = newline_in(rest) else {
+            break;
+        };
         let (front, behind) = rest.split_at(place);
         take_ended(alloc, planner, session, line, front, out, steps)?;
         rest = &behind[1..];
@@ -254,7 +261,7 @@ fn ended(session: &Session, last: Result<(), Status>) -> Status {
 
 // Reads a piece of the input.
 fn read_piece<I: Read>(input: &mut I, buffer: &mut [u8]) -> Result<usize, Status>
-    ensures { IfOk result (λ count. count ≤ length buffer.new) }
+    ensures { ReadsAtMost result buffer.new }
 {
     match input.read(buffer) {
         Ok(count) => Ok(count),
