@@ -1,8 +1,12 @@
 -- What is told of a node where no batch is open.
-use Rattle.std.proofs.Common.{◌≡◌, ◌∙◌, ℕ, Bool, true, false, List, refl, sym, subst, ap}
-use Rattle.std.specs.Prelude.{Option, None, Some, Ok, Err}
+use Rattle.std.proofs.Common.{◌≡◌, ◌∙◌, ◌<◌, ◌+◌, ℕ, Bool, true, false, List, Vec, refl, sym, subst, ap}
+use Rattle.std.specs.Prelude.{IfSome, Option, None, Some, Ok, Err, option_map}
+use Rattle.std.specs.Global.{Global}
+use Rattle.plan_base.specs.Shape.{count_of, first_of}
+use Rattle.plan_base.specs.declared.shape.Kind.{Kind}
+use Rattle.plan_base.specs.declared.shape.Shape.{Shape}
 use Rattle.plan_base.specs.declared.ids.NodeId.{NodeId}
-use Rattle.game_types.specs.Nodes.{find_node}
+use Rattle.game_types.specs.Nodes.{find_node, node_at, shape_of}
 use Rattle.game_types.specs.declared.games.Game.{Game}
 use Rattle.script_reader.specs.declared.change.Object.{Object}
 use Rattle.script_reader.specs.declared.command.Command.TheVariants as command
@@ -63,3 +67,16 @@ pub milestones_told : (p r : Planned) (answer : Reply) (nodes : List NodeId) →
     → (p.batch ≡ None) × (nodes ≡ p.state.milestones)
 unfolding IsStep
 milestones_told p r answer nodes step told = milestones_in 0 p.batch p r answer nodes step told
+
+pub milestones_found : (p r : Planned) (answer : Reply) (told : Option (Vec NodeId Global)) → IsStep 0 p command.Milestones r answer → option_map (λ v. v.items) told ≡ told_milestones answer
+    → IfSome told (λ nodes. (p.batch ≡ None) × (nodes.items ≡ p.state.milestones))
+milestones_found p r answer None step is = tt
+milestones_found p r answer (Some nodes) step is = milestones_told p r answer nodes.items step (sym is)
+
+-- the kind and the name of a node find it again
+pub named_again : (g : Game) (shape : Shape) (node : NodeId) (kind : Kind) (index : ℕ) (name copy : List ℕ) → shape ≡ shape_of g → node.0 ≡ first_of shape kind + index → index < count_of shape kind
+    → ((k : Kind) (i : ℕ) → i < count_of (shape_of g) k → node ≡ node_at g k i → find_node g k name ≡ Some node) → copy ≡ name → find_node g kind copy ≡ Some node
+named_again g shape node kind index name copy same place within found is =
+    subst (λ c. find_node g kind c ≡ Some node) (sym is)
+      (found kind index (subst (λ (s : Shape). index < count_of s kind) same within)
+        (ap (λ (n : ℕ). let x : NodeId = record { 0 = n } in x) (subst (λ (s : Shape). node.0 ≡ first_of s kind + index) same place)))

@@ -101,7 +101,7 @@ fuel_fits g (Burner categories effectivity) None o = absurd o
 fuel_fits g (Burner categories effectivity) (Some good) o = fuel_accepted (Burner categories effectivity) (item_at g good).fuel o
 
 fuel_used : (g : Game) (setup : Setup) → IsOffered g setup → (taken : Option Fuel) × (fuel_use_of g setup ≡ Ok taken)
-unfolding (fuel_use_of, setup_fuel)
+unfolding fuel_use_of setup_fuel
 fuel_used g setup o = fuel_fits g (machine_at g setup.machine).energy setup.fuel o.fuel
 
 -- ---- modules
@@ -120,7 +120,7 @@ not_less : (slots count rest : ℕ) → count + rest ≤ slots → nat_lt slots 
 not_less slots count rest few = grind (arith, nat_tests)
 
 slots_enough : (slots : ℕ) (modules : List (GoodId × ℕ)) → module_count modules ≤ slots → slots_hold slots modules ≡ Ok tt
-unfolding (slots_hold, module_count)
+unfolding slots_hold module_count
 slots_enough slots [] few = refl
 slots_enough slots (m ∷ ms) few =
     ap (λ b. if b then Err (TooMany m.0) else slots_hold (slots - m.1) ms) (not_less slots m.1 (module_count ms) few)
@@ -145,7 +145,7 @@ module_passes g allowed activity good o =
     ∙ ap (named good) (limit_passes (module_at g good) activity o.free)
 
 modules_pass : (g : Game) (setup : Setup) → IsOffered g setup → checked_modules g setup ≡ Ok tt
-unfolding (checked_modules, modules_fit)
+unfolding checked_modules modules_fit
 modules_pass g setup o =
     ap (λ r. r ▸ λ _. first_fault (λ m. module_fits g (machine_at g setup.machine).allowed setup.activity m.0) setup.modules) (slots_enough (machine_at g setup.machine).slots setup.modules o.few)
     ∙ all_pass (λ m. module_fits g (machine_at g setup.machine).allowed setup.activity m.0) setup.modules
@@ -159,7 +159,7 @@ beacon_module_passes g beacon machine activity good free o =
     ap (λ kind. unless_refused kind good (module_fits g machine activity good)) free ∙ module_passes g machine activity good o
 
 group_modules_pass : (g : Game) (setup : Setup) (group : BeaconGroup) → IsBeaconOffered g setup group → group_modules_fit g setup group ≡ Ok tt
-unfolding (group_modules_fit, beacon_modules_fit)
+unfolding group_modules_fit beacon_modules_fit
 group_modules_pass g setup group o =
     ap (λ r. r ▸ λ _. first_fault (λ m. beacon_module_fits g (machine_at g group.beacon).allowed (machine_at g setup.machine).allowed setup.activity m.0) group.modules)
       (slots_enough (machine_at g group.beacon).slots group.modules o.few)

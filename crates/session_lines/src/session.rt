@@ -223,7 +223,8 @@ fn take_piece<K: Sink, L>(
 {
     let mut rest = piece;
     // Each line that ends takes a byte at least.
-    for _ in 0..piece.len() {
+    for turn in 0..piece.len() {
+        let _turn = turn;
         let Some(place) = newline_in(rest) else {
             break;
         };
@@ -283,7 +284,8 @@ fn serve_by<I: Read, K: Sink, L>(
     requires { (base : State) × IsSessionOf base planner.old }
     ensures { (base : State) × IsSessionOf base planner.new }
 {
-    for _ in 0..u64::MAX {
+    for turn in 0..u64::MAX {
+        let _turn = turn;
         let count = read_piece(input, buffer)?;
         if count == 0 {
             return Ok(());
