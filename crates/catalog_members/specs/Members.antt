@@ -1,6 +1,6 @@
 -- The members of a thing of a catalog. What isn't so has no member: neither what is absent, nor `false`, nor an empty list. Numbers
 -- are texts in lowest terms, things are texts `KIND:NAME`.
-use Rattle.std.specs.Prelude.{ℕ, ◌-◌, Bool, true, false, List, [], ◌∷◌, ◌++◌, Option, Some, None, codes, map, if◌then◌else◌}
+use Rattle.std.specs.Prelude.{ℕ, ◌-◌, ◌==◌, Bool, true, false, List, [], ◌∷◌, ◌++◌, Option, Some, None, codes, map, if◌then◌else◌}
 use Rattle.fractions.specs.Fraction.{Fraction}
 use Rattle.fractions.specs.Print.{printed}
 use Rattle.plan_base.specs.Shape.{first_of}
@@ -43,8 +43,7 @@ with_number key n ms = put key (number (unsigned n)) ms
 
 -- a number that counts only where it isn't 0
 abbrev pub with_count : List ℕ → ℕ → Members → Members
-with_count key 0 ms = ms
-with_count key (suc n) ms = put key (number (unsigned (suc n))) ms
+with_count key n ms = if n == 0 then ms else with_number key n ms
 
 abbrev pub with_true : List ℕ → Bool → Members → Members
 with_true key true ms = put key (boolean true) ms

@@ -26,7 +26,7 @@ pub fn put_items(
 ) -> Result<(), NoMemory>
     ensures { OnOk result (members_view members.new.entries ≡ with_items key.now (items_view items.items) (members_view members.old.entries)) }
 {
-    if items.is_empty() {
+    if items.as_slice().is_empty() {
         Ok(())
     } else {
         put(members, alloc, key, Value::Array(items))
@@ -41,7 +41,7 @@ fn id_value(alloc: Global, game: &Game, node: NodeId) -> Result<Value, NoMemory>
     Ok(Value::String(text))
 }
 
-#[tactic(auto, using(crate::proofs::Lists::none_written, crate::proofs::Lists::one_written, crate::proofs::Lists::all_written))]
+#[tactic(auto, using(crate::proofs::Listing::none_written, crate::proofs::Listing::one_written, crate::proofs::Listing::all_written))]
 fn id_values(alloc: Global, game: &Game, nodes: &[NodeId]) -> Result<Vec<Value>, NoMemory>
     requires { IsSound game.now }
     ensures { IfOk result (λ list. items_view list.items ≡ items_tree (id_value game.now) nodes.now) }
@@ -74,7 +74,7 @@ fn place_value(place: u32) -> Value
     Value::from(place)
 }
 
-#[tactic(auto, using(crate::proofs::Lists::none_written, crate::proofs::Lists::one_written, crate::proofs::Lists::all_written))]
+#[tactic(auto, using(crate::proofs::Listing::none_written, crate::proofs::Listing::one_written, crate::proofs::Listing::all_written))]
 fn place_values(alloc: Global, places: &[u32]) -> Result<Vec<Value>, NoMemory>
     ensures { IfOk result (λ list. items_view list.items ≡ items_tree place_value places.now) }
 {
@@ -104,7 +104,7 @@ fn word_value(alloc: Global, text: &Text) -> Result<Value, NoMemory>
     Ok(Value::try_from_str(alloc, text.as_str())?)
 }
 
-#[tactic(auto, using(crate::proofs::Lists::none_written, crate::proofs::Lists::one_written, crate::proofs::Lists::all_written))]
+#[tactic(auto, using(crate::proofs::Listing::none_written, crate::proofs::Listing::one_written, crate::proofs::Listing::all_written))]
 fn word_values(alloc: Global, texts: &[Text]) -> Result<Vec<Value>, NoMemory>
     ensures { IfOk result (λ list. items_view list.items ≡ items_tree word_value texts.now) }
 {

@@ -1,5 +1,5 @@
 use Rattle.catalog_members.specs.Members.{id_value}
-use Rattle.catalog_members.proofs.Lists.{WroteSoFar}
+use Rattle.catalog_members.proofs.Listing.{WroteSoFar}
 use Rattle.catalog_members.proofs.lists.id_values.Given as goal
 
 abbrev pub invariant-loop-node : goal.invariant-loop-node
