@@ -1,0 +1,120 @@
+"""What the page may ask of the server. Each answer is what one of the programs said; nothing is reckoned here."""
+import os
+import tempfile
+import time
+
+from faults import Refused
+from pictures import Pictures
+from programs import Programs
+from scripts import Scripts, version_of
+from session import Session, first_word
+
+MOST_QUESTIONS, MOST_SESSIONS = 2000, 3
+CALLS = ("open", "read", "version", "create", "run", "page", "certificate")
+
+
+class Bench:
+    """A dump, a folder of scripts, and a planner behind each of the scripts that are worked at."""
+
+    def __init__(self, dump, folder, first, programs, output, seconds):
+        self.dump = os.path.realpath(dump)
+        self.scripts, self.pictures = Scripts(folder, first), Pictures(output)
+        self.programs = Programs(programs, seconds)
+        self.sessions = {}
+
+    def stamp(self):
+        """What tells one dump from another at the same place."""
+        found = os.stat(self.dump)
+        return "%d-%d" % (found.st_size, found.st_mtime_ns)
+
+    def session(self, name):
+        """The planner of a script; the one that was asked longest ago ends where there are too many. One that reads an old dump ends, too."""
+        key = (name, self.stamp())
+        if key not in self.sessions:
+            self.sessions[key] = Session(self.programs.words("factoplan_session", self.dump), self.programs.limits)
+        self.sessions[key] = self.sessions.pop(key)
+        for old in [k for k in self.sessions if k[1] != key[1]] + list(self.sessions)[:-MOST_SESSIONS]:
+            if old in self.sessions:
+                ended = self.sessions.pop(old)
+                with ended.lock:
+                    ended.end()
+        return self.sessions[key]
+
+    def end(self):
+        for session in self.sessions.values():
+            session.end()
+
+    # ---- Calls of the page ----
+
+    def do_open(self, asked):
+        """All that a page begins with."""
+        return {**self.text(self.scripts.first), "files": self.scripts.names(), "dump": os.path.basename(self.dump), "stamp": self.stamp(),
+                "names": self.pictures.names(), "pictures": self.pictures.known(), "programs": self.programs.there()}
+
+    def text(self, name):
+        data = self.scripts.read(name)
+        return {"file": name, "script": data.decode("utf-8", "surrogateescape"), "version": version_of(data)}
+
+    def do_read(self, asked):
+        return {**self.text(plain(asked, "file")), "files": self.scripts.names()}
+
+    def do_version(self, asked):
+        """Whether script and dump are still those that the page knows."""
+        return {"version": version_of(self.scripts.read(plain(asked, "file"))), "stamp": self.stamp()}
+
+    def do_create(self, asked):
+        name, data = plain(asked, "file"), encoded(asked, "script")
+        return {"file": name, "version": self.scripts.create(name, data), "files": self.scripts.names()}
+
+    def do_run(self, asked):
+        """Saves the script where a version is given, and answers its lines and the questions behind it."""
+        name, data, questions = plain(asked, "file"), encoded(asked, "script"), asked.get("ask", [])
+        self.scripts.path(name)
+        if not isinstance(questions, list) or len(questions) > MOST_QUESTIONS or not all(isinstance(q, str) for q in questions):
+            raise Refused(400, "ask is no list of questions")
+        out = {}
+        if asked.get("version") is not None:
+            out["version"] = self.scripts.save(name, data, plain(asked, "version"))
+            if out["version"] is None:
+                return {"conflict": True, **self.text(name)}
+        lines = data.split(b"\n")
+        lines = lines[:-1] if lines[-1] == b"" else lines
+        replies, answers = self.session(name).answers(lines, [q.encode("utf-8", "surrogateescape") for q in questions])
+        answered = time.time() * 1000
+        said = {i + 1: text_of(reply) for i, reply in enumerate(replies) if reply and reply[0].split(b" ", 1)[1] not in (b"ok", b"held")}
+        return {**out, "at": answered, "replies": said, "answers": [text_of(answer) for answer in answers]}
+
+    def do_page(self, asked):
+        """The script's plans as one page."""
+        return self.programs.run("factoplan_page", [self.dump, "/dev/stdin"], encoded(asked, "script"))
+
+    def do_certificate(self, asked):
+        """The certificate of the plans of a script, that script, and the last line of what the checker says of both."""
+        script = encoded(asked, "script")
+        made = self.programs.run("factoplan", ["prove", self.dump, "/dev/stdin"], script)
+        if made["status"] > 1:
+            return made
+        with tempfile.NamedTemporaryFile(suffix=".json") as certificate:
+            certificate.write(made["text"].encode())
+            certificate.flush()
+            checked = self.programs.run("factoplan", ["check", self.dump, "/dev/stdin", "--cert", certificate.name], script)
+        return {**made, "script": plain(asked, "script"), "verdict": checked["text"].rstrip().split("\n")[-1]}
+
+
+def plain(asked, key):
+    """A text of a request."""
+    if not isinstance(asked.get(key), str):
+        raise Refused(400, key + " is no text")
+    return asked[key]
+
+
+def encoded(asked, key):
+    """A text of a request as the bytes that it was: a script that isn't UTF-8 goes back as it came."""
+    try:
+        return plain(asked, key).encode("utf-8", "surrogateescape")
+    except UnicodeEncodeError:
+        raise Refused(400, key + " is no text")
+
+
+def text_of(reply):
+    return b"\n".join(reply).decode("utf-8", "replace")
