@@ -10,7 +10,7 @@ from faults import Refused
 NAMES = ("factoplan", "factoplan_table", "factoplan_page", "factoplan_catalog", "factoplan_session")
 MOST_ANSWER = 64 << 20
 MOST_SAID = 20_000
-AT_ONCE, WAITING = 2, 16
+AT_ONCE, WAITING = 2, 8
 
 
 class Limits:

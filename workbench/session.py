@@ -17,6 +17,7 @@ from programs import MOST_ANSWER, surroundings, too_much
 
 MOST_LINES, MOST_BYTES = 100_000, 16 << 20      # of one session; it is started anew before that
 MOST_SCRIPT_LINES = 90_000
+MOST_REPLY = 1_000_000                          # lines of an answer
 CHUNK = 4096                                    # bytes that a pipe takes while nobody reads the answers
 END = b"."
 EDITS = {b"grant", b"revoke", b"forbid", b"permit", b"milestone", b"unmilestone", b"ingredient", b"product", b"unlock", b"time", b"enabled",
@@ -282,6 +283,8 @@ class Session:
             if line == END:
                 return out
             out.append(line)
+            if len(out) > MOST_REPLY:
+                raise Died(too_much("it", self.limits.seconds))
 
     def last_words(self):
         """What the program said of its end."""

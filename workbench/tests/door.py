@@ -1,0 +1,146 @@
+"""Requests of others: each must be refused, and what the page may ask is limited."""
+import os
+import socket
+import threading
+import time
+
+from common import DUMP, TOP, Bench, check, programs_that
+
+
+def address(programs):
+    """It listens on 127.0.0.1 alone."""
+    with Bench(programs) as bench:
+        reached = []
+        for other in ("127.0.0.2", socket.gethostbyname(socket.gethostname())):
+            if other == "127.0.0.1":
+                continue
+            with socket.socket() as it:
+                it.settimeout(2)
+                reached.append(it.connect_ex((other, bench.port)) == 0)
+        check("only 127.0.0.1 is listened on", reached and not any(reached), reached)
+
+
+def token(programs):
+    """A call without the token is refused, and so is a picture."""
+    with Bench(programs) as bench:
+        ours = bench.headers()
+        check("a request of the page itself", bench.ask("POST", "/api/version", b'{"file":"factory.txt"}', ours)[0] == 200)
+        for what, given in [("no token", None), ("another token", "x" * 32), ("the token and more", bench.token + "x"), ("an empty token", "")]:
+            check("no answer with " + what, bench.ask("POST", "/api/version", b"{}", bench.headers(X_Workbench_Token=given))[0] == 403)
+        check("the token isn't in what is given out", all(bench.token.encode() not in bench.ask("GET", p)[2] for p in ("/", "/app.js", "/calls.js")))
+        with Bench(programs) as other:
+            check("each run has a token of its own", other.token != bench.token and len(bench.token) >= 32)
+
+
+def host(programs):
+    """A name of others that leads to this address (DNS rebinding) is refused."""
+    with Bench(programs) as bench:
+        for name in ("evil.example:%d" % bench.port, "127.0.0.1", "127.0.0.1:1", "[::1]:%d" % bench.port, "127.0.0.1.evil.example:%d" % bench.port):
+            check("no answer to the name " + name.replace(str(bench.port), "PORT"), bench.ask("POST", "/api/version", b"{}", bench.headers(Host=name))[0] == 403)
+            check("no page to the name " + name.replace(str(bench.port), "PORT"), bench.ask("GET", "/", None, {"Host": name})[0] == 403)
+        check("no answer without a name", bench.ask("GET", "/", None, {"X": "y"})[0] in (400, 403))
+
+
+def origin(programs):
+    """A page of another site is refused."""
+    with Bench(programs) as bench:
+        for what, changes in [("another site", {"Origin": "http://evil.example"}), ("another port", {"Origin": "http://127.0.0.1:1"}), ("nobody", {"Origin": "null"}), ("no origin", {"Origin": None}),
+                              ("a site across", {"Sec_Fetch_Site": "cross-site"}), ("the same site", {"Sec_Fetch_Site": "same-site"})]:
+            check("no answer to a page of " + what, bench.ask("POST", "/api/version", b"{}", bench.headers(**changes))[0] == 403)
+        check("no page in another's", bench.ask("GET", "/", None, {"Host": bench.here, "Sec-Fetch-Site": "cross-site"})[0] == 403)
+        headers = bench.ask("GET", "/")[1]
+        check("no page may show it in a frame, and it loads nothing of others",
+              "default-src 'none'; script-src 'self'" in headers["Content-Security-Policy"] and "frame-ancestors 'none'" in headers["Content-Security-Policy"])
+        check("nobody guesses kinds", headers["X-Content-Type-Options"] == "nosniff" and headers["Referrer-Policy"] == "no-referrer")
+        check("no answer lets others read", "Access-Control-Allow-Origin" not in headers and bench.ask("OPTIONS", "/api/run", None, bench.headers())[0] == 501)
+
+
+def kinds(programs):
+    """Only JSON is taken: a form of another page can't send it without asking first."""
+    with Bench(programs) as bench:
+        for kind in ("application/x-www-form-urlencoded", "text/plain", "multipart/form-data", "application/json; charset=x", None):
+            check("no answer to %s" % kind, bench.ask("POST", "/api/version", b'{"file":"factory.txt"}', bench.headers(Content_Type=kind))[0] == 415)
+        check("no answer to what is no JSON", bench.ask("POST", "/api/version", b"{", bench.headers())[0] == 400)
+        check("no answer to a list", bench.ask("POST", "/api/version", b"[]", bench.headers())[0] == 400)
+        check("no answer to very deep JSON", bench.ask("POST", "/api/version", b"[" * 200000, bench.headers())[0] == 400)
+        check("no answer to lines of no length", bench.ask("POST", "/api/version", b"", bench.headers(Transfer_Encoding="chunked", Content_Length="0"))[0] == 415)
+
+
+def paths(programs):
+    """No path comes from the page."""
+    with Bench(programs, text=b"table t\n") as bench, open(os.path.join(bench.folder, "secret.json"), "w") as secret:
+        secret.write("{}")
+        os.symlink(DUMP, os.path.join(bench.folder, "link.txt"))
+        os.mkdir(os.path.join(bench.folder, "folder.txt"))
+        for path in ("/../workbench.py", "/workbench.py", "/page/app.js", "/..%2fworkbench.py", "//etc/passwd", "/picture/x/item/a", "/picture/%s/item/..%%2f..%%2fetc" % bench.token, "/picture/%s/../item/a" % bench.token,
+                     "/api/version", "/app.js/../../server.py"):
+            check("nothing at " + path.replace(bench.token, "TOKEN"), bench.ask("GET", path)[0] == 404)
+        for name in ("../x.txt", "/etc/passwd", "a/b.txt", "..", ".x.txt", "secret.json", "link.txt", "folder.txt", "x\0.txt", "x\n.txt", "a" * 101 + ".txt", ""):
+            for call in ("read", "run", "create", "version"):
+                status, reply = bench.call(call, file=name, script="", version="", ask=[])
+                check("no %s of a file %r" % (call, name[:20]), status in (400, 404), (status, reply))
+        check("and nothing was written", sorted(os.listdir(bench.folder)) == ["factory.txt", "folder.txt", "link.txt", "secret.json"], os.listdir(bench.folder))
+        for call in ("do_run", "end", "session", "__init__", "text", "nothing"):
+            check("no call of %s" % call, bench.ask("POST", "/api/" + call, b"{}", bench.headers())[0] == 404)
+        for question in ("grant item:coal", "undo", "table u", "?state\nundo", " undo", "quiet on", "batch", "", "?nothing", "\"undo\""):
+            check("%r is no question" % question, bench.run("table t\n", [question])[0] == 400)
+
+
+def time_limit(programs):
+    """What takes too long is ended."""
+    with programs_that("exec sleep 60", "exec sleep 60") as slow, Bench(slow, more=["--seconds", "1"]) as bench:
+        begun = time.time()
+        status, reply = bench.run("table t\n")
+        check("a planner that falls silent is ended", status == 502 and "1 seconds" in reply["error"] and time.time() - begun < 20, reply)
+        check("a program that takes too long is ended", bench.call("page", script="")[0] == 504)
+        check("and none of them is left", not bench.children(), bench.children())
+
+
+def size_limit(programs):
+    """What is too much is refused, or ended."""
+    with programs_that("exec yes", "exec yes") as endless, Bench(endless) as bench:
+        check("a planner that says too much is ended", bench.run("table t\n")[0] == 502)
+        check("a program that writes too much is ended", bench.call("page", script="")[0] == 504)
+        check("and none of them is left", not bench.children(), bench.children())
+    with Bench(programs) as bench:
+        check("a script of over 16 MB is refused", bench.call("run", file="factory.txt", script="#" * (16 << 20) + "#", version=bench.call("version", file="factory.txt")[1]["version"], ask=[])[0] == 413)
+        check("a request of over 48 MB isn't read", bench.ask("POST", "/api/run", None, bench.headers(Content_Length=str(1 << 30)))[0] == 413)
+        check("more than 2,000 questions are refused", bench.run("", ["summary"] * 2001)[0] == 400)
+        check("more than 90,000 lines are refused", bench.run("#\n" * 90001)[0] == 413)
+        check("and nothing was written", bench.saved() == b"")
+
+
+def number_limit(programs):
+    """Only so many runs at once, and only so many connections."""
+    with programs_that("exec sleep 60", "exec sleep 1") as slow, Bench(slow, more=["--seconds", "20"]) as bench:
+        statuses = []
+        threads = [threading.Thread(target=lambda: statuses.append(bench.call("page", script="")[0])) for _ in range(30)]
+        for it in threads:
+            it.start()
+        time.sleep(0.6)
+        at_once = len(bench.children())
+        for it in threads:
+            it.join()
+        check("two programs at once", at_once == 2, at_once)
+        check("ten in all, and the others are told to come again", statuses.count(503) == 20 and statuses.count(200) == 10, statuses)
+    with Bench(programs) as bench:
+        held = [socket.create_connection(("127.0.0.1", bench.port)) for _ in range(70)]
+        time.sleep(0.3)
+        check("not more than 64 connections", bench.ask("GET", "/", seconds=5)[0] == 0)
+        for it in held:
+            it.close()
+        time.sleep(0.5)
+        check("and those that end make room", bench.ask("GET", "/", seconds=5)[0] == 200)
+
+
+def ends(programs):
+    """How it ends where it can't start."""
+    import subprocess
+    import sys
+    start = [sys.executable, os.path.join(TOP, "workbench", "workbench.py")]
+    for words, status in [([], 2), ([DUMP, "--nothing"], 2), (["/nowhere.json", "x.txt", "--programs", programs], 4), ([DUMP, "/nowhere/x.txt", "--programs", programs], 4), ([DUMP, "x.txt", "--programs", "/nowhere"], 4)]:
+        done = subprocess.run([*start, *words], stdout=subprocess.PIPE, stderr=subprocess.PIPE, stdin=subprocess.DEVNULL, universal_newlines=True, cwd="/tmp", timeout=20)
+        check("status %d of %s" % (status, words[-1:]), done.returncode == status and done.stderr.strip() and "Traceback" not in done.stderr, done)
+
+
+PARTS = [address, token, host, origin, kinds, paths, time_limit, size_limit, number_limit, ends]
