@@ -42,7 +42,7 @@ function tabsView() {
 
 // Another tab or an editor was first: one of three ways, and no text is lost.
 const conflictView = () => h('div.conflict', { key: 'conflict', role: 'alertdialog', 'aria-label': 'The script was changed elsewhere' }, h('b', null, '⚠ The script was changed elsewhere,'), ' in another tab or editor. Yours isn’t saved yet. The one that you don’t take stays behind Undo.',
-  h('span.acts', null, h('button.main', { type: 'button', id: 'take-theirs', onclick: () => settle('theirs') }, 'Take theirs'), h('button.quiet', { type: 'button', id: 'keep-mine', onclick: () => settle('mine') }, 'Keep mine'), h('button.quiet', { type: 'button', id: 'keep-both', onclick: () => settleBeside().catch(fault => toast(fault.message, { bad: true })) }, 'Keep both: mine as a script of its own')));
+  h('span.acts', null, h('button.main', { type: 'button', id: 'take-theirs', onclick: () => { settleTyping(); settle('theirs'); } }, 'Take theirs'), h('button.quiet', { type: 'button', id: 'keep-mine', onclick: () => { settleTyping(); settle('mine'); } }, 'Keep mine'), h('button.quiet', { type: 'button', id: 'keep-both', onclick: () => { settleTyping(); settleBeside().catch(fault => toast(fault.message, { bad: true })); } }, 'Keep both: mine as a script of its own')));
 
 // ---- Drawing ----
 

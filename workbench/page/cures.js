@@ -107,7 +107,7 @@ export function curesOfLine(n) {
   if (code === 'X1' || code === 'Q5') {
     const missing = details[0] || words.find(w => /^\w+:/.test(w) && !game.at.has(w)) || '';
     const i = words.indexOf(missing);
-    if (i > 0) cures.push(...nearest(missing, [...game.at.keys()]).map(id => cure(id, `${nameOf(id)} instead`, () => to(words.map((w, k) => k === i ? id : w)))));
+    if (i > 0) cures.push(...nearest(missing, [...game.at.keys()]).map(id => cure(id, `${nameOf(id)}${kindOf(id) === kindOf(missing) ? '' : `, the ${kindOf(id)},`} instead`, () => to(words.map((w, k) => k === i ? id : w)))));
   }
   if (code === 'Q1') cures.push(...nearest(words[0] || '', COMMANDS).map(c => cure(null, `Write ${c}`, () => to([c, ...words.slice(1)]))));
   if (code === 'P1' && details[0] === words[1]) {
@@ -128,8 +128,9 @@ function before(n, text) {
 function nearest(text, all) {
   if (!text || text.length > 100) return [];
   const most = Math.max(2, Math.floor(rawOf(text).length / 3)), kind = kindOf(text);
-  return all.filter(x => Math.abs(x.length - text.length) <= most + 8).map(x => [distance(rawOf(text), rawOf(x), most) + (kindOf(x) === kind ? 0 : 1), x]).filter(([d]) => d <= most)
-    .sort((a, b) => a[0] - b[0]).slice(0, 3).map(([, x]) => x);
+  const near = all.filter(x => Math.abs(rawOf(x).length - rawOf(text).length) <= most).map(x => [distance(rawOf(text), rawOf(x), most), x]).filter(([d]) => d <= most).sort((a, b) => a[0] - b[0]).map(([, x]) => x);
+  const same = near.filter(x => kindOf(x) === kind);
+  return (same.length ? same : near).slice(0, 3);
 }
 function distance(a, b, most) {
   if (Math.abs(a.length - b.length) > most) return most + 1;

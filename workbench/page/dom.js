@@ -100,7 +100,7 @@ function replace(made, old, svg) {
 function set(el, k, x, before, svg) {
   if (k === 'key' || k === 'drawn') return;
   const none = x === undefined || x === null || x === false;
-  if (k.startsWith('on')) el[k] = none ? null : x;
+  if (k.startsWith('on')) el[k] = none ? null : e => { x(e); };        // (what it gives back would say whether the event goes on)
   else if (k === 'style') for (const [p, value] of Object.entries(x || {})) { if (value !== before?.[p]) el.style.setProperty(p, value); }
   else if (k === 'value') {
     // (what is half typed stays)

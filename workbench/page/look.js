@@ -85,14 +85,15 @@ export const percent = text => { const x = Frac.of(text)?.times(100); return x ?
 export const flowText = (id, x) => !x ? 'wide' : id === 'special:electricity' ? watts(x).join(' ') : `${x.times(look.per).text} ${PER[look.per]}`;
 export const flow = (id, x) => id === 'special:electricity' ? power(x) : [rate(x), h('small.dim', null, ' ' + PER[look.per])];
 
+const small = x => x.number < 0.005 ? '<0.01' : x.fixed(x.number < 10 ? 2 : x.number < 100 ? 1 : 0);
 /** How many belts carry a flow of an item, and how many stacks it fills in the unit of time that is chosen; in words, or '' for what is no
     item. */
 export function carried(id, x) {
-  const it = get(id), out = [];
+  const it = get(id), out = [], counted = (n, name) => `${small(n)} ${name}${small(n) === '1' ? '' : 's'}`;
   if (kindOf(id) !== 'item' || !x?.n) return '';
   const belt = look.belt && get(look.belt).belt;
-  if (belt) { const belts = x.over(Frac.of(belt)); out.push(`${belts.text} ${belts.text === '1' ? 'belt' : 'belts'}`); }
-  if (it.stack && it.stack !== '0') { const stacks = x.times(look.per).over(Frac.of(it.stack)); out.push(`${stacks.text} ${stacks.text === '1' ? 'stack' : 'stacks'} ${PER[look.per]}`); }
+  if (belt) out.push(counted(x.over(Frac.of(belt)), 'belt'));
+  if (it.stack && it.stack !== '0') out.push(`${counted(x.times(look.per).over(Frac.of(it.stack)), 'stack')} ${PER[look.per]}`);
   return out.join(' · ');
 }
 

@@ -18,7 +18,7 @@ export function settleTyping() {
   const area = document.querySelector('.paper textarea');
   clearTimeout(typing);
   typing = null;
-  if (area && !S.conflict && area.value !== S.script) become(area.value);
+  if (area && area.value !== S.script) become(area.value);
 }
 
 export function scriptView() {

@@ -95,11 +95,9 @@ export function edit(text, { label, done, key, wide = false, per = 1 }) {
   const exact = Frac.of(text), shown = exact ? exact.times(per).text.replace(/\u2009/g, '').replace('−', '-') : text;
   const finish = e => {
     const it = e.target;
-    if (it.value === shown) return;
-    const x = Frac.of(it.value.trim());
-    const bad = !x || x.n < 0n;
+    const x = Frac.of(it.value.trim()), bad = !x || x.n < 0n;
     it.setAttribute('aria-invalid', String(bad));
-    if (!bad) done(x.over(per));
+    if (!bad && it.value !== shown) done(x.over(per));
   };
   return h('input.edit' + (wide ? '.broad' : '') + (text === '0' ? '.zero' : ''), { key, value: shown, title: exact ? `exactly ${exact.times(per)}` : '', inputMode: 'decimal', 'aria-label': label,
     'data-key': key, autocomplete: 'off', onchange: finish, onfocus: e => e.target.select(),

@@ -92,7 +92,7 @@ export function run(save = true) {
 }
 
 async function once(save) {
-  if (S.conflict) return;
+  if (S.conflict) return;                     // nothing is written before the player has chosen
   const text = S.script;
   S.model = modelOf(text, inForce(text, new Set(S.refused.keys())));
   S.busy = true;

@@ -162,9 +162,9 @@ class Browser:
 
     def unreached(self):
         """How many controls are seen, and those that the Tab key doesn't come to."""
-        self.js("""window.tabbed = new Set(); document.activeElement.blur(); window.scrollTo(0, 0);
-          document.addEventListener('focusin', e => window.tabbed.add(e.target));""")
-        wanted = """[...document.querySelectorAll('button, input, select, textarea, summary, [role=button]')].filter(e => !e.disabled && e.getBoundingClientRect().width && getComputedStyle(e).visibility !== 'hidden')"""
+        self.js("""window.tabbed = new Set(); 
+          document.addEventListener('focusin', e => window.tabbed.add(e.target)); document.querySelector('header button').focus();""")
+        wanted = """[...document.querySelectorAll('button, input, select, textarea, summary, [role=button]')].filter(e => !e.disabled && e.checkVisibility({ visibilityProperty: true }))"""
         count = self.js("return %s.length" % wanted)
         for _ in range(0, count + 20, 20):
             webdriver.ActionChains(self.it).send_keys(*[Keys.TAB] * 20).perform()

@@ -1,0 +1,304 @@
+"""The way of a player through the workbench: a wish, a plan, changes, refusals and cures, what if, reload, conflict; and how all of it looks."""
+import json
+import os
+import tempfile
+import time
+
+from selenium.webdriver.common.keys import Keys
+
+from common import DUMP, Bench, check, until
+
+SIZES = [(1280, 900), (600, 900), (320, 700)]
+
+
+def stacked_dump(folder):
+    """The example's dump, whose items don't tell how many are a stack, with stacks as the game has them."""
+    with open(DUMP) as file:
+        dump = json.load(file)
+    for name, item in dump["item"].items():
+        item["stack_size"] = 50 if name.endswith("-ore") or name in ("coal", "stone") else 200 if "circuit" in name or "cable" in name else 100
+    path = os.path.join(folder, "data-raw-dump.json")
+    with open(path, "w") as file:
+        json.dump(dump, file)
+    return path
+
+
+def machines(b):
+    return b.text(".kpi").split("\n")[0]
+
+
+def proved(b):
+    return "nothing is cheaper" in b.text(".proof")
+
+
+def looked_at(b, name):
+    """Contrast, names and signs of what is shown, in both themes and at three widths."""
+    for theme in ("light", "dark"):
+        for width, height in SIZES:
+            b.size(width, height, theme)
+            what = "%s, %s, %d pixels" % (name, theme, width)
+            seen, faint = b.contrast()
+            check("%s: %d texts stand out 4.5 times" % (what, seen), seen > 10 and not faint, faint)
+            check("%s: nothing is wider than the window" % what, b.overflow() <= 0, b.overflow())
+    b.size(*SIZES[0], "light")
+    count, nameless = b.nameless()
+    check("%s: %d controls have a name" % (name, count), count > 10 and not nameless, nameless)
+    check("%s: nothing is told by colour alone" % name, not b.told_by_colour(), b.told_by_colour())
+
+
+def wish(b, bench):
+    b.it.get(bench.url)
+    b.settle()
+    check("it begins with a wish", "What do you wish for?" in b.text("main"))
+    check("the token isn't in the address", "#" not in b.it.current_url and bench.token not in b.it.current_url)
+    b.write(".amount", "300")
+    b.click("#good")
+    b.one(".picker input").send_keys("circuit")
+    b.shot("workbench-wish")
+    b.one(".picker input").send_keys(Keys.ESCAPE)
+    check("Escape closes the list, and the focus goes back", not b.find(".picker") and b.focus() == "good", b.focus())
+    b.click("#good")
+    b.pick("electronic circ")
+    b.click("#make")
+    check("the wish is a table with a plan", machines(b) == "25" and proved(b), b.text("main"))
+    check("it is saved at once", b"want electronic-circuit item:electronic-circuit 5" in bench.saved(), bench.saved())
+    check("the flow chart stands below", len(b.find("svg .card")) == 7 and "900" in b.text("svg .hub"), b.text("svg"))
+    check("exact numbers on hover", "exactly 15/2" in b.it.page_source or "15/2 /s" in b.it.page_source)
+    check("belts and stacks beside each flow", "belt" in b.text(".side") and "stack" in b.text(".side") and "belt" in b.text("svg .hub"), b.text(".side"))
+    b.shot("workbench-plan")
+
+
+def changes(b, bench):
+    before = bench.saved()
+    b.click('[data-key="by electronic-circuit"]')
+    check("only machines that fit are offered", b.text(".picker").count("Assembling machine") == 3 and "furnace" not in b.text(".picker"), b.text(".picker"))
+    b.click(".option", "Assembling machine 1")
+    check("another machine, another plan", machines(b) == "28", machines(b))
+    check("the focus is where it was", b.focus() == "by electronic-circuit", b.focus())
+    check("its line is changed in its place", b"recipe:electronic-circuit by machine:assembling-machine-1" in bench.saved() and bench.saved().count(b"\n") == before.count(b"\n"), bench.saved())
+    b.chord(Keys.CONTROL, "z")
+    check("undo", machines(b) == "25" and bench.saved() == before)
+    b.it.refresh()
+    b.settle()
+    check("after a reload all is as it was", machines(b) == "25" and bench.saved() == before)
+    b.click("#redo")
+    check("and what was undone can be done again", machines(b) == "28", machines(b))
+    b.click("#undo")
+    b.click('[data-key="slot0 iron-plate"]')
+    b.pick("productivity module 3")
+    check("modules fill the slots", b"module item:productivity-module-3 2" in bench.saved(), bench.saved())
+    b.click('[data-key="beacon iron-plate"]')
+    check("a form of beacons", b.focus() == "count", b.focus())
+    b.click(".picker .main")
+    check("beacons", b"beacon machine:beacon 8 4 in" in bench.saved() and "Beacon" in b.text('[aria-label="To build"]'), bench.saved())
+    b.click(".seg button", "/s")
+    check("per second", "Crafts /s" in b.text("th"))
+    b.click(".seg button", "/min")
+
+
+def cures(b, bench):
+    b.click('[aria-label="Iron ore no longer comes in"]')
+    check("no plan is told in words", "Iron ore is needed and comes from nowhere" in b.text(".verdict"), b.text(".verdict"))
+    b.shot("workbench-cure")
+    b.click(".tip", "Bring in")
+    check("and one click mends it", proved(b), b.text(".verdict"))
+    b.click('[data-key="addwant"]')
+    b.pick("iron gear")
+    b.click(".tip", "Make Iron gear wheel")
+    check("one more good of the table", b"row electronic-circuit iron-gear-wheel recipe:iron-gear-wheel" in bench.saved() and proved(b), b.text(".verdict"))
+    b.write('[data-key="want item:iron-gear-wheel"]', "150", Keys.ENTER)
+    check("so much of it, exactly", b"want electronic-circuit item:iron-gear-wheel 5/2" in bench.saved(), bench.saved())
+    b.write('[data-key="want item:iron-gear-wheel"]', "x", Keys.ENTER)
+    check("what is no number is told, and not written", b.one('[data-key="want item:iron-gear-wheel"]').get_attribute("aria-invalid") == "true" and b"5/2" in bench.saved())
+    b.write('[data-key="want item:iron-gear-wheel"]', "150", Keys.ENTER)
+    folder = b.downloads
+    b.click('[data-key="proof"]')
+    found = lambda: [n for n in os.listdir(folder) if n.endswith(".certificate.json")]
+    check("the mark of the proof gives the certificate", until(lambda: found(), 20), os.listdir(folder))
+    if found():
+        with open(os.path.join(folder, found()[0])) as file:
+            check("and it has the plan", any("plan" in a for a in json.load(file)["answers"]))
+        check("and the checker's word", "proved" in b.text("#toasts"), b.text("#toasts"))
+
+
+def exploring(b, bench):
+    b.keys("/")
+    b.pick("advanced circuit")
+    check("a card", "Advanced circuit" in b.text("aside h2"), b.text("aside"))
+    b.click("aside .quiet", "Show the steps")
+    check("a way to it", until(lambda: len(b.find(".why li")) > 20), b.text(".why"))
+    b.shot("workbench-card")
+    b.click('[data-route="explore"]')
+    b.write('[data-key="explore"]', "circ")
+    check("the explorer finds while one types", "Electronic circuit" in b.text(".tiles") and "Iron ore" not in b.text(".tiles"), b.text(".tiles"))
+    looked_at(b, "explorer and card")
+    b.click('[data-route="what"]')
+    b.click("#packs")
+    check("milestones", bench.saved().count(b"\nmilestone item:") == 7, bench.saved())
+    check("what it hangs on", until(lambda: "Automation science pack" in b.text("aside .facts")), b.text("aside .facts"))
+    b.click('[data-key="add forbid"]')
+    b.pick("crude oil")
+    check("what is forbidden is lost", "Out of reach" in b.text("main") and "never" in b.text("aside .facts"), b.text("main"))
+    b.shot("workbench-whatif")
+    looked_at(b, "what if")
+    b.click("#undo")
+    check("and comes back", "Out of reach" not in b.text("main"))
+    b.keys(Keys.ESCAPE)
+    check("Escape closes the card", not b.find("aside"))
+
+
+def refusals(b, bench):
+    b.click("#script")
+    area = b.one("textarea")
+    area.send_keys(Keys.CONTROL, Keys.END)
+    area.send_keys("row electronic-circuit x recipe:plastic-bar by machine:lab\nmilestone item:automation-science-pakc\n")
+    time.sleep(0.5)
+    b.settle()
+    check("a refused line is marked where it stands", "this machine doesn’t do that" in b.text(".marks") and b.text("#script").strip().endswith("2"), b.text(".marks"))
+    check("and what one types stays", area.get_attribute("value").endswith("science-pakc\n"))
+    b.shot("workbench-script")
+    looked_at(b, "script with refused lines")
+    b.click(".problem .tip", "By Chemical plant")
+    check("one click mends it", b"x recipe:plastic-bar by machine:chemical-plant" in bench.saved() and "milestone" not in b.text(".problem .why"), bench.saved())
+    b.click(".problem .tip", "Automation science pack instead")
+    check("a name that is nearly right is found", b"item:automation-science-pakc" not in bench.saved(), bench.saved())
+    b.click(".problem .tip", "Drop the line")
+    check("and what is left is dropped", not b.find(".problem"), b.text(".problem"))
+    b.click("#undo")
+    b.click("#undo")
+    b.click("#undo")
+    b.click("#undo")
+    check("no refused line is left", not b.find(".problem"), b.text(".problem"))
+
+
+def conflict(b, bench):
+    area = b.one("textarea")
+    with open(bench.script, "ab") as file:
+        file.write(b"# another editor\n")
+    area.send_keys(Keys.CONTROL, Keys.END)
+    area.send_keys("# mine\n")
+    check("who comes second is told", until(lambda: b.find(".conflict")), b.text("body"))
+    check("and nothing is overwritten", b"# another editor" in bench.saved() and b"# mine" not in bench.saved(), bench.saved())
+    check("nor what one typed", area.get_attribute("value").endswith("# mine\n"), area.get_attribute("value"))
+    area.send_keys("# more of mine\n")
+    time.sleep(0.5)
+    looked_at(b, "conflict")
+    b.click("#keep-both")
+    names = sorted(os.listdir(bench.folder))
+    with open(os.path.join(bench.folder, "factory (mine).txt")) as file:
+        mine = file.read()
+    check("both texts are kept", names == ["factory (mine).txt", "factory.txt"] and mine.endswith("# mine\n# more of mine\n") and b"# another editor" in bench.saved(), (names, mine))
+    check("theirs is shown", b.one("textarea").get_attribute("value").endswith("# another editor\n"))
+    b.click("#undo")
+    check("and mine is behind Undo", bench.saved().endswith(b"# more of mine\n"), bench.saved())
+    b.click("#redo")
+    with open(bench.script, "ab") as file:
+        file.write(b"# the editor again\n")
+    b.js("window.dispatchEvent(new Event('focus'))")
+    check("what an editor wrote is read when the window is looked at", until(lambda: "# the editor again" in b.one("textarea").get_attribute("value")), b.text("#toasts"))
+    b.settle()
+    # Two tabs.
+    first = b.it.current_window_handle
+    token = b.js("return sessionStorage.getItem('token')")
+    b.it.switch_to.new_window("tab")
+    b.size(1280, 900)
+    b.it.get("http://%s/#%s" % (bench.here, token))
+    b.settle()
+    b.click('[data-route="what"]')
+    b.click('[data-key="add grant"]')
+    b.pick("stone furnace")
+    check("a second tab saves", b"grant item:stone-furnace" in bench.saved(), bench.saved())
+    b.it.close()
+    b.it.switch_to.window(first)
+    b.one("textarea").send_keys(Keys.CONTROL, Keys.END)
+    b.one("textarea").send_keys("# the first tab\n")
+    time.sleep(0.6)
+    b.settle()
+    check("both are there then", b"# the first tab" in bench.saved() and b"grant item:stone-furnace" in bench.saved(), bench.saved())
+    b.click("#undo")
+    b.click("#undo")
+    check("each by itself behind Undo", b"grant item:stone-furnace" not in bench.saved(), bench.saved())
+
+
+def several(b, bench):
+    b.click('[data-key="new"]')
+    b.one('[data-key="new name"]').send_keys("second")
+    b.click(".picker .main")
+    check("a second script of the folder", os.path.exists(os.path.join(bench.folder, "second.txt")) and b.one("textarea").get_attribute("value") == "", os.listdir(bench.folder))
+    check("and the way back", "factory.txt" in b.text(".files"))
+    b.js("const s = document.querySelector('.files'); s.value = 'factory.txt'; s.dispatchEvent(new Event('change'))")
+    check("where all is as it was", until(lambda: "electronic-circuit" in b.one("textarea").get_attribute("value")))
+    b.settle()
+    b.click(".script .quiet", "Save as page")
+    found = lambda: [n for n in os.listdir(b.downloads) if n.endswith(".html")]
+    check("a page as one file", until(found, 20), os.listdir(b.downloads))
+    if found():
+        with open(os.path.join(b.downloads, found()[0])) as file:
+            text = file.read()
+        check("with the plan, and no request", "electronic-circuit" in text and "default-src" in text, text[:300])
+    b.keys(Keys.ESCAPE)
+
+
+def by_keys(b, bench):
+    """A wish without the mouse."""
+    b.js("document.activeElement.blur()")
+    b.keys("w")
+    time.sleep(0.2)
+    check("a key leads to the wish", b.focus() == "good", b.focus())
+    b.keys(Keys.ENTER)
+    b.keys(*"copper cable")
+    b.keys(Keys.ENTER)
+    check("the focus comes back from the list", b.focus() == "good", b.focus())
+    b.keys(Keys.TAB)
+    check("the next is the button", b.focus() == "make", b.focus())
+    b.keys(Keys.ENTER)
+    check("a plan without the mouse", "copper-cable" in b.text(".tab.now") or proved(b), b.text("main"))
+    looked_at(b, "table")
+    count, missed = b.unreached()
+    check("the Tab key comes to all %d controls" % count, count > 40 and not missed, missed)
+    b.js("document.querySelector('svg .card').focus()")
+    b.keys(Keys.ENTER)
+    check("a card of the chart opens by Enter", len(b.find("aside .card")) == 1)
+    b.keys(Keys.ESCAPE)
+    b.js("document.activeElement.blur()")
+    b.keys("e")
+    check("a key opens the script", len(b.find("textarea")) == 1)
+    b.keys("e")
+
+
+def dark(b, bench):
+    b.click('[data-route="table:electronic-circuit"]')
+    b.size(1280, 900, "dark")
+    b.shot("workbench-dark")
+    b.size(320, 700, "light")
+    b.shot("workbench-narrow")
+    b.size(1280, 900)
+
+
+def science(b, bench):
+    b.click('[data-route="wish"]')
+    b.write(".amount", "45")
+    looked_at(b, "wish")
+    b.click("#science")
+    check("all of science in one table", "science" in b.text(".tab.now") and b.text(".verdict").count("machines") == 1, b.text("main")[:600])
+    b.shot("workbench-science")
+
+
+WAY = [wish, changes, cures, exploring, refusals, conflict, several, by_keys, dark, science]
+
+
+def way(programs, make):
+    """All of it in one window, one after another."""
+    with tempfile.TemporaryDirectory() as room, Bench(programs, dump=stacked_dump(room), more=["--seconds", "60"]) as bench:
+        b = make()
+        try:
+            for part in WAY:
+                try:
+                    part(b, bench)
+                except Exception as fault:              # the parts behind it are still tried
+                    check("%s goes through" % part.__name__, False, "%s: %s" % (type(fault).__name__, str(fault)[:300]))
+                    b.shot("fault-" + part.__name__)
+            faults = [f for f in b.faults() if "favicon" not in f]
+            check("no complaints of the browser", not faults, faults)
+        finally:
+            b.it.quit()
