@@ -10,7 +10,10 @@ from scripts import Scripts, version_of
 from session import Session, first_word
 
 MOST_QUESTIONS, MOST_SESSIONS = 2000, 3
-CALLS = ("open", "read", "version", "create", "run", "page", "certificate")
+CALLS = ("open", "read", "version", "create", "run", "wish", "page", "certificate")
+# The options of a wish that the page may name, and how many words stand behind each: none of them names a file.
+OPTIONS = {"--table": 1, "--by": 1, "--module": 1, "--beacon": 4, "--fuel": 1, "--import": 1, "--without": 1, "--only": 1, "--rows": 1, "--cheapest": 1,
+           "--rows-for": 1, "--into": 1, "--dig": 0, "--power": 0}
 
 
 class Bench:
@@ -77,12 +80,28 @@ class Bench:
             out["version"] = self.scripts.save(name, data, plain(asked, "version"))
             if out["version"] is None:
                 return {"conflict": True, **self.text(name)}
-        lines = data.split(b"\n")
-        lines = lines[:-1] if lines[-1] == b"" else lines
-        replies, answers = self.session(name).answers(lines, [q.encode("utf-8", "surrogateescape") for q in questions])
+        replies, answers = self.session(name).answers(lines_of(data), [q.encode("utf-8", "surrogateescape") for q in questions])
         answered = time.time() * 1000
         said = {i + 1: text_of(reply) for i, reply in enumerate(replies) if reply and reply[0].split(b" ", 1)[1] not in (b"ok", b"held")}
         return {**out, "at": answered, "replies": said, "answers": [text_of(answer) for answer in answers]}
+
+    def do_wish(self, asked):
+        """The lines of a table for a wish: those that the planner finds behind the script, or where it finds none by itself those that
+        factoplan_table prints behind the lines of `state`, which are in force."""
+        words = asked.get("words")
+        if not isinstance(words, list) or len(words) > 400 or not all(isinstance(w, str) and "\0" not in w and len(w) < 20000 for w in words):
+            raise Refused(400, "words is no list of words")
+        check_wish(words)
+        name, lines = plain(asked, "file"), lines_of(encoded(asked, "script"))
+        self.scripts.path(name)
+        _, [answer] = self.session(name).answers(lines, [b" ".join([b"?wish", *(quoted(w) for w in words)])])
+        if answer and not answer[0].startswith((b"? wish refused", b"? refused Q1", b"? refused Q2")):
+            return {"lines": [line[2:] for line in map(decoded, answer[1:])]}
+        state = encoded(asked, "state")
+        made = self.programs.run("factoplan_table", [self.dump, *words, "--script", "/dev/stdin"], state)
+        if made["status"]:
+            return {"said": made["said"] or made["text"], "status": made["status"]}
+        return {"lines": made["text"].rstrip("\n").split("\n")[len(lines_of(state)):]}
 
     def do_page(self, asked):
         """The script's plans as one page."""
@@ -116,5 +135,32 @@ def encoded(asked, key):
         raise Refused(400, key + " is no text")
 
 
+def lines_of(data):
+    """The lines of a script; a last one without a newline counts."""
+    lines = data.split(b"\n")
+    return lines[:-1] if lines[-1] == b"" else lines
+
+
+def check_wish(words):
+    """A wish is goods and rates, and options that are known."""
+    i = 0
+    while i < len(words):
+        if words[i].startswith("-"):
+            if words[i] not in OPTIONS or len(words) <= i + OPTIONS[words[i]] or any(w.startswith("-") for w in words[i + 1:i + 1 + OPTIONS[words[i]]]):
+                raise Refused(400, "a wish has no such option")
+            i += OPTIONS[words[i]]
+        i += 1
+
+
+def quoted(word):
+    """A word as a line has it."""
+    escapes = {"\\": "\\\\", '"': '\\"', "\n": "\\n", "\t": "\\t", "\r": "\\r"}
+    return ('"%s"' % "".join(escapes.get(c, c) for c in word)).encode("utf-8", "surrogateescape")
+
+
+def decoded(line):
+    return line.decode("utf-8", "replace")
+
+
 def text_of(reply):
-    return b"\n".join(reply).decode("utf-8", "replace")
+    return decoded(b"\n".join(reply))

@@ -35,7 +35,7 @@ function curesOfInfeasible(table, plan) {
   const way = g => [...(get(g).made || []), ...(get(g).by?.length ? [g] : [])].find(x => isReached(x) && get(x).by?.length && !table.rows.some(r => r.does === x));
   const make = g => {
     const row = way(g) && newRow(table, way(g));
-    return row ? [cure(g, `Make ${nameOf(g)}`, () => addTo(table, rowLine(table.name, row)))] : [];
+    return row ? [cure(g, `${kindOf(row.does) === 'source' ? 'Mine' : 'Make'} ${nameOf(g)}`, () => addTo(table, rowLine(table.name, row)))] : [];
   };
   const bringIn = g => cure(g, `Bring in ${nameOf(g)}`, () => addTo(table, line('import', table.name, g, '1')));
   const letOut = g => cure(g, `Let out ${nameOf(g)}`, () => addTo(table, line('surplus', table.name, g, '0')));

@@ -108,7 +108,7 @@ export function found(ids, query, most = 60) {
     const name = nameOf(id).toLowerCase(), text = `${name} ${rawOf(id).slice(0, 300)} ${kindOf(id)}`.toLowerCase();
     if (!words.every(w => text.includes(w))) continue;
     const score = name === words.join(' ') ? 0 : name.startsWith(words[0]) ? 1 : begins.test(name) ? 2 : 3;
-    out.push([score * 1000 + name.length + (kindOf(id) === 'item' || kindOf(id) === 'fluid' ? 0 : 400), id]);
+    out.push([score * 1000 + name.length + (kindOf(id) === 'item' || kindOf(id) === 'fluid' ? 0 : 1200), id]);
   }
   return out.sort((a, b) => a[0] - b[0]).slice(0, most).map(([, id]) => id);
 }

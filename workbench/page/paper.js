@@ -62,7 +62,7 @@ function paper() {
   const told = (l, i) => { const words = S.refused.get(i + 1); return words && old[i] === l ? curesOfLine(i + 1).why : null; };
   const marks = all.map(told);
   return h('div.paper', null, h('div.gutter', { 'aria-hidden': 'true' }, all.map((_, i) => h('div' + (marks[i] ? '.bad' : ''), null, marks[i] ? '✗ ' : '', i + 1))),
-    h('div.marks', { 'aria-hidden': 'true' }, all.map((l, i) => h('div' + (marks[i] ? '.bad' : ''), null, marks[i] ? [h('span', null, l), h('b', null, marks[i])] : ''))),
+    h('div.marks', { 'aria-hidden': 'true' }, all.map((l, i) => h('div' + (marks[i] ? '.bad' : ''), null, marks[i] ? [h('span', null, plain(l, 500)), h('b', null, marks[i])] : ''))),
     h('textarea', { spellcheck: false, 'aria-label': `The script ${plain(S.file)}`, 'aria-invalid': String(S.refused.size > 0), 'data-key': 'script', wrap: 'off', onscroll, oninput, onblur: settleTyping,
       drawn: it => { if (typing === null && it.value !== S.script) it.value = S.script; } }));
 }

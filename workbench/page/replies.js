@@ -34,10 +34,11 @@ export function planOf(text) {
   return plan;
 }
 
-/** The reply to `rate`: the effects of a row, as texts; null where it is refused. */
+/** The reply to `rate` or `?limits`: the effects of a row, as texts, and which of them stand at their floor; null where it is refused. */
 export function rateOf(text) {
-  const head = readReply(text)?.[0];
-  return head?.[0] === 'rate' ? Object.fromEntries(head.slice(3).flatMap((w, i, all) => i % 2 ? [] : [[w, all[i + 1]]])) : null;
+  const [head, ...rest] = readReply(text) || [[]];
+  if (head[0] !== 'rate') return null;
+  return { ...Object.fromEntries(head.slice(3).flatMap((w, i, all) => i % 2 ? [] : [[w, all[i + 1]]])), floors: rest.filter(w => w[0] === 'floor').map(w => w[1]).join(', ') };
 }
 
 /** What a refusal means, in words. */

@@ -78,7 +78,8 @@ function effect(effects) {
   if (!effects) return null;
   const short = [effects.speed !== '1' && `×${Frac.of(effects.speed)?.text ?? 'wide'}`, effects.productivity !== '0' && percent(effects.productivity)].filter(Boolean).join(' ');
   const x = k => Frac.of(effects[k])?.text ?? 'wide';
-  return short && h('small.effect', { title: `speed ×${x('speed')}, productivity ${percent(effects.productivity)}, power ×${x('consumption')}, pollution ×${x('pollution')}` }, short);
+  const floors = effects.floors && `\nat its floor, which no module passes: ${effects.floors}`;
+  return short && h('small.effect', { title: `speed ×${x('speed')}, productivity ${percent(effects.productivity)}, power ×${x('consumption')}, pollution ×${x('pollution')}${floors}` }, short, floors && ' ⌊⌋');
 }
 
 // The slots of a machine. A click on the first of equal ones fills them all, on one among others that one.

@@ -65,7 +65,8 @@ export const drop = (n, contrary) => S.model.hasUndo && contrary ? change({ add:
 // ---- Answers ----
 
 const linesAt = numbers => { const all = linesOf(S.script); return numbers.map(n => all[n - 1]).join('\n'); };
-const gameLines = () => linesAt([...S.model.edits.map(e => e.line), ...S.model.grants.values(), ...S.model.forbids.values(),
+/** The lines in force that change the game or its marks. */
+export const gameLines = () => linesAt([...S.model.edits.map(e => e.line), ...S.model.grants.values(), ...S.model.forbids.values(),
   ...S.model.milestones.map(m => m.line)].sort((a, b) => a - b));
 const editLines = () => linesAt(S.model.edits.map(e => e.line));
 /** What a plan hangs on: the same text, the same plan. */
@@ -98,7 +99,7 @@ async function once(save) {
   S.busy = true;
   show();
   const first = modelOf(text), shown = S.route.startsWith('table:') ? first.tables.get(S.route.slice(6)) : null;
-  const ask = ['?state', 'summary', ...(shown ? [line('?flow', shown.name), ...shown.rows.map(r => line('rate', shown.name, r.label))] : [])];
+  const ask = ['?state', 'summary', ...(shown ? [line('?flow', shown.name), ...shown.rows.map(r => line('?limits', shown.name, r.label))] : [])];
   const out = await call('run', { file: S.file, script: text, version: save ? S.version : null, ask });
   if (out.conflict) return meet(out);
   if (out.version) Object.assign(S, { version: out.version, saved: text });

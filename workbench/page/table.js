@@ -3,8 +3,7 @@ import { call, download } from './calls.js';
 import { chart, graphOf } from './chart.js';
 import { curesOfPlan } from './cures.js';
 import { h, memo } from './dom.js';
-import { sum, ZERO } from './exact.js';
-import { Frac } from './exact.js';
+import { Frac, sum, ZERO } from './exact.js';
 import { game, get, isGood, isReached, kindOf, newRow } from './game.js';
 import { carried, chip, flow, icon, look, mark, nameOf, num, PER, plain, power } from './look.js';
 import { edit, pick } from './pick.js';
@@ -12,6 +11,7 @@ import { addLines, rowsView } from './rows.js';
 import { line, linesAbout, rowLine } from './script.js';
 import { change, closed, go, open, planFor, S, show } from './state.js';
 import { toast } from './toast.js';
+import { makeHere } from './wish.js';
 
 let scale = 0, fitting = 1;
 export const resetScale = () => { scale = 0; };
@@ -111,11 +111,12 @@ function goods(table, plan) {
     game.belts.map(b => h('option', { value: b.id, selected: b.id === look.belt }, `${nameOf(b.id)} (${Frac.of(b.belt).text} /s)`))));
   return h('div.sides', { key: 'sides' }, toBuild(table, plan), side(table, 'import', 'Comes in', 'Bring in …', plan?.imports, '1', belts), side(table, 'surplus', 'Goes out', 'Let out …', plan?.surpluses, '0'), prices(plan));
 }
+const isMade = good => kindOf(good) !== 'tech' && (get(good).made || []).some(r => kindOf(r) === 'recipe' && isReached(r));
 function side(table, what, name, hint, flows, start, more) {
   const price = (g, it) => edit(it.value, { label: `Price of one ${nameOf(g)} that ${what === 'import' ? 'comes in' : 'goes out'}`, key: `${what} ${g}`, done: x => set(table, what, g, x) });
   const one = ([g, it]) => {
     const x = flows?.get(g), idle = x?.isZero;
-    return h('tr' + (idle ? '.idle' : ''), { key: g }, h('td', null, chip(g, open), idle && h('small.rest', null, 'not used')), h('td.r', null, x ? flow(g, x) : '–', x && carried(g, x) && h('small.carried', null, carried(g, x))),
+    return h('tr' + (idle ? '.idle' : ''), { key: g }, h('td', null, chip(g, open), idle && h('small.rest', null, 'not used'), what === 'import' && isMade(g) && h('button.mini', { type: 'button', title: `Rows that make ${nameOf(g)} in this table`, onclick: () => makeHere(table, g) }, 'make it here')), h('td.r', null, x ? flow(g, x) : '–', x && carried(g, x) && h('small.carried', null, carried(g, x))),
       h('td.r', null, h('span.dim', null, 'at '), price(g, it)), h('td', null, mark('×', `${nameOf(g)} no longer ${what === 'import' ? 'comes in' : 'goes out'}`, () => set(table, what, g, null))));
   };
   return h('section.side', { key: what, 'aria-label': name }, h('h2', null, name, h('button.quiet', { type: 'button', 'aria-label': hint, title: hint, 'data-key': 'add ' + what, onclick: e => pickGood(e.currentTarget, hint, id => table[what].has(id) || set(table, what, id, start)) }, '+'), h('span.grow'), more),

@@ -5,8 +5,10 @@ import { Frac } from './exact.js';
 import { game, get, isGood, isReached, kindOf, rawOf } from './game.js';
 import { chip, icon, look, mark, nameOf, PER } from './look.js';
 import { pick } from './pick.js';
-import { line, wordsOf } from './script.js';
-import { change, closed, keep, open, S, show } from './state.js';
+import { addLines } from './rows.js';
+import { linesOf, wordsOf } from './script.js';
+import { toast } from './toast.js';
+import { change, closed, gameLines, keep, open, S, show } from './state.js';
 
 const wish = { good: null, amount: '60', by: [], module: null, fuel: null, dig: false, power: false, imports: [], beacon: null, said: '', words: [] };
 /** The wish of which the card of a thing was left. */
@@ -19,7 +21,7 @@ const those = test => () => game.ids.filter(id => isReached(id) && test(get(id))
 export function wishView() {
   const goods = () => game.ids.filter(id => (isGood(id) || kindOf(id) === 'tech' || id === 'special:electricity') && isReached(id)).map(id => ({ id, note: kindOf(id) === 'tech' ? 'research' : '' }));
   return h('form.wish', { key: 'wish', onsubmit: e => { e.preventDefault(); makeWish(); } }, h('h1', null, 'What do you wish for?'),
-    h('div.sentence', null, h('input.amount', { value: wish.amount, 'data-key': 'wish amount', inputMode: 'decimal', 'aria-label': 'How much', oninput: e => { wish.amount = e.target.value; } }), h('span.dim', null, unitOf(wish.good)),
+    h('div.sentence', null, h('input.amount', { value: wish.amount, 'data-key': 'wish amount', inputMode: 'decimal', 'aria-label': 'How much', oninput: e => set('amount', e.target.value) }), h('span.dim', null, unitOf(wish.good)),
       h('button.choose', { type: 'button', id: 'good', 'data-key': 'wish good', 'aria-haspopup': 'dialog', onclick: e => pick(e.currentTarget, { options: goods(), current: wish.good, hint: 'An item, a fluid, a technology, electricity', done: id => set('good', id) }) }, wish.good ? [icon(wish.good), h('span.name', null, nameOf(wish.good))] : h('span.dim', null, 'choose a good …')),
       h('button.main', { type: 'submit', id: 'make', disabled: !wish.good }, 'Plan it')),
     wish.said && refusedView(), options(),
@@ -47,13 +49,13 @@ function beaconOption() {
     : h('button.quiet', { type: 'button', title: 'Beacons around each machine', 'aria-label': 'Beacons around each machine', onclick: start }, '+'));
 }
 
-// The words of factoplan_table.
-function wordsOfWish(good, rate, table, imports = []) {
-  const out = ['?wish', good, `${rate}`, '--table', table];
+// The words of factoplan_table: goods with rates, and the options.
+function wordsOfWish(wants, table, more = []) {
+  const out = [...wants.flatMap(([good, rate]) => [good, `${rate}`]), '--table', table, ...more];
   for (const id of wish.by) out.push('--by', id);
   for (const key of ['module', 'fuel']) if (wish[key]) out.push('--' + key, wish[key]);
-  if (wish.beacon) out.push('--beacon', wish.beacon.by, wish.beacon.count, wish.beacon.share, wish.beacon.module);
-  for (const id of [...wish.imports, ...imports]) out.push('--import', `${id}=1`);
+  if (wish.beacon) out.push('--beacon', wish.beacon.by, `${wish.beacon.count}`, `${wish.beacon.share}`, wish.beacon.module);
+  for (const id of wish.imports) out.push('--import', `${id}=1`);
   for (const key of ['dig', 'power']) if (wish[key]) out.push('--' + key);
   return out;
 }
@@ -62,13 +64,22 @@ function nameFor(base) {
   for (let k = 2; S.model.tables.has(name); k++) name = `${base.slice(0, 60)}-${k}`;
   return name;
 }
-/** The lines of a table for so much of a good, as the program finds them; or why there are none. */
-async function linesFor(good, rate, table) {
-  const out = await call('run', { file: S.file, script: S.script, version: null, ask: [line(...wordsOfWish(good, rate, table))] });
-  const [head, ...rest] = out.answers[0].split('\n'), words = wordsOf(head) || [];
-  if (words[1] === 'wish' && words[2] !== 'refused') return { lines: rest.map(l => l.replace(/^ {2}/, '')).filter(l => !/^solve /.test(l)) };
-  const said = [head.replace(/^\? (wish )?refused /, ''), ...rest].join(' ').replace(/factoplan_table: /g, '');
-  return { said: said || 'it can’t be had', words: said.match(/(?:item|fluid|tech):[^\s,;]+/g) || [] };
+/** The lines that a wish is answered, without its question; or why there are none, and the goods that are named in that. */
+async function linesFor(words, state = gameLines()) {
+  const out = await call('wish', { file: S.file, script: S.script + (S.model.open ? (S.script.endsWith('\n') ? '' : '\n') + 'cancel\n' : ''), state: state && state + '\n', words });
+  if (out.lines) return { lines: out.lines.filter(l => !/^solve /.test(l)) };
+  const said = (out.said || 'it can’t be had').replace(/factoplan_table: /g, '');
+  return { said, status: out.status, words: said.match(/(?:item|fluid|tech):[^\s,;]+/g) || [] };
+}
+/** Rows for a good that a table takes from outside, in that table. */
+export async function makeHere(table, good) {
+  const lines = linesOf(S.script), state = [gameLines(), ...table.mine.map(n => lines[n - 1])].filter(Boolean).join('\n');
+  await wishing(async () => {
+    const made = await linesFor(['--rows-for', good, '--into', table.name], state);
+    if (made.said) { toast(`No rows for ${nameOf(good)}: ${made.said}`, { bad: true }); return {}; }
+    addLines(table, ...made.lines);
+    return {};
+  });
 }
 
 async function makeWish() {
@@ -76,32 +87,39 @@ async function makeWish() {
   if (!wish.good) return;
   if (!x || x.n <= 0n) { Object.assign(wish, { said: 'The amount must be a number above 0.', words: [] }); return show(); }
   await wishing(async () => {
-    const name = nameFor(rawOf(wish.good)), made = await linesFor(wish.good, wish.good === 'special:electricity' ? x : x.over(look.per), name);
+    const name = nameFor(rawOf(wish.good)), made = await linesFor(wordsOfWish([[wish.good, wish.good === 'special:electricity' ? x : x.over(look.per)]], name));
     if (made.said) return made;
     S.route = 'table:' + name;
     change({ add: closed(made.lines) });
     return {};
   });
 }
-/** A table for each science pack that can be had: one click for all that research takes. */
+/** One table for all science packs that can be had: one click for all that research takes. */
 async function allScience() {
   const x = Frac.of(wish.amount.trim());
   if (!x || x.n <= 0n) { Object.assign(wish, { said: 'The amount must be a number above 0.', words: [] }); return show(); }
   await wishing(async () => {
-    const name = nameFor('science'), seen = new Set(), lines = [];
-    for (const pack of game.packs.filter(isReached)) {
-      const made = await linesFor(pack, x.over(look.per), name);
-      if (made.said) return { ...made, said: `${nameOf(pack)}: ${made.said}` };
-      // Tables for several goods are one table: each row, import and surplus once.
-      for (const l of made.lines) {
-        const w = wordsOf(l), key = w[0] === 'row' ? w.slice(0, 3).join('\u0001') : w[0] === 'want' ? l : w.slice(0, w[0] === 'price' ? 3 : w[0] === 'table' ? 1 : 3).join('\u0001');
-        if (!seen.has(key)) { seen.add(key); lines.push(l); }
-      }
-    }
+    const name = nameFor('science'), wants = game.packs.filter(isReached).map(pack => [pack, x.over(look.per)]);
+    let made = await linesFor(wordsOfWish(wants, name, ['--rows', '120']));
+    if (made.status === 2) made = await oneByOne(wants, name);
+    if (made.said) return made;
     S.route = 'table:' + name;
-    change({ add: closed(lines) });
+    change({ add: closed(made.lines) });
     return {};
   });
+}
+// A program that takes one good at a time: its tables are put together, each row, import and surplus once.
+async function oneByOne(wants, name) {
+  const seen = new Set(), lines = [];
+  for (const want of wants) {
+    const made = await linesFor(wordsOfWish([want], name));
+    if (made.said) return { ...made, said: `${nameOf(want[0])}: ${made.said}` };
+    for (const l of made.lines) {
+      const w = wordsOf(l) || [l], key = w.slice(0, w[0] === 'table' ? 1 : 3).join('\u0001');
+      if (!seen.has(key)) { seen.add(key); lines.push(l); }
+    }
+  }
+  return { lines };
 }
 async function wishing(how) {
   S.asking++;

@@ -66,7 +66,7 @@ ROLES = {"button", "textbox", "searchbox", "combobox", "checkbox", "link", "spin
 class Browser:
     """A window of a browser."""
 
-    def __init__(self, chromium, driver, shots=None, folder=None):
+    def __init__(self, chromium, driver, shots=None, only=None, folder=None):
         options = webdriver.ChromeOptions()
         options.binary_location = chromium
         for word in ("--headless=new", "--no-sandbox", "--disable-gpu", "--hide-scrollbars", "--disable-dev-shm-usage", "--force-device-scale-factor=1", "--disable-lcd-text", "--lang=en"):
@@ -75,6 +75,7 @@ class Browser:
         if folder:
             options.add_experimental_option("prefs", {"download.default_directory": folder, "profile.default_content_setting_values.automatic_downloads": 1})
         self.it, self.shots = webdriver.Chrome(options=options, service=Service(driver)), shots
+        self.only = only
         self.size(1280, 900)
 
     def size(self, width, height, theme=None):
@@ -171,7 +172,7 @@ class Browser:
         return count, self.js("return %s.filter(e => !window.tabbed.has(e)).map(e => e.outerHTML.slice(0, 120))" % wanted)
 
     def shot(self, name):
-        if self.shots:
+        if self.shots and (self.only is None or name in self.only):
             time.sleep(0.15)
             self.it.save_screenshot(os.path.join(self.shots, name + ".png"))
 

@@ -82,6 +82,8 @@ def paths(programs):
         check("and nothing was written", sorted(os.listdir(bench.folder)) == ["factory.txt", "folder.txt", "link.txt", "secret.json"], os.listdir(bench.folder))
         for call in ("do_run", "end", "session", "__init__", "text", "nothing"):
             check("no call of %s" % call, bench.ask("POST", "/api/" + call, b"{}", bench.headers())[0] == 404)
+        for words in (["item:coal", "1", "--script", "/etc/passwd"], ["--into"], ["--table", "--script"], ["--help"], ["-x"], ["--script=/etc/passwd"], "x", [1]):
+            check("no wish with %r" % (words,), bench.call("wish", file="factory.txt", script="", state="", words=words)[0] == 400)
         for question in ("grant item:coal", "undo", "table u", "?state\nundo", " undo", "quiet on", "batch", "", "?nothing", "\"undo\""):
             check("%r is no question" % question, bench.run("table t\n", [question])[0] == 400)
 

@@ -37,7 +37,7 @@ def fold(programs, make):
         given.append([text.encode("utf-8", "replace").decode(), refused, reply["answers"][0]])
         told.append((os.path.basename(base), reply["answers"]))
     with Bench(programs) as bench:
-        b = make(None)
+        b = make()
         try:
             b.it.get(bench.url)
             b.it.set_script_timeout(60)

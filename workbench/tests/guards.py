@@ -23,6 +23,7 @@ GUARDS = [
     ("names of scripts", "scripts.py", "if name != self.first and not NAME.match(name):", "if False:", door.paths),
     ("links", "scripts.py", "os.path.islink(path) or ", "", door.paths),
     ("names of pictures", "pictures.py", "or not NAME.match(name)", "", None),
+    ("options of wishes", "bench.py", "        check_wish(words)\n", "", door.paths),
     ("questions alone", "session.py", "if first_word(question) not in QUESTIONS or b\"\\n\" in question:", "if False:", door.paths),
     ("time of a program", "programs.py", "timer.start()", "", door.time_limit),
     ("time of a planner", "session.py", "if left <= 0 or not select.select([self.running.stdout], [], [], left)[0]:", "if False:", door.time_limit),

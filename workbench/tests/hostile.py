@@ -35,7 +35,7 @@ def names(programs, make):
             rows += ["row t %s %s by machine:electric-furnace" % (label, word % "recipe"), "want t %s 1" % (word % "item"), "grant %s" % (word % "item").replace("item:", "item:x")]
         text = "\n".join(["table t", *rows, "import t item:iron-ore 1", "table " + json.dumps(HTML)]) + "\n"
         with Bench(programs, dump=dump, text=text.encode(), more=["--seconds", "60"]) as bench:
-            b = make(None)
+            b = make()
             try:
                 b.it.get(bench.url)
                 b.settle()
@@ -84,7 +84,7 @@ def large(programs, make):
     rows += ["import big item:iron-plate 1", "want big item:iron-gear-wheel 5"]
     assert recipes
     with Bench(programs, text=("\n".join(rows) + "\n").encode(), more=["--seconds", "120"]) as bench:
-        b = make(None)
+        b = make()
         try:
             b.it.get(bench.url)
             b.settle(120)
