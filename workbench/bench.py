@@ -1,18 +1,20 @@
 """What the page may ask of the server. Each answer is what one of the programs said; nothing is reckoned here."""
 import os
 import tempfile
+import threading
 import time
 
 from faults import Refused
 from pictures import Pictures
 from programs import Programs
 from scripts import Scripts, version_of
-from session import Session, first_word
+from session import Session
 
 MOST_QUESTIONS, MOST_SESSIONS = 2000, 3
 CALLS = ("open", "read", "version", "create", "run", "wish", "page", "certificate")
 # The options of a wish that the page may name, and how many words stand behind each: none of them names a file.
-OPTIONS = {"--table": 1, "--by": 1, "--module": 1, "--beacon": 4, "--fuel": 1, "--import": 1, "--without": 1, "--only": 1, "--rows": 1, "--cheapest": 1,
+OPTIONS = {"--table": 1, "--by": 1, "--module": 1, "--beacon": 4, "--fuel": 1, "--import": 1, "--without": 1, "--only": 1, "--rows": 1,
+    "--cheapest": 1,
            "--rows-for": 1, "--into": 1, "--dig": 0, "--power": 0}
 
 
@@ -23,7 +25,7 @@ class Bench:
         self.dump = os.path.realpath(dump)
         self.scripts, self.pictures = Scripts(folder, first), Pictures(output)
         self.programs = Programs(programs, seconds)
-        self.sessions = {}
+        self.sessions, self.lock = {}, threading.Lock()
 
     def stamp(self):
         """What tells one dump from another at the same place."""
@@ -31,21 +33,21 @@ class Bench:
         return "%d-%d" % (found.st_size, found.st_mtime_ns)
 
     def session(self, name):
-        """The planner of a script; the one that was asked longest ago ends where there are too many. One that reads an old dump ends, too."""
+        """The planner of a script. Those of an old dump end, and where there are too many the one that was asked longest ago."""
         key = (name, self.stamp())
-        if key not in self.sessions:
-            self.sessions[key] = Session(self.programs.words("factoplan_session", self.dump), self.programs.limits)
-        self.sessions[key] = self.sessions.pop(key)
-        for old in [k for k in self.sessions if k[1] != key[1]] + list(self.sessions)[:-MOST_SESSIONS]:
-            if old in self.sessions:
-                ended = self.sessions.pop(old)
-                with ended.lock:
-                    ended.end()
-        return self.sessions[key]
+        with self.lock:
+            found = self.sessions.pop(key, None) or Session(self.programs.words("factoplan_session", self.dump), self.programs.limits)
+            self.sessions[key] = found
+            old = [k for k in self.sessions if k[1] != key[1]]
+            old += [k for k in self.sessions if k[1] == key[1]][:-MOST_SESSIONS]
+            ended = [self.sessions.pop(k) for k in old]
+        for it in ended:
+            it.retire()
+        return found
 
     def end(self):
         for session in self.sessions.values():
-            session.end()
+            session.retire()
 
     # ---- Calls of the page ----
 
@@ -89,7 +91,8 @@ class Bench:
         """The lines of a table for a wish: those that the planner finds behind the script, or where it finds none by itself those that
         factoplan_table prints behind the lines of `state`, which are in force."""
         words = asked.get("words")
-        if not isinstance(words, list) or len(words) > 400 or not all(isinstance(w, str) and "\0" not in w and len(w) < 20000 for w in words):
+        if not isinstance(words, list) or len(words) > 400 or not all(isinstance(w, str) and "\0" not in w and len(w) < 20000
+            for w in words):
             raise Refused(400, "words is no list of words")
         check_wish(words)
         name, lines = plain(asked, "file"), lines_of(encoded(asked, "script"))
@@ -146,7 +149,8 @@ def check_wish(words):
     i = 0
     while i < len(words):
         if words[i].startswith("-"):
-            if words[i] not in OPTIONS or len(words) <= i + OPTIONS[words[i]] or any(w.startswith("-") for w in words[i + 1:i + 1 + OPTIONS[words[i]]]):
+            if words[i] not in OPTIONS or len(words) <= i + OPTIONS[words[i]] or any(w.startswith("-")
+                for w in words[i + 1:i + 1 + OPTIONS[words[i]]]):
                 raise Refused(400, "a wish has no such option")
             i += OPTIONS[words[i]]
         i += 1

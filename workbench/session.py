@@ -66,7 +66,7 @@ class Session:
     def __init__(self, command, limits):
         self.command, self.limits = command, limits
         self.lock = threading.Lock()
-        self.running = None
+        self.running, self.retired = None, False
         self.starts = 0
         self.forget()
 
@@ -88,18 +88,29 @@ class Session:
                 raise Refused(400, "that is no question")
         with self.lock, self.limits:
             try:
-                return self.answers_once(lines, questions)
-            except Died:
-                self.end()
-            try:
-                return self.answers_once(lines, questions)
-            except Died as fault:
-                self.end()
-                raise Refused(502, "the planner ended: %s" % fault)
+                try:
+                    return self.answers_once(lines, questions)
+                except Died:
+                    self.end()
+                try:
+                    return self.answers_once(lines, questions)
+                except Died as fault:
+                    self.end()
+                    raise Refused(502, "the planner ended: %s" % fault)
+            finally:
+                if self.retired:
+                    self.end()
 
     def answers_once(self, lines, questions):
         self.follow(lines)
         return [self.script_reply(i) for i in range(len(self.sent))], [self.answer(question) for question in questions]
+
+    def retire(self):
+        """Ends the program once what is asked of it is answered."""
+        self.retired = True
+        if self.lock.acquire(blocking=False):
+            self.end()
+            self.lock.release()
 
     def end(self):
         """Ends the program, where it runs."""
@@ -157,7 +168,8 @@ class Session:
         if count == len(self.sent):
             return
         last, to = self.last, self.behind(count)
-        entries = any(it.done != before.done for before, it in zip(self.sent[count - 1:] if count else [NOTHING, *self.sent], self.sent[count:]))
+        entries = any(it.done != before.done for before, it in zip(self.sent[count - 1:] if count else [NOTHING, *self.sent],
+            self.sent[count:]))
         said = self.say([b"cancel"] * (last.held is not None) + [b"undo"] * (last.done - to.done)
                         + [b"quiet on" if to.quiet else b"quiet off"] * (last.quiet != to.quiet))
         if any(is_refused(reply) for _, reply in said):
@@ -224,7 +236,8 @@ class Session:
 
     def with_place(self, line):
         """A line of a state, with the number of its line in the script."""
-        return re.sub(rb"\A(  (?:held |undone \d+ |\d+ ))(\d+)(?= |\Z)", lambda m: m.group(1) + b"%d" % self.place_of(int(m.group(2))), line)
+        return re.sub(rb"\A(  (?:held |undone \d+ |\d+ ))(\d+)(?= |\Z)", lambda m: m.group(1) + b"%d" % self.place_of(int(m.group(2))),
+            line)
 
     # ---- The program ----
 

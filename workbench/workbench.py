@@ -15,7 +15,8 @@ NEEDED = ("factoplan", "factoplan_session")
 
 
 def asked_words(words):
-    p = argparse.ArgumentParser(prog="factoplan workbench", description="Plans by clicking, in the browser, on the answers of the proved programs.")
+    p = argparse.ArgumentParser(prog="factoplan workbench",
+        description="Plans by clicking, in the browser, on the answers of the proved programs.")
     p.add_argument("dump", metavar="DUMP", help="the file data-raw-dump.json that `factorio --dump-data` writes")
     p.add_argument("script", metavar="SCRIPT", nargs="?", default="factory.txt",
                    help="the script that is edited, made where it isn't there, or a folder of scripts (factory.txt where none is named)")

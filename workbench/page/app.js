@@ -5,9 +5,10 @@ import { cardView, exploreView } from './explore.js';
 import { game } from './game.js';
 import { look, noteOf, PER, plain } from './look.js';
 import { isPicking, pick } from './pick.js';
-import { scriptView, settleTyping } from './paper.js';
+import { isTyping, scriptView, settleTyping } from './paper.js';
 import { line } from './script.js';
-import { begin, change, closed, go, kept, lookAround, onChange, open, openFile, redo, run, S, settle, settleBeside, show, side, tableShown, undo } from './state.js';
+import { begin, change, closed, go, kept, lookAround, onChange, open, openFile, redo, run, S, settle, settleBeside, show, side, tableShown,
+  undo } from './state.js';
 import { resetScale, tableView } from './table.js';
 import { toast } from './toast.js';
 import { whatIfView } from './whatif.js';
@@ -17,32 +18,56 @@ const KEYS = '/ search · w wish · 1–9 tabs · e script · Ctrl Z undo · Ctr
 
 // ---- The top and the tabs ----
 
-const search = () => pick(document.getElementById('search'), { options: game.ids.map(id => ({ id, note: noteOf(id) })), hint: 'Items, fluids, recipes, machines, technologies …', done: open });
+const search = () => pick(document.getElementById('search'), { options: game.ids.map(id => ({ id, note: noteOf(id) })),
+  hint: 'Items, fluids, recipes, machines, technologies …', done: open });
 
 function topView() {
   const busy = S.busy || S.asking > 0, dark = document.documentElement.dataset.theme === 'dark', refused = S.refused.size;
   const state = busy ? 'working …' : S.conflict ? 'not saved' : S.saved === S.script ? 'saved' : 'not saved';
   return h('header.top', { key: 'top' }, h('b.brand', null, 'factoplan', h('span', null, ' workbench')),
-    h('button.search', { type: 'button', id: 'search', 'data-key': 'search', 'aria-haspopup': 'dialog', onclick: search }, h('span', null, 'Search the game'), h('kbd', { 'aria-hidden': 'true' }, '/')), h('span.grow'),
-    h('span.state' + (busy ? '.busy' : ''), { id: 'state', role: 'status', title: `The script is ${plain(S.file)}. The last answer stood here ${S.times.shown} ms after the program’s.` }, state),
-    h('span.seg', { role: 'group', 'aria-label': 'Unit of time' }, Object.entries(PER).map(([k, text]) => h('button' + (Number(k) === look.per ? '.now' : ''), { type: 'button', 'aria-pressed': String(Number(k) === look.per), onclick: () => { look.per = Number(k); localStorage.setItem('per', k); show(); } }, text))),
-    h('button.tool', { type: 'button', id: 'undo', disabled: !S.past.length, title: 'Undo (Ctrl Z)', 'aria-label': 'Undo', onclick: undo }, '↶'), h('button.tool', { type: 'button', id: 'redo', disabled: !S.future.length, title: 'Redo (Ctrl Shift Z)', 'aria-label': 'Redo', onclick: redo }, '↷'),
-    h('button.tool.text' + (S.side === 'script' ? '.now' : ''), { type: 'button', id: 'script', title: 'The script (e)', 'aria-pressed': String(S.side === 'script'), onclick: () => side('script') }, 'Script', refused > 0 && h('span.badge', { title: `${refused} lines are refused` }, '✗ ', refused)),
-    h('button.tool', { type: 'button', id: 'theme', title: 'Light or dark', 'aria-label': dark ? 'Light' : 'Dark', onclick: () => { theme(dark ? 'light' : 'dark'); show(); } }, '◐'),
+    h('button.search', { type: 'button', id: 'search', 'data-key': 'search', 'aria-haspopup': 'dialog', onclick: search },
+      h('span', null, 'Search the game'), h('kbd', { 'aria-hidden': 'true' }, '/')), h('span.grow'),
+    h('span.state' + (busy ? '.busy' : ''), { id: 'state', role: 'status',
+      title: `The script is ${plain(S.file)}. The last answer stood here ${S.times.shown} ms after the program’s.` }, state),
+    h('span.seg', { role: 'group', 'aria-label': 'Unit of time' },
+      Object.entries(PER).map(([k, text]) => h('button' + (Number(k) === look.per ? '.now' : ''),
+      { type: 'button', 'aria-pressed': String(Number(k) === look.per), onclick: () => { look.per = Number(k); localStorage.setItem('per', k); show();
+      } }, text))),
+    h('button.tool', { type: 'button', id: 'undo', disabled: !S.past.length, title: 'Undo (Ctrl Z)', 'aria-label': 'Undo', onclick: undo }, '↶'),
+      h('button.tool', { type: 'button', id: 'redo', disabled: !S.future.length, title: 'Redo (Ctrl Shift Z)', 'aria-label': 'Redo', onclick: redo },
+      '↷'),
+    h('button.tool.text' + (S.side === 'script' ? '.now' : ''), { type: 'button', id: 'script', title: 'The script (e)',
+      'aria-pressed': String(S.side === 'script'), onclick: () => side('script') }, 'Script',
+      refused > 0 && h('span.badge', { title: `${refused} lines are refused` }, '✗ ', refused)),
+    h('button.tool', { type: 'button', id: 'theme', title: 'Light or dark', 'aria-label': dark ? 'Light' : 'Dark',
+      onclick: () => { theme(dark ? 'light' : 'dark'); show(); } }, '◐'),
     h('button.tool', { type: 'button', title: 'Keys (?)', 'aria-label': 'Which keys there are', onclick: () => toast(KEYS) }, '?'));
 }
 
 function tabsView() {
-  const tab = (route, text, mark) => h('button.tab' + (S.route === route ? '.now' : ''), { type: 'button', key: route, 'aria-current': S.route === route ? 'page' : null, 'data-route': route, onclick: () => { resetScale(); go(route); } }, text, mark);
-  const dot = name => { const plan = S.plans.get(name)?.plan; return plan && plan.kind !== 'plan' && h('span.dot', { title: plan.kind === 'infeasible' ? 'There is no plan' : 'It is not answered' }, '✗', h('span.unseen', null, ' no plan')); };
-  const empty = () => { let k = 1; while (S.model.tables.has('table-' + k)) k++; S.route = 'table:table-' + k; change({ add: closed([line('table', 'table-' + k)]) }); };
-  return h('nav.tabs', { key: 'tabs', 'aria-label': 'Tables' }, tab('explore', 'Explore'), tab('what', 'What if', S.model.forbids.size + S.model.grants.size + S.model.edits.length > 0 && h('span.dot.soft', { title: 'Something of the game is changed' }, '●', h('span.unseen', null, ' changed'))), h('span.bar', { key: 'bar' }),
-    [...S.model.tables.keys()].map(name => tab('table:' + name, plain(name, 28), dot(name))), tab('wish', '+ Wish'), h('button.tab.quiet', { type: 'button', key: '+', title: 'An empty table', onclick: empty }, '+ Table'));
+  const tab = (route, text, mark) => h('button.tab' + (S.route === route ? '.now' : ''),
+    { type: 'button', key: route, 'aria-current': S.route === route ? 'page' : null, 'data-route': route, onclick: () => { resetScale(); go(route);
+    } }, text, mark);
+  const dot = name => { const plan = S.plans.get(name)?.plan;
+    return plan && plan.kind !== 'plan' && h('span.dot', { title: plan.kind === 'infeasible' ? 'There is no plan' : 'It is not answered' }, '✗',
+    h('span.unseen', null, ' no plan')); };
+  const empty = () => { let k = 1; while (S.model.tables.has('table-' + k)) k++; S.route = 'table:table-' + k;
+    change({ add: closed([line('table', 'table-' + k)]) }); };
+  return h('nav.tabs', { key: 'tabs', 'aria-label': 'Tables' }, tab('explore', 'Explore'),
+    tab('what', 'What if', S.model.forbids.size + S.model.grants.size + S.model.edits.length > 0
+    && h('span.dot.soft', { title: 'Something of the game is changed' }, '●', h('span.unseen', null, ' changed'))), h('span.bar', { key: 'bar' }),
+    [...S.model.tables.keys()].map(name => tab('table:' + name, plain(name, 28), dot(name))), tab('wish', '+ Wish'),
+      h('button.tab.quiet', { type: 'button', key: '+', title: 'An empty table', onclick: empty }, '+ Table'));
 }
 
 // Another tab or an editor was first: one of three ways, and no text is lost.
-const conflictView = () => h('div.conflict', { key: 'conflict', role: 'alertdialog', 'aria-label': 'The script was changed elsewhere' }, h('b', null, '⚠ The script was changed elsewhere,'), ' in another tab or editor. Yours isn’t saved yet. The one that you don’t take stays behind Undo.',
-  h('span.acts', null, h('button.main', { type: 'button', id: 'take-theirs', onclick: () => { settleTyping(); settle('theirs'); } }, 'Take theirs'), h('button.quiet', { type: 'button', id: 'keep-mine', onclick: () => { settleTyping(); settle('mine'); } }, 'Keep mine'), h('button.quiet', { type: 'button', id: 'keep-both', onclick: () => { settleTyping(); settleBeside().catch(fault => toast(fault.message, { bad: true })); } }, 'Keep both: mine as a script of its own')));
+const conflictView = () => h('div.conflict', { key: 'conflict', role: 'alertdialog', 'aria-label': 'The script was changed elsewhere' },
+  h('b', null, '⚠ The script was changed elsewhere,'),
+  ' in another tab or editor. Yours isn’t saved yet. The one that you don’t take stays behind Undo.',
+  h('span.acts', null, h('button.main', { type: 'button', id: 'take-theirs', onclick: () => { settleTyping(); settle('theirs'); } }, 'Take theirs'),
+    h('button.quiet', { type: 'button', id: 'keep-mine', onclick: () => { settleTyping(); settle('mine'); } }, 'Keep mine'),
+    h('button.quiet', { type: 'button', id: 'keep-both', onclick: () => { settleTyping();
+    settleBeside().catch(fault => toast(fault.message, { bad: true })); } }, 'Keep both: mine as a script of its own')));
 
 // ---- Drawing ----
 
@@ -60,9 +85,11 @@ function drawSoon() {
   queueMicrotask(() => { waiting = false; drawAll(); });
 }
 function drawAll() {
-  const aside = S.side === 'script' ? h('aside.broad', { key: 'aside script', 'aria-label': 'The script' }, scriptView()) : S.side === 'card' && S.card ? h('aside', { key: 'aside card', 'aria-label': 'Card' }, cardView(S.card)) : null;
+  const aside = S.side === 'script' ? h('aside.broad', { key: 'aside script', 'aria-label': 'The script' }, scriptView()) : S.side === 'card'
+    && S.card ? h('aside', { key: 'aside card', 'aria-label': 'Card' }, cardView(S.card)) : null;
   if (!look.belt || !game.at.has(look.belt)) look.belt = game.belts.filter(b => b.rank).at(-1)?.id || game.belts[0]?.id || null;
-  draw(document.getElementById('app'), [topView(), tabsView(), S.conflict && conflictView(), h('div.body', { key: 'body' }, h('main', { key: 'main' }, view()), aside)]);
+  draw(document.getElementById('app'), [topView(), tabsView(), S.conflict && conflictView(),
+    h('div.body', { key: 'body' }, h('main', { key: 'main' }, view()), aside)]);
   document.title = `${plain(tableShown()?.name || 'factoplan')} · workbench`;
 }
 
@@ -90,7 +117,7 @@ document.addEventListener('keydown', e => {
   }
 });
 window.addEventListener('focus', lookAround);
-window.addEventListener('beforeunload', e => { if (S.conflict || (S.version && S.saved !== S.script)) e.preventDefault(); });
+window.addEventListener('beforeunload', e => { if (S.conflict || isTyping() || (S.version && S.saved !== S.script)) e.preventDefault(); });
 window.addEventListener('resize', show);
 
 // ---- The beginning ----
@@ -110,6 +137,7 @@ window.addEventListener('resize', show);
     if (last !== it.file && it.files.includes(last)) await openFile(last);
     else { begin(it); await run(false); }
   } catch (fault) {
-    draw(document.getElementById('app'), [h('p.start', { role: 'alert' }, fault.status === 403 ? 'Open the whole address that the workbench printed.' : `No answer: ${fault.message}`)]);
+    draw(document.getElementById('app'),
+      [h('p.start', { role: 'alert' }, fault.status === 403 ? 'Open the whole address that the workbench printed.' : `No answer: ${fault.message}`)]);
   }
 })();

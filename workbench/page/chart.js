@@ -16,7 +16,8 @@ export function graphOf(table, plan) {
   };
   const add = card => { cards.push({ ...card, in: [], out: [] }); return cards.at(-1); };
   for (const [label, flows] of plan.flows) {
-    const card = add({ kind: 'row', row: table.rows.find(r => r.label === label) || { label, does: 'recipe:' + label, by: 'machine:?' }, ...plan.rows.get(label) });
+    const card = add({ kind: 'row', row: table.rows.find(r => r.label === label) || { label, does: 'recipe:' + label, by: 'machine:?' },
+      ...plan.rows.get(label) });
     for (const [g, x] of flows.takes) join(card, g, x, false);
     for (const [g, x] of flows.gives) join(card, g, x, true);
   }
@@ -90,8 +91,10 @@ const light = (what, on) => e => {
   svg.classList.toggle('some', on);
   svg.querySelectorAll(`[data-joins~="${what}"]`).forEach(x => x.classList.toggle('lit', on));
 };
-const lights = what => ({ onmouseenter: light(what, true), onmouseleave: light(what, false), onfocus: light(what, true), onblur: light(what, false) });
-const button = (label, act) => ({ role: 'button', tabindex: '0', 'aria-label': label, onclick: act, onkeydown: e => { if (e.key === 'Enter' || e.key === ' ') { e.preventDefault(); act(); } } });
+const lights = what => ({ onmouseenter: light(what, true), onmouseleave: light(what, false), onfocus: light(what, true),
+  onblur: light(what, false) });
+const button = (label, act) => ({ role: 'button', tabindex: '0', 'aria-label': label, onclick: act,
+  onkeydown: e => { if (e.key === 'Enter' || e.key === ' ') { e.preventDefault(); act(); } } });
 
 /** The chart as a drawing, and its size. */
 export function chart(graph, open) {
@@ -101,33 +104,47 @@ export function chart(graph, open) {
   graph.hubs.forEach((x, i) => { x.name = 'h' + i; });
   const flows = graph.cards.flatMap(c => [...c.in, ...c.out]), sort = f => f.hub.id.split(':')[0];
   for (const f of flows) most.set(sort(f), Math.max(most.get(sort(f)) || 0, f.amount?.number || 0));
-  const svg = h('svg', { viewBox: `0 0 ${width} ${height}`, role: 'group', 'aria-label': 'Flow chart of the plan' }, h('g', { 'aria-hidden': 'true' }, flows.map(f => flowLine(f, most.get(sort(f))))), graph.hubs.map(x => hubBox(x, open)), graph.cards.map(c => cardBox(c, open)));
+  const svg = h('svg', { viewBox: `0 0 ${width} ${height}`, role: 'group', 'aria-label': 'Flow chart of the plan' },
+    h('g', { 'aria-hidden': 'true' }, flows.map(f => flowLine(f, most.get(sort(f))))), graph.hubs.map(x => hubBox(x, open)),
+    graph.cards.map(c => cardBox(c, open)));
   return { svg, width, height };
 }
 
 function flowLine(f, most) {
-  const c = f.card, list = f.gives ? c.out : c.in, y = c.y + HIGH / 2 + (list.indexOf(f) - (list.length - 1) / 2) * Math.min(11, (HIGH - 16) / Math.max(1, list.length - 1));
-  const [x1, y1, x2, y2] = f.gives ? [c.x + WIDE, y, f.hub.x, f.hub.y] : [f.hub.x, f.hub.y, c.x, y], bend = x2 < x1 ? 80 : Math.max(24, (x2 - x1) / 2);
+  const c = f.card, list = f.gives ? c.out : c.in, y = c.y + HIGH / 2 + (list.indexOf(f) - (list.length - 1) / 2) * Math.min(11,
+    (HIGH - 16) / Math.max(1, list.length - 1));
+  const [x1, y1, x2, y2] = f.gives ? [c.x + WIDE, y, f.hub.x, f.hub.y] : [f.hub.x, f.hub.y, c.x, y],
+    bend = x2 < x1 ? 80 : Math.max(24, (x2 - x1) / 2);
   const more = carried(f.hub.id, f.amount);
-  return h('path.flow' + (isPower(f) ? '.watts' : ''), { d: `M${x1} ${y1}C${x1 + bend} ${y1} ${x2 - bend} ${y2} ${x2} ${y2}`, 'data-joins': `${c.name} ${f.hub.name}`,
+  return h('path.flow' + (isPower(f) ? '.watts' : ''), { d: `M${x1} ${y1}C${x1 + bend} ${y1} ${x2 - bend} ${y2} ${x2} ${y2}`,
+    'data-joins': `${c.name} ${f.hub.name}`,
     style: { '--hue': hueOf(f.hub.id), 'stroke-width': 1.3 + 4 * Math.sqrt((f.amount?.number || 0) / (most || 1)) } },
   h('title', null, `${nameOf(f.hub.id)}: ${flowText(f.hub.id, f.amount)}${more && `\n${more}`}\nexactly ${f.amount ?? 'wide'} /s`));
 }
 function hubBox(hub, open) {
-  const total = sum(hub.from.map(f => f.amount)), said = flowText(hub.id, total), name = cut(nameOf(hub.id), 20), belts = carried(hub.id, total).split(' · ')[0];
-  const lines = [[said, ''], [name, '.dim'], ...(belts ? [[belts, '.dim']] : [])], wide = Math.max(...lines.map(([t]) => t.length * 6.1)) + 14, high = 4 + 12.5 * lines.length;
+  const total = sum(hub.from.map(f => f.amount)), said = flowText(hub.id, total), name = cut(nameOf(hub.id), 20),
+    belts = carried(hub.id, total).split(' · ')[0];
+  const lines = [[said, ''], [name, '.dim'], ...(belts ? [[belts, '.dim']] : [])], wide = Math.max(...lines.map(([t]) => t.length * 6.1)) + 14,
+    high = 4 + 12.5 * lines.length;
   const joined = [hub.name, ...hub.from.concat(hub.to).map(f => f.card.name)].join(' ');
-  return h('g.hub', { 'data-joins': joined, ...lights(hub.name), ...button(`${nameOf(hub.id)}, ${said}${belts && ', ' + belts}`, () => open(hub.id)) }, h('rect', { x: hub.x - wide / 2, y: hub.y - high / 2, width: wide, height: high, rx: 8 }),
-    lines.map(([t, tag], i) => h('text' + tag, { x: hub.x, y: hub.y - high / 2 + 12.5 * (i + 1), 'text-anchor': 'middle' }, t)), h('title', null, `${nameOf(hub.id)}: ${said}\n${carried(hub.id, total)}\nexactly ${total ?? 'wide'} /s`));
+  return h('g.hub', { 'data-joins': joined, ...lights(hub.name), ...button(`${nameOf(hub.id)}, ${said}${belts && ', ' + belts}`,
+    () => open(hub.id)) }, h('rect', { x: hub.x - wide / 2, y: hub.y - high / 2, width: wide, height: high, rx: 8 }),
+    lines.map(([t, tag], i) => h('text' + tag, { x: hub.x, y: hub.y - high / 2 + 12.5 * (i + 1), 'text-anchor': 'middle' }, t)),
+      h('title', null, `${nameOf(hub.id)}: ${said}\n${carried(hub.id, total)}\nexactly ${total ?? 'wide'} /s`));
 }
 function cardBox(c, open) {
-  const id = c.kind === 'row' ? c.row.does : c.good, flow = [...c.in, ...c.out][0]?.amount, told = { import: 'comes in', surplus: 'goes out', want: 'wanted' }[c.kind];
+  const id = c.kind === 'row' ? c.row.does : c.good, flow = [...c.in, ...c.out][0]?.amount,
+    told = { import: 'comes in', surplus: 'goes out', want: 'wanted' }[c.kind];
   const about = c.kind === 'row' ? `${c.count ?? 'wide'} × ${nameOf(c.row.by)}` : `${told} · ${flowText(id, flow)}`;
-  const joined = [c.name, ...[...c.in, ...c.out].map(f => f.hub.name)].join(' '), label = c.kind === 'row' ? `${nameOf(id)}, ${about}` : `${nameOf(id)}, ${told}, ${flowText(id, flow)}`;
-  return h(`g.card.${c.kind}`, { transform: `translate(${c.x} ${c.y})`, 'data-joins': joined, ...lights(c.name), ...button(label, () => open(id)) }, h('rect', { width: WIDE, height: HIGH, rx: 9 }), picture(id),
-    h('text.title', { x: 46, y: 27 }, cut(nameOf(id), 20)), h('text.dim', { x: 46, y: 44 }, cut(about, 27)), h('title', null, c.kind === 'row' ? `${nameOf(id)} (row ${plain(c.row.label)})\nexactly ${c.machines ?? 'wide'} machines` : label));
+  const joined = [c.name, ...[...c.in, ...c.out].map(f => f.hub.name)].join(' '),
+    label = c.kind === 'row' ? `${nameOf(id)}, ${about}` : `${nameOf(id)}, ${told}, ${flowText(id, flow)}`;
+  return h(`g.card.${c.kind}`, { transform: `translate(${c.x} ${c.y})`, 'data-joins': joined, ...lights(c.name), ...button(label, () => open(id)) },
+    h('rect', { width: WIDE, height: HIGH, rx: 9 }), picture(id),
+    h('text.title', { x: 46, y: 27 }, cut(nameOf(id), 20)), h('text.dim', { x: 46, y: 44 }, cut(about, 27)),
+      h('title', null, c.kind === 'row' ? `${nameOf(id)} (row ${plain(c.row.label)})\nexactly ${c.machines ?? 'wide'} machines` : label));
 }
 function picture(id) {
   if (hasPicture(id)) return h('image', { href: pictureOf(id), x: 10, y: 17, width: 28, height: 28 });
-  return h('g.tile', { style: { '--hue': hueOf(id) } }, h('rect', { x: 10, y: 17, width: 28, height: 28, rx: 7 }), h('text', { x: 24, y: 35, 'text-anchor': 'middle' }, lettersOf(id)));
+  return h('g.tile', { style: { '--hue': hueOf(id) } }, h('rect', { x: 10, y: 17, width: 28, height: 28, rx: 7 }),
+    h('text', { x: 24, y: 35, 'text-anchor': 'middle' }, lettersOf(id)));
 }

@@ -32,7 +32,8 @@ function curesOfInfeasible(table, plan) {
   const out = goods.filter(([g, y]) => y.n < 0n && !table.surplus.has(g)).map(([g]) => g);
   const wanting = goods.filter(([g, y]) => y.n > 0n && !table.import.has(g)).map(([g]) => g);
   const bring = wanting.filter(g => !made.has(g)), rest = wanting.filter(g => made.has(g));
-  const way = g => [...(get(g).made || []), ...(get(g).by?.length ? [g] : [])].find(x => isReached(x) && get(x).by?.length && !table.rows.some(r => r.does === x));
+  const way = g => [...(get(g).made || []), ...(get(g).by?.length ? [g] : [])].find(x => isReached(x) && get(x).by?.length
+    && !table.rows.some(r => r.does === x));
   const make = g => {
     const row = way(g) && newRow(table, way(g));
     return row ? [cure(g, `${kindOf(row.does) === 'source' ? 'Mine' : 'Make'} ${nameOf(g)}`, () => addTo(table, rowLine(table.name, row)))] : [];
@@ -43,17 +44,23 @@ function curesOfInfeasible(table, plan) {
   const why = bring.length ? `${named(bring)} ${bring.length > 1 ? 'are' : 'is'} needed and ${bring.length > 1 ? 'come' : 'comes'} from nowhere.`
     : out.length ? `${named(out)} ${out.length > 1 ? 'are' : 'is'} left over and ${out.length > 1 ? 'have' : 'has'} nowhere to go.`
       : 'what is wanted can’t be made of what there is.';
-  const cures = [...bring.flatMap(g => [...make(g), bringIn(g)]), ...out.map(letOut), ...(bring.length || out.length ? [] : rest.flatMap(g => [...make(g), bringIn(g)]))];
+  const cures = [...bring.flatMap(g => [...make(g), bringIn(g)]), ...out.map(letOut),
+    ...(bring.length || out.length ? [] : rest.flatMap(g => [...make(g), bringIn(g)]))];
   return { why, cures: cures.slice(0, 2 * MOST) };
 }
 
 // The solver stopped: rounder numbers, another order of the rows, or goods that come in where they were made.
 function curesOfSolver(table, plan) {
-  const wide = [...['want', 'import', 'surplus'].flatMap(k => [...table[k]].map(([g, it]) => ({ words: [k, table.name, g], it }))), ...table.rows.filter(r => r.price).map(r => ({ words: ['price', table.name, r.label], it: { value: r.price, line: r.priceLine } }))]
-    .map(x => ({ ...x, near: Frac.of(Frac.of(x.it.value).fixed(2).replace(/\u2009/g, '').replace('−', '-')) })).filter(x => `${x.near}` !== `${Frac.of(x.it.value)}` && !x.near.isZero);
-  const round = wide.length ? [cure(null, 'Round amounts and prices to two places', () => change({ put: Object.fromEntries(wide.map(x => [x.it.line, line(...x.words, x.near)])) }))] : [];
+  const wide = [...['want', 'import', 'surplus'].flatMap(k => [...table[k]].map(([g, it]) => ({ words: [k, table.name, g], it }))),
+    ...table.rows.filter(r => r.price).map(r => ({ words: ['price', table.name, r.label], it: { value: r.price, line: r.priceLine } }))]
+    .map(x => ({ ...x, near: Frac.of(Frac.of(x.it.value).fixed(2).replace(/\u2009/g, '').replace('−', '-')) })).filter(x =>
+      `${x.near}` !== `${Frac.of(x.it.value)}` && !x.near.isZero);
+  const round = wide.length ? [cure(null, 'Round amounts and prices to two places',
+    () => change({ put: Object.fromEntries(wide.map(x => [x.it.line, line(...x.words, x.near)])) }))] : [];
   const lines = table.rows.map(r => r.line), texts = linesOf(S.script);
-  const turn = lines.length > 1 ? [cure(null, 'Try the rows in the opposite order', () => change({ put: Object.fromEntries(lines.map((n, i) => [n, texts[lines[lines.length - 1 - i] - 1]])) }))] : [];
+  const turn = lines.length > 1
+    ? [cure(null, 'Try the rows in the opposite order', () =>
+    change({ put: Object.fromEntries(lines.map((n, i) => [n, texts[lines[lines.length - 1 - i] - 1]])) }))] : [];
   const goods = [...new Set(plan.trail.slice(-12).flat().filter(w => /^(item|fluid):/.test(w) && !table.import.has(w) && !table.want.has(w)))];
   return [...round, ...turn, ...goods.slice(-4).map(g => cure(g, `Bring in ${nameOf(g)}`, () => addTo(table, line('import', table.name, g, '1'))))];
 }
@@ -61,11 +68,16 @@ function curesOfSolver(table, plan) {
 // ---- Rows ----
 
 function curesOfRow(code, details, r, put) {
-  const by = () => [...reached(get(r.does).by), ...(get(r.does).by || []).filter(m => !isReached(m))].filter(m => m !== r.by).slice(0, 4).map(m => cure(m, `By ${nameOf(m)}`, () => put({ ...r, by: m })));
-  const fuels = () => { const all = get(r.by).fuels || []; return [...reached(all), ...all].filter((f, i, a) => a.indexOf(f) === i).slice(0, 4).map(f => cure(f, `Burn ${nameOf(f)}`, () => put({ ...r, fuel: f }))); };
+  const by = () => [...reached(get(r.does).by), ...(get(r.does).by || []).filter(m => !isReached(m))].filter(m => m !== r.by).slice(0, 4).map(m =>
+    cure(m, `By ${nameOf(m)}`, () => put({ ...r, by: m })));
+  const fuels = () => { const all = get(r.by).fuels || [];
+    return [...reached(all), ...all].filter((f, i, a) => a.indexOf(f) === i).slice(0, 4).map(f =>
+    cure(f, `Burn ${nameOf(f)}`, () => put({ ...r, fuel: f }))); };
   const module = details[0], slots = get(r.by).slots || 0, allowed = modulesFor(r.by, r.does);
-  const without = () => ({ ...r, modules: r.modules.filter(([m]) => m !== module), beacons: r.beacons.map(b => ({ ...b, modules: b.modules.filter(([m]) => m !== module) })).filter(b => b.modules.length) });
-  const swapped = m => ({ ...r, modules: r.modules.map(([x, n]) => [x === module ? m : x, n]), beacons: r.beacons.map(b => ({ ...b, modules: b.modules.map(([x, n]) => [x === module ? m : x, n]) })) });
+  const without = () => ({ ...r, modules: r.modules.filter(([m]) => m !== module),
+    beacons: r.beacons.map(b => ({ ...b, modules: b.modules.filter(([m]) => m !== module) })).filter(b => b.modules.length) });
+  const swapped = m => ({ ...r, modules: r.modules.map(([x, n]) => [x === module ? m : x, n]),
+    beacons: r.beacons.map(b => ({ ...b, modules: b.modules.map(([x, n]) => [x === module ? m : x, n]) })) });
   switch (code) {
     case 'K1': case 'K2': case 'K3': case 'K5': case 'L4': return by();
     case 'L1': case 'L2': return fuels();
@@ -74,11 +86,16 @@ function curesOfRow(code, details, r, put) {
       let room = slots;
       const fitting = r.modules.map(([m, n]) => { const k = Math.min(n, room); room -= k; return [m, k]; }).filter(([, n]) => n);
       const beacons = r.beacons.map(b => ({ ...b, modules: b.modules.map(([m, n]) => [m, Math.min(n, get(b.by).slots || 0)]).filter(([, n]) => n) }));
-      return [cure(module?.startsWith('item:') ? module : null, `Keep as many modules as there are slots`, () => put({ ...r, modules: fitting, beacons }))];
+      return [cure(module?.startsWith('item:') ? module : null, `Keep as many modules as there are slots`,
+        () => put({ ...r, modules: fitting, beacons }))];
     }
-    case 'U2': case 'U3': return [cure(module, `Take ${nameOf(module || '')} out`, () => put(without())), ...allowed.filter(isReached).slice(0, 3).map(m => cure(m, `${nameOf(m)} instead`, () => put(swapped(m))))];
-    case 'B1': return [cure(null, 'Let each beacon be shared by 1 machine', () => put({ ...r, beacons: r.beacons.map(b => ({ ...b, share: Math.max(1, b.share) })) }))];
-    case 'P4': return choicesOf(r).flatMap(p => p.fits.slice(0, 4).map(f => cure(f, nameOf(f), () => put({ ...r, at: [...r.at.filter(x => !p.fits.includes(x) && rawOf(x).split('@')[0] !== rawOf(f).split('@')[0]), f] }))));
+    case 'U2': case 'U3': return [cure(module, `Take ${nameOf(module || '')} out`, () => put(without())),
+      ...allowed.filter(isReached).slice(0, 3).map(m => cure(m, `${nameOf(m)} instead`, () => put(swapped(m))))];
+    case 'B1': return [cure(null, 'Let each beacon be shared by 1 machine',
+      () => put({ ...r, beacons: r.beacons.map(b => ({ ...b, share: Math.max(1, b.share) })) }))];
+    case 'P4': return choicesOf(r).flatMap(p => p.fits.slice(0, 4).map(f =>
+      cure(f, nameOf(f), () => put({ ...r, at: [...r.at.filter(x => !p.fits.includes(x) && rawOf(x).split('@')[0] !== rawOf(f).split('@')[0]),
+      f] }))));
     case 'P5': return [cure(null, `Call it ${free(r)}`, () => put({ ...r, label: free(r) }))];
     default: return [];
   }
@@ -90,8 +107,10 @@ function free(r) {
 
 // ---- Lines ----
 
-const COMMANDS = ['reach', 'why', 'missing', 'mask', 'list', 'milestones', 'summary', 'rate', 'solve', 'grant', 'revoke', 'forbid', 'permit', 'milestone', 'unmilestone', 'ingredient', 'product',
-  'unlock', 'time', 'enabled', 'table', 'untable', 'row', 'unrow', 'price', 'want', 'import', 'surplus', 'power', 'undo', 'redo', 'batch', 'end', 'cancel', 'quiet'];
+const COMMANDS = ['reach', 'why', 'missing', 'mask', 'list', 'milestones', 'summary', 'rate', 'solve', 'grant', 'revoke', 'forbid', 'permit',
+  'milestone', 'unmilestone', 'ingredient', 'product',
+  'unlock', 'time', 'enabled', 'table', 'untable', 'row', 'unrow', 'price', 'want', 'import', 'surplus', 'power', 'undo', 'redo', 'batch', 'end',
+    'cancel', 'quiet'];
 
 /** Why a line of the script is refused: {line, why, cures}. What a batch is refused for at its end is told of the line in it. */
 export function curesOfLine(n) {
@@ -107,11 +126,14 @@ export function curesOfLine(n) {
   if (code === 'X1' || code === 'Q5') {
     const missing = details[0] || words.find(w => /^\w+:/.test(w) && !game.at.has(w)) || '';
     const i = words.indexOf(missing);
-    if (i > 0) cures.push(...nearest(missing, [...game.at.keys()]).map(id => cure(id, `${nameOf(id)}${kindOf(id) === kindOf(missing) ? '' : `, the ${kindOf(id)},`} instead`, () => to(words.map((w, k) => k === i ? id : w)))));
+    if (i > 0) cures.push(...nearest(missing, [...game.at.keys()]).map(id =>
+      cure(id, `${nameOf(id)}${kindOf(id) === kindOf(missing) ? '' : `, the ${kindOf(id)},`} instead`,
+      () => to(words.map((w, k) => k === i ? id : w)))));
   }
   if (code === 'Q1') cures.push(...nearest(words[0] || '', COMMANDS).map(c => cure(null, `Write ${c}`, () => to([c, ...words.slice(1)]))));
   if (code === 'P1' && details[0] === words[1]) {
-    cures.push(...nearest(words[1], [...S.model.tables.keys()]).map(t => cure(null, `Of the table ${plain(t)}`, () => to([words[0], t, ...words.slice(2)]))));
+    cures.push(...nearest(words[1], [...S.model.tables.keys()]).map(t => cure(null, `Of the table ${plain(t)}`,
+      () => to([words[0], t, ...words.slice(2)]))));
     cures.push(cure(null, `Make a table ${plain(words[1])} first`, () => before(target, line('table', words[1]))));
   }
   if (code === 'P5' && words[0] === 'table') cures.push(cure(null, `Call it ${plain(words[1])}-2`, () => to(['table', words[1] + '-2'])));
@@ -128,7 +150,8 @@ function before(n, text) {
 function nearest(text, all) {
   if (!text || text.length > 100) return [];
   const most = Math.max(2, Math.floor(rawOf(text).length / 3)), kind = kindOf(text);
-  const near = all.filter(x => Math.abs(rawOf(x).length - rawOf(text).length) <= most).map(x => [distance(rawOf(text), rawOf(x), most), x]).filter(([d]) => d <= most).sort((a, b) => a[0] - b[0]).map(([, x]) => x);
+  const near = all.filter(x => Math.abs(rawOf(x).length - rawOf(text).length) <= most).map(x =>
+    [distance(rawOf(text), rawOf(x), most), x]).filter(([d]) => d <= most).sort((a, b) => a[0] - b[0]).map(([, x]) => x);
   const same = near.filter(x => kindOf(x) === kind);
   return (same.length ? same : near).slice(0, 3);
 }

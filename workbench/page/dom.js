@@ -5,13 +5,15 @@
 // that began before an answer came ends on the same element.
 
 const SVG = new Set(['svg', 'g', 'path', 'rect', 'circle', 'text', 'image', 'title']);
-const PROPERTIES = new Set(['value', 'checked', 'disabled', 'selected', 'spellcheck', 'tabIndex', 'type', 'title', 'placeholder', 'id', 'href', 'src', 'alt',
+const PROPERTIES = new Set(['value', 'checked', 'disabled', 'selected', 'spellcheck', 'tabIndex', 'type', 'title', 'placeholder', 'id', 'href', 'src',
+  'alt',
   'min', 'max', 'size', 'inputMode', 'autocomplete', 'download', 'multiple']);
 
 /** h('button.soft', {onclick, key}, ...children). A `key` tells it among its siblings. */
 export function h(tag, props, ...children) {
   const [name, ...classes] = tag.split('.');
-  return { name: name || 'div', classes: classes.join(' '), props: props || {}, key: props?.key, children: children.flat(9).filter(c => c !== null && c !== undefined && c !== false && c !== '') };
+  return { name: name || 'div', classes: classes.join(' '), props: props || {}, key: props?.key,
+    children: children.flat(9).filter(c => c !== null && c !== undefined && c !== false && c !== '') };
 }
 /** A part that is made anew only where its stamp differs. */
 export const memo = (key, stamp, make) => ({ memo: true, key, stamp, make });

@@ -2,7 +2,8 @@
 import { Frac } from './exact.js';
 
 export const KINDS = ['item', 'fluid', 'recipe', 'tech', 'machine', 'source', 'special'];
-export const PLURAL = { item: 'Items', fluid: 'Fluids', recipe: 'Recipes', tech: 'Technologies', machine: 'Machines', source: 'Mined', special: 'Other' };
+export const PLURAL = { item: 'Items', fluid: 'Fluids', recipe: 'Recipes', tech: 'Technologies', machine: 'Machines', source: 'Mined',
+  special: 'Other' };
 export const EFFECTS = ['speed', 'productivity', 'consumption', 'pollution'];
 
 export const game = {
@@ -11,8 +12,10 @@ export const game = {
   /** Puts the ranks of `list` into all things, and the things in the order in which they come within reach. */
   rank(ranks) {
     for (const it of game.at.values()) it.rank = ranks.get(it.id) || null;
-    game.ids = [...game.at.values()].filter(it => it.id !== 'special:character').sort((a, b) => (a.rank || 1e9) - (b.rank || 1e9) || byOrder(a, b)).map(it => it.id);
-    game.packs = [...new Set([...game.at.values()].filter(m => m.kind === 'lab').flatMap(m => m.inputs || []))].sort((a, b) => (rankOf(a) || 1e9) - (rankOf(b) || 1e9));
+    game.ids = [...game.at.values()].filter(it => it.id !== 'special:character').sort((a, b) => (a.rank || 1e9) - (b.rank || 1e9)
+      || byOrder(a, b)).map(it => it.id);
+    game.packs = [...new Set([...game.at.values()].filter(m => m.kind === 'lab').flatMap(m => m.inputs || []))].sort((a, b) =>
+      (rankOf(a) || 1e9) - (rankOf(b) || 1e9));
     game.belts = [...game.at.values()].filter(it => it.belt).sort((a, b) => Frac.of(a.belt).number - Frac.of(b.belt).number);
     game.stamp++;
   },
@@ -59,7 +62,8 @@ const isLimited = (module, does) => {
 export const modulesFor = (by, does) => (get(by).modules || []).filter(m => !isLimited(m, does));
 /** The beacons that may stand round it, each with the modules that may be in it. */
 export const beaconsFor = (by, does) => [...game.at.values()].filter(m => m.kind === 'beacon')
-  .map(m => ({ id: m.id, slots: m.slots || 0, modules: (m.modules || []).filter(x => modulesFor(by, does).includes(x)) })).filter(b => b.modules.length && b.slots);
+  .map(m => ({ id: m.id, slots: m.slots || 0, modules: (m.modules || []).filter(x => modulesFor(by, does).includes(x)) })).filter(b =>
+    b.modules.length && b.slots);
 
 /** A row for an activity, by the fastest machine that is reached, with a label that no row has. */
 export function newRow(table, does) {
@@ -81,7 +85,8 @@ export function fuelled(table, row) {
 export function byOther(table, row, by) {
   const fits = modulesFor(by, row.does);
   let room = get(by).slots || 0;
-  const modules = row.modules.filter(([m]) => fits.includes(m)).map(([m, n]) => { const k = Math.min(n, room); room -= k; return [m, k]; }).filter(([, n]) => n);
+  const modules = row.modules.filter(([m]) => fits.includes(m)).map(([m, n]) => { const k = Math.min(n, room); room -= k; return [m, k];
+    }).filter(([, n]) => n);
   return fuelled(table, { ...row, by, modules, beacons: row.beacons.filter(b => b.modules.every(([m]) => fits.includes(m))) });
 }
 /** Where a row's fluid may have one of several temperatures. */

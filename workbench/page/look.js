@@ -54,7 +54,8 @@ export function icon(id, size = '') {
   return h(tag + '.tile', { 'aria-hidden': 'true', style: { '--hue': hueOf(id) } }, lettersOf(id));
 }
 /** A thing that opens its card. */
-export const chip = (id, open, ...more) => h('button.chip', { type: 'button', onclick: () => open(id), title: plain(id, 200) }, icon(id), h('span.name', null, nameOf(id)), ...more);
+export const chip = (id, open, ...more) => h('button.chip', { type: 'button', onclick: () => open(id), title: plain(id, 200) }, icon(id),
+  h('span.name', null, nameOf(id)), ...more);
 /** A mark of one letter, with what it does. */
 export const mark = (sign, label, onclick, more = {}) => h('button.x', { type: 'button', title: label, 'aria-label': label, onclick, ...more }, sign);
 

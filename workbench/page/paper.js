@@ -21,15 +21,23 @@ export function settleTyping() {
   if (area && area.value !== S.script) become(area.value);
 }
 
+/** Whether something is typed that doesn't count yet. */
+export const isTyping = () => typing !== null;
+
 export function scriptView() {
   const refused = [...S.refused];
-  return h('div.script', { key: 'script' }, h('div.cardhead', null, files(), h('small.dim', null, `${linesOf(S.script).length} lines`), refused.length > 0 && h('small.bad', null, `✗ ${refused.length} refused`), h('span.grow'),
-    h('button.quiet', { type: 'button', title: 'One HTML page with all that the script asked, to keep or to send', onclick: exportPage }, 'Save as page'), h('button.tool', { type: 'button', title: 'Close (e)', 'aria-label': 'Close the script', onclick: () => side('script') }, '×')),
-  paper(), refused.length > 0 && h('div.problems', { role: 'region', 'aria-label': 'Refused lines', tabindex: '0' }, refused.slice(0, MOST_TOLD).map(([n]) => problem(n))));
+  return h('div.script', { key: 'script' }, h('div.cardhead', null, files(), h('small.dim', null, `${linesOf(S.script).length} lines`),
+    refused.length > 0 && h('small.bad', null, `✗ ${refused.length} refused`), h('span.grow'),
+    h('button.quiet', { type: 'button', title: 'One HTML page with all that the script asked, to keep or to send', onclick: exportPage },
+      'Save as page'), h('button.tool', { type: 'button', title: 'Close (e)', 'aria-label': 'Close the script', onclick: () => side('script') },
+      '×')),
+  paper(), refused.length > 0 && h('div.problems', { role: 'region', 'aria-label': 'Refused lines', tabindex: '0' },
+    refused.slice(0, MOST_TOLD).map(([n]) => problem(n))));
 }
 function problem(n) {
   const { line: at, why, cures } = curesOfLine(n);
-  return h('div.problem', { key: n }, h('button.link', { type: 'button', title: 'Go there', onclick: () => goTo(at) }, `Line ${at}`), h('span.why', null, why),
+  return h('div.problem', { key: n }, h('button.link', { type: 'button', title: 'Go there', onclick: () => goTo(at) }, `Line ${at}`),
+    h('span.why', null, why),
     h('span.tips', null, cures.map(c => h('button.tip', { type: 'button', key: c.text, onclick: c.act }, c.id ? icon(c.id) : '', c.text))));
 }
 function goTo(n) {
@@ -48,22 +56,33 @@ function files() {
       leave();
       try { await newFile(it.name.trim(), it.copy ? S.script : ''); } catch (fault) { toast(fault.message, { bad: true }); }
     };
-    return [h('h3', null, 'A new script'), field('Name', { type: 'text', 'data-key': 'new name', maxLength: 90, oninput: x => { it.name = x.target.value; } }), field('A copy of this one', { type: 'checkbox', onchange: x => { it.copy = x.target.checked; } }), h('div.acts', null, h('button.main', { type: 'button', onclick: finish }, 'Make it'))];
+    return [h('h3', null, 'A new script'), field('Name',
+      { type: 'text', 'data-key': 'new name', maxLength: 90, oninput: x => { it.name = x.target.value; } }),
+      field('A copy of this one', { type: 'checkbox', onchange: x => { it.copy = x.target.checked; } }),
+      h('div.acts', null, h('button.main', { type: 'button', onclick: finish }, 'Make it'))];
   });
-  return [h('select.files', { key: 'files', 'aria-label': 'The script of the folder', 'data-key': 'files', onchange: e => { settleTyping(); openFile(e.target.value).catch(fault => toast(fault.message, { bad: true })); } },
-    S.files.map(name => h('option', { key: name, value: name, selected: name === S.file }, plain(name)))), h('button.quiet', { type: 'button', key: 'new', 'data-key': 'new', title: 'A new script in this folder', 'aria-label': 'A new script', onclick: make }, '+')];
+  return [h('select.files', { key: 'files', 'aria-label': 'The script of the folder', 'data-key': 'files', onchange: e => { settleTyping();
+    openFile(e.target.value).catch(fault => toast(fault.message, { bad: true })); } },
+    S.files.map(name => h('option', { key: name, value: name, selected: name === S.file }, plain(name)))),
+      h('button.quiet', { type: 'button', key: 'new', 'data-key': 'new', title: 'A new script in this folder', 'aria-label': 'A new script',
+      onclick: make }, '+')];
 }
 
 function paper() {
-  const onscroll = e => { for (const it of e.target.parentNode.querySelectorAll('.marks, .gutter')) it.scrollTop = e.target.scrollTop; e.target.parentNode.querySelector('.marks').scrollLeft = e.target.scrollLeft; };
+  const onscroll = e => { for (const it of e.target.parentNode.querySelectorAll('.marks, .gutter')) it.scrollTop = e.target.scrollTop;
+    e.target.parentNode.querySelector('.marks').scrollLeft = e.target.scrollLeft; };
   const oninput = () => { clearTimeout(typing); typing = setTimeout(settleTyping, WAIT); show(); };
-  const area = document.querySelector('.paper textarea'), text = typing !== null && area ? area.value : S.script, all = text.split('\n').slice(0, MOST_MARKS), old = linesOf(S.script);
+  const area = document.querySelector('.paper textarea'), text = typing !== null && area ? area.value : S.script,
+    all = text.split('\n').slice(0, MOST_MARKS), old = linesOf(S.script);
   // (a mark stands only at a line that is still the one that was refused)
   const told = (l, i) => { const words = S.refused.get(i + 1); return words && old[i] === l ? curesOfLine(i + 1).why : null; };
   const marks = all.map(told);
-  return h('div.paper', null, h('div.gutter', { 'aria-hidden': 'true' }, all.map((_, i) => h('div' + (marks[i] ? '.bad' : ''), null, marks[i] ? '✗ ' : '', i + 1))),
-    h('div.marks', { 'aria-hidden': 'true' }, all.map((l, i) => h('div' + (marks[i] ? '.bad' : ''), null, marks[i] ? [h('span', null, plain(l, 500)), h('b', null, marks[i])] : ''))),
-    h('textarea', { spellcheck: false, 'aria-label': `The script ${plain(S.file)}`, 'aria-invalid': String(S.refused.size > 0), 'data-key': 'script', wrap: 'off', onscroll, oninput, onblur: settleTyping,
+  return h('div.paper', null, h('div.gutter', { 'aria-hidden': 'true' },
+    all.map((_, i) => h('div' + (marks[i] ? '.bad' : ''), null, marks[i] ? '✗ ' : '', i + 1))),
+    h('div.marks', { 'aria-hidden': 'true' },
+      all.map((l, i) => h('div' + (marks[i] ? '.bad' : ''), null, marks[i] ? [h('span', null, plain(l, 500)), h('b', null, marks[i])] : ''))),
+    h('textarea', { spellcheck: false, 'aria-label': `The script ${plain(S.file)}`, 'aria-invalid': String(S.refused.size > 0), 'data-key': 'script',
+      wrap: 'off', onscroll, oninput, onblur: settleTyping,
       drawn: it => { if (typing === null && it.value !== S.script) it.value = S.script; } }));
 }
 
@@ -72,7 +91,8 @@ async function exportPage() {
   await run();
   const solves = [...S.model.tables.keys()].map(t => line('solve', t)).join('\n');
   try {
-    const out = await call('page', { script: S.script + (S.script.endsWith('\n') || !S.script ? '' : '\n') + (S.model.open ? 'cancel\n' : '') + solves + '\n' });
+    const out = await call('page',
+      { script: S.script + (S.script.endsWith('\n') || !S.script ? '' : '\n') + (S.model.open ? 'cancel\n' : '') + solves + '\n' });
     if (!out.text) return toast(`No page: ${out.said}`, { bad: true });
     download(`${fileName(S.file.replace(/\.txt$/, ''))}.html`, out.text, 'text/html');
     toast('The page is in your downloads.');

@@ -44,13 +44,18 @@ export function pick(anchor, { options, current, none, hint = 'Type to search', 
     shown = found([...byId.keys()], query, MOST_SHOWN).map(id => byId.get(id));
     if (none && !query) shown.unshift({ id: null, text: none });
   };
-  const option = (o, i) => h('div.option' + (i === at ? '.at' : ''), { key: `${o.id}`, id: 'option-' + i, role: 'option', 'aria-selected': String(i === at), title: o.id ? plain(o.id, 200) : '',
+  const option = (o, i) => h('div.option' + (i === at ? '.at' : ''), { key: `${o.id}`, id: 'option-' + i, role: 'option',
+    'aria-selected': String(i === at), title: o.id ? plain(o.id, 200) : '',
     onclick: () => choose(o), onmousemove: () => { if (at !== i) { at = i; paint(); } } },
-  o.id ? icon(o.id) : h('span.icon', { 'aria-hidden': 'true' }), h('span.name', null, o.text || nameOf(o.id)), o.note && h('small', null, o.note), o.id === current && current && h('small.now', null, '✓ now'));
-  const field = () => h('input.find', { type: 'search', role: 'combobox', 'aria-expanded': 'true', 'aria-controls': 'options', 'aria-autocomplete': 'list', 'aria-label': hint, placeholder: hint, autocomplete: 'off',
-    spellcheck: false, 'aria-activedescendant': at < 0 ? null : 'option-' + at, oninput: e => { query = e.target.value; at = 0; filter(); paint(); } });
+  o.id ? icon(o.id) : h('span.icon', { 'aria-hidden': 'true' }), h('span.name', null, o.text || nameOf(o.id)), o.note && h('small', null, o.note),
+    o.id === current && current && h('small.now', null, '✓ now'));
+  const field = () => h('input.find', { type: 'search', role: 'combobox', 'aria-expanded': 'true', 'aria-controls': 'options',
+    'aria-autocomplete': 'list', 'aria-label': hint, placeholder: hint, autocomplete: 'off',
+    spellcheck: false, 'aria-activedescendant': at < 0 ? null : 'option-' + at, oninput: e => { query = e.target.value; at = 0; filter(); paint();
+      } });
   const paint = () => {
-    draw(box, [field(), h('div.options', { role: 'listbox', id: 'options', 'aria-label': hint }, shown.map(option)), !shown.length && h('div.hint', null, 'Nothing of that name')]);
+    draw(box, [field(), h('div.options', { role: 'listbox', id: 'options', 'aria-label': hint }, shown.map(option)),
+      !shown.length && h('div.hint', null, 'Nothing of that name')]);
     box.querySelector('.option.at')?.scrollIntoView({ block: 'nearest' });
   };
   box.onkeydown = e => {
@@ -76,7 +81,8 @@ export function form(anchor, label, fill) {
   box.onkeydown = e => {
     if (e.key === 'Escape') leave();
     else if (e.key === 'Tab') {
-      const all = [...box.querySelectorAll('input,select,button')], i = all.indexOf(document.activeElement), next = all[(i + (e.shiftKey ? all.length - 1 : 1)) % all.length];
+      const all = [...box.querySelectorAll('input,select,button')], i = all.indexOf(document.activeElement),
+        next = all[(i + (e.shiftKey ? all.length - 1 : 1)) % all.length];
       next?.focus();
     } else return;
     e.preventDefault();
@@ -99,7 +105,8 @@ export function edit(text, { label, done, key, wide = false, per = 1 }) {
     it.setAttribute('aria-invalid', String(bad));
     if (!bad && it.value !== shown) done(x.over(per));
   };
-  return h('input.edit' + (wide ? '.broad' : '') + (text === '0' ? '.zero' : ''), { key, value: shown, title: exact ? `exactly ${exact.times(per)}` : '', inputMode: 'decimal', 'aria-label': label,
+  return h('input.edit' + (wide ? '.broad' : '') + (text === '0' ? '.zero' : ''),
+    { key, value: shown, title: exact ? `exactly ${exact.times(per)}` : '', inputMode: 'decimal', 'aria-label': label,
     'data-key': key, autocomplete: 'off', onchange: finish, onfocus: e => e.target.select(),
     onkeydown: e => { if (e.key === 'Enter') e.target.blur(); if (e.key === 'Escape') { e.target.value = shown; e.target.blur(); } } });
 }

@@ -12,7 +12,8 @@ export function planOf(text) {
   const reply = readReply(text);
   if (!reply) return null;
   const [head, ...rest] = reply;
-  const plan = { kind: head[0], words: head, rows: new Map(), imports: new Map(), surpluses: new Map(), prices: new Map(), flows: new Map(), build: [] };
+  const plan = { kind: head[0], words: head, rows: new Map(), imports: new Map(), surpluses: new Map(), prices: new Map(), flows: new Map(),
+    build: [] };
   if (plan.kind === 'refused') return { ...plan, trail: rest };
   if (plan.kind === 'plan') plan.cost = Frac.of(head[3]);
   const flowOf = label => {
@@ -38,7 +39,8 @@ export function planOf(text) {
 export function rateOf(text) {
   const [head, ...rest] = readReply(text) || [[]];
   if (head[0] !== 'rate') return null;
-  return { ...Object.fromEntries(head.slice(3).flatMap((w, i, all) => i % 2 ? [] : [[w, all[i + 1]]])), floors: rest.filter(w => w[0] === 'floor').map(w => w[1]).join(', ') };
+  return { ...Object.fromEntries(head.slice(3).flatMap((w, i, all) => i % 2 ? [] : [[w, all[i + 1]]])),
+    floors: rest.filter(w => w[0] === 'floor').map(w => w[1]).join(', ') };
 }
 
 /** What a refusal means, in words. */

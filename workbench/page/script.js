@@ -18,12 +18,15 @@ export function word(text) {
 }
 export const line = (...words) => words.map(w => word(`${w}`)).join(' ');
 
-export function linesOf(text) {
+// (a text is looked at again and again, so what was found of the last one is kept)
+const once = how => { let last, found; return text => { if (text !== last) [last, found] = [text, how(text)]; return found; }; };
+/** The lines of a script, not to be changed. */
+export const linesOf = once(text => {
   const all = text.split('\n');
   if (all.at(-1) === '') all.pop();
   return all;
-}
-const commandsOf = text => linesOf(text).map(l => /^[ \t]*#/.test(l) ? [] : wordsOf(l.replace(/\r$/, '')) || []);
+});
+const commandsOf = once(text => linesOf(text).map(l => /^[ \t]*#/.test(l) ? [] : wordsOf(l.replace(/\r$/, '')) || []));
 
 const EDITS = new Set(['grant', 'revoke', 'forbid', 'permit', 'milestone', 'unmilestone', 'ingredient', 'product', 'unlock', 'time', 'enabled',
   'table', 'untable', 'row', 'unrow', 'price', 'want', 'import', 'surplus', 'power']);

@@ -82,7 +82,8 @@ export function run(save = true) {
     try {
       do { again = false; await once(save); save = true; } while (again);
     } catch (fault) {
-      toast(fault.status === 403 ? 'This page needs the whole address that the workbench printed.' : `No answer: ${fault.message}`, { bad: true, act: ['Try again', () => run()] });
+      toast(fault.status === 403 ? 'This page needs the whole address that the workbench printed.' : `No answer: ${fault.message}`,
+        { bad: true, act: ['Try again', () => run()] });
     } finally {
       running = null;
       S.busy = false;
@@ -107,7 +108,8 @@ async function once(save) {
   take(text, out, shown);
   const ranksOf = gameLines();
   if (S.ranksOf !== ranksOf || S.catalogOf !== editLines()) await readGame(text, ranksOf);
-  if (S.route.startsWith('table:') && !tableShown()) { S.route = S.model.tables.size ? 'table:' + [...S.model.tables.keys()][0] : 'wish'; again = S.model.tables.size > 0; }
+  if (S.route.startsWith('table:') && !tableShown()) { S.route = S.model.tables.size ? 'table:' + [...S.model.tables.keys()][0] : 'wish';
+    again = S.model.tables.size > 0; }
   S.busy = false;
   show();
   drawnWithin(out.at);
@@ -240,7 +242,8 @@ export async function newFile(name, text) {
   return openFile(file);
 }
 export function begin(it) {
-  Object.assign(S, { file: it.file, files: it.files, script: it.script, saved: it.script, version: it.version, refused: new Map(), plans: new Map(), rates: new Map(),
+  Object.assign(S, { file: it.file, files: it.files, script: it.script, saved: it.script, version: it.version, refused: new Map(), plans: new Map(),
+    rates: new Map(),
     past: kept('past ' + it.file, []), future: kept('future ' + it.file, []), ranksOf: null, conflict: null });
   S.model = modelOf(S.script);
   keep('file', S.file);

@@ -12,7 +12,8 @@ export function toast(text, { bad = false, act = null } = {}) {
 }
 function clear() { shown = null; paint(); }
 function paint() {
-  draw(document.getElementById('toasts'), shown ? [h('div.toast' + (shown.bad ? '.bad' : ''), { key: shown.text }, h('span', null, shown.bad ? '⚠ ' : '', shown.text),
+  draw(document.getElementById('toasts'), shown
+    ? [h('div.toast' + (shown.bad ? '.bad' : ''), { key: shown.text }, h('span', null, shown.bad ? '⚠ ' : '', shown.text),
     shown.act && h('button', { onclick: () => { const [, how] = shown.act; clear(); how(); } }, shown.act[0]),
     h('button', { title: 'Close', 'aria-label': 'Close the message', onclick: clear }, '×'))] : []);
 }

@@ -19,33 +19,63 @@ const set = (key, value) => { wish[key] = value; show(); };
 const those = test => () => game.ids.filter(id => isReached(id) && test(get(id)));
 
 export function wishView() {
-  const goods = () => game.ids.filter(id => (isGood(id) || kindOf(id) === 'tech' || id === 'special:electricity') && isReached(id)).map(id => ({ id, note: kindOf(id) === 'tech' ? 'research' : '' }));
+  const goods = () => game.ids.filter(id => (isGood(id) || kindOf(id) === 'tech' || id === 'special:electricity')
+    && isReached(id)).map(id => ({ id, note: kindOf(id) === 'tech' ? 'research' : '' }));
   return h('form.wish', { key: 'wish', onsubmit: e => { e.preventDefault(); makeWish(); } }, h('h1', null, 'What do you wish for?'),
-    h('div.sentence', null, h('input.amount', { value: wish.amount, 'data-key': 'wish amount', inputMode: 'decimal', 'aria-label': 'How much', oninput: e => set('amount', e.target.value) }), h('span.dim', null, unitOf(wish.good)),
-      h('button.choose', { type: 'button', id: 'good', 'data-key': 'wish good', 'aria-haspopup': 'dialog', onclick: e => pick(e.currentTarget, { options: goods(), current: wish.good, hint: 'An item, a fluid, a technology, electricity', done: id => set('good', id) }) }, wish.good ? [icon(wish.good), h('span.name', null, nameOf(wish.good))] : h('span.dim', null, 'choose a good …')),
+    h('div.sentence', null, h('input.amount', { value: wish.amount, 'data-key': 'wish amount', inputMode: 'decimal', 'aria-label': 'How much',
+      oninput: e => set('amount', e.target.value) }), h('span.dim', null, unitOf(wish.good)),
+      h('button.choose', { type: 'button', id: 'good', 'data-key': 'wish good', 'aria-haspopup': 'dialog',
+        onclick: e => pick(e.currentTarget, { options: goods(), current: wish.good, hint: 'An item, a fluid, a technology, electricity',
+        done: id => set('good', id) }) }, wish.good ? [icon(wish.good), h('span.name', null, nameOf(wish.good))] : h('span.dim', null,
+        'choose a good …')),
       h('button.main', { type: 'submit', id: 'make', disabled: !wish.good }, 'Plan it')),
     wish.said && refusedView(), options(),
-    h('div.quick', null, h('span.dim', null, 'Or one of'), game.packs.filter(isReached).map(id => h('button.chip', { type: 'button', key: id, onclick: () => set('good', id) }, icon(id), h('span.name', null, nameOf(id))))),
-    game.packs.some(isReached) && h('p.dim.note', null, 'Or ', h('button.link', { type: 'button', id: 'science', onclick: allScience }, 'all of them at once'), ', ', wish.amount, ' ', PER[look.per], ' each.'));
+    h('div.quick', null, h('span.dim', null, 'Or one of'),
+      game.packs.filter(isReached).map(id => h('button.chip', { type: 'button', key: id, onclick: () => set('good', id) }, icon(id),
+      h('span.name', null, nameOf(id))))),
+    game.packs.some(isReached) && h('p.dim.note', null, 'Or ',
+      h('button.link', { type: 'button', id: 'science', onclick: allScience }, 'all of them at once'), ', ', wish.amount, ' ', PER[look.per],
+      ' each.'));
 }
 function refusedView() {
   const goods = [...new Set(wish.words)].filter(id => game.at.has(id) && isGood(id)).slice(0, 12);
-  return h('div.verdict.bad', { role: 'alert' }, h('div', null, h('b', null, '✗ '), wish.said), goods.length > 0 && h('div.tips', null, 'Bring in instead of making:', goods.map(id => h('button.tip', { type: 'button', key: id, onclick: () => { wish.imports = [...new Set([...wish.imports, id])]; makeWish(); } }, icon(id), nameOf(id)))));
+  return h('div.verdict.bad', { role: 'alert' }, h('div', null, h('b', null, '✗ '), wish.said),
+    goods.length > 0 && h('div.tips', null, 'Bring in instead of making:',
+    goods.map(id => h('button.tip', { type: 'button', key: id, onclick: () => { wish.imports = [...new Set([...wish.imports, id])]; makeWish(); } },
+    icon(id), nameOf(id)))));
 }
 function options() {
-  const tick = (text, key, note) => h('label.check', { title: note }, h('input', { type: 'checkbox', checked: wish[key], 'data-key': 'wish ' + key, onchange: e => set(key, e.target.checked) }), text);
-  const one = (text, key, all, hint) => h('div.opt', null, h('span.dim', null, text), h('button.chip', { type: 'button', 'aria-label': `${text}: ${wish[key] ? nameOf(wish[key]) : 'none'}`, 'data-key': 'wish ' + key, onclick: e => pick(e.currentTarget, { options: all(), current: wish[key], none: 'None', hint, done: id => set(key, id) }) }, wish[key] ? [icon(wish[key]), h('span.name', null, nameOf(wish[key]))] : 'none'));
-  const many = (text, key, all, hint) => h('div.opt', null, h('span.dim', null, text), wish[key].map(id => h('span.held', { key: id }, chip(id, open), mark('×', `${text}: not ${nameOf(id)}`, () => set(key, wish[key].filter(x => x !== id))))),
-    h('button.quiet', { type: 'button', key: '+', title: hint, 'aria-label': `${text}: one more`, 'data-key': 'wish ' + key, onclick: e => pick(e.currentTarget, { options: all(), hint, done: id => wish[key].includes(id) || set(key, [...wish[key], id]) }) }, '+'));
-  return h('div.opts', null, tick('Mine what it takes', 'dig', 'Drills are rows, instead of ore that comes in'), tick('Make the power', 'power', 'Power plants are rows'), many('Machines first', 'by', those(m => ['crafter', 'drill', 'lab'].includes(m.kind)), 'A machine to take before faster ones'),
-    one('Modules', 'module', those(m => m.module), 'Fills each machine that takes it'), beaconOption(), one('Fuel', 'fuel', those(m => m.fuel && kindOf(m.id) === 'item'), 'The fuel of each burner that takes it'), many('Bring in', 'imports', those(m => isGood(m.id)), 'A good that isn’t made here'));
+  const tick = (text, key, note) => h('label.check', { title: note },
+    h('input', { type: 'checkbox', checked: wish[key], 'data-key': 'wish ' + key, onchange: e => set(key, e.target.checked) }), text);
+  const one = (text, key, all, hint) => h('div.opt', null, h('span.dim', null, text),
+    h('button.chip', { type: 'button', 'aria-label': `${text}: ${wish[key] ? nameOf(wish[key]) : 'none'}`, 'data-key': 'wish ' + key,
+    onclick: e => pick(e.currentTarget, { options: all(), current: wish[key], none: 'None', hint, done: id => set(key, id) }) },
+    wish[key] ? [icon(wish[key]), h('span.name', null, nameOf(wish[key]))] : 'none'));
+  const many = (text, key, all, hint) => h('div.opt', null, h('span.dim', null, text),
+    wish[key].map(id => h('span.held', { key: id }, chip(id, open), mark('×', `${text}: not ${nameOf(id)}`,
+    () => set(key, wish[key].filter(x => x !== id))))),
+    h('button.quiet', { type: 'button', key: '+', title: hint, 'aria-label': `${text}: one more`, 'data-key': 'wish ' + key,
+    onclick: e => pick(e.currentTarget, { options: all(), hint, done: id => wish[key].includes(id) || set(key, [...wish[key], id]) }) }, '+'));
+  return h('div.opts', null, tick('Mine what it takes', 'dig', 'Drills are rows, instead of ore that comes in'),
+    tick('Make the power', 'power', 'Power plants are rows'), many('Machines first', 'by', those(m => ['crafter', 'drill', 'lab'].includes(m.kind)),
+    'A machine to take before faster ones'),
+    one('Modules', 'module', those(m => m.module), 'Fills each machine that takes it'), beaconOption(),
+      one('Fuel', 'fuel', those(m => m.fuel && kindOf(m.id) === 'item'), 'The fuel of each burner that takes it'),
+      many('Bring in', 'imports', those(m => isGood(m.id)), 'A good that isn’t made here'));
 }
 function beaconOption() {
   const b = wish.beacon, [first] = those(m => m.kind === 'beacon')();
   if (!b && !first) return null;
-  const number = (key, label) => h('input.edit', { type: 'number', min: 1, max: 65535, value: b[key], 'aria-label': label, 'data-key': 'beacon ' + key, oninput: e => { b[key] = e.target.value; } });
-  const start = () => set('beacon', { by: first, count: 8, share: 4, module: (get(first).modules || []).filter(isReached).at(-1) || get(first).modules?.[0] });
-  return h('div.opt', null, h('span.dim', null, 'Beacons'), b ? [number('count', 'How many beacons'), ' shared by ', number('share', 'Shared by how many machines'), ' of ', h('button.chip', { type: 'button', 'data-key': 'beacon module', onclick: e => pick(e.currentTarget, { options: get(b.by).modules || [], hint: 'Full of', done: id => { b.module = id; show(); } }) }, icon(b.module), h('span.name', null, nameOf(b.module))), mark('×', 'No beacons', () => set('beacon', null))]
+  const number = (key, label) => h('input.edit',
+    { type: 'number', min: 1, max: 65535, value: b[key], 'aria-label': label, 'data-key': 'beacon ' + key, oninput: e => { b[key] = e.target.value;
+    } });
+  const start = () => set('beacon', { by: first, count: 8, share: 4,
+    module: (get(first).modules || []).filter(isReached).at(-1) || get(first).modules?.[0] });
+  return h('div.opt', null, h('span.dim', null, 'Beacons'), b ? [number('count', 'How many beacons'), ' shared by ',
+    number('share', 'Shared by how many machines'), ' of ', h('button.chip',
+    { type: 'button', 'data-key': 'beacon module', onclick: e => pick(e.currentTarget,
+    { options: get(b.by).modules || [], hint: 'Full of', done: id => { b.module = id; show(); } }) }, icon(b.module),
+    h('span.name', null, nameOf(b.module))), mark('×', 'No beacons', () => set('beacon', null))]
     : h('button.quiet', { type: 'button', title: 'Beacons around each machine', 'aria-label': 'Beacons around each machine', onclick: start }, '+'));
 }
 
@@ -66,7 +96,8 @@ function nameFor(base) {
 }
 /** The lines that a wish is answered, without its question; or why there are none, and the goods that are named in that. */
 async function linesFor(words, state = gameLines()) {
-  const out = await call('wish', { file: S.file, script: S.script + (S.model.open ? (S.script.endsWith('\n') ? '' : '\n') + 'cancel\n' : ''), state: state && state + '\n', words });
+  const out = await call('wish', { file: S.file, script: S.script + (S.model.open ? (S.script.endsWith('\n') ? '' : '\n') + 'cancel\n' : ''),
+    state: state && state + '\n', words });
   if (out.lines) return { lines: out.lines.filter(l => !/^solve /.test(l)) };
   const said = (out.said || 'it can’t be had').replace(/factoplan_table: /g, '');
   return { said, status: out.status, words: said.match(/(?:item|fluid|tech):[^\s,;]+/g) || [] };
@@ -87,7 +118,8 @@ async function makeWish() {
   if (!wish.good) return;
   if (!x || x.n <= 0n) { Object.assign(wish, { said: 'The amount must be a number above 0.', words: [] }); return show(); }
   await wishing(async () => {
-    const name = nameFor(rawOf(wish.good)), made = await linesFor(wordsOfWish([[wish.good, wish.good === 'special:electricity' ? x : x.over(look.per)]], name));
+    const name = nameFor(rawOf(wish.good)),
+      made = await linesFor(wordsOfWish([[wish.good, wish.good === 'special:electricity' ? x : x.over(look.per)]], name));
     if (made.said) return made;
     S.route = 'table:' + name;
     change({ add: closed(made.lines) });

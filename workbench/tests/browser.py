@@ -60,7 +60,8 @@ told('.option.at', e => e.getAttribute('aria-selected') === 'true');
 told('[aria-invalid=true].edit', e => getComputedStyle(e).borderStyle === 'dashed');
 return bad;
 """
-ROLES = {"button", "textbox", "searchbox", "combobox", "checkbox", "link", "spinbutton", "option", "listbox", "radio", "tab", "menuitem", "switch", "slider", "dialog", "alertdialog", "region", "group", "navigation", "complementary"}
+ROLES = {"button", "textbox", "searchbox", "combobox", "checkbox", "link", "spinbutton", "option", "listbox", "radio", "tab", "menuitem",
+    "switch", "slider", "dialog", "alertdialog", "region", "group", "navigation", "complementary"}
 
 
 class Browser:
@@ -69,17 +70,20 @@ class Browser:
     def __init__(self, chromium, driver, shots=None, only=None, folder=None):
         options = webdriver.ChromeOptions()
         options.binary_location = chromium
-        for word in ("--headless=new", "--no-sandbox", "--disable-gpu", "--hide-scrollbars", "--disable-dev-shm-usage", "--force-device-scale-factor=1", "--disable-lcd-text", "--lang=en"):
+        for word in ("--headless=new", "--no-sandbox", "--disable-gpu", "--hide-scrollbars", "--disable-dev-shm-usage",
+            "--force-device-scale-factor=1", "--disable-lcd-text", "--lang=en"):
             options.add_argument(word)
         options.set_capability("goog:loggingPrefs", {"browser": "ALL"})
         if folder:
-            options.add_experimental_option("prefs", {"download.default_directory": folder, "profile.default_content_setting_values.automatic_downloads": 1})
+            options.add_experimental_option("prefs", {"download.default_directory": folder,
+                "profile.default_content_setting_values.automatic_downloads": 1})
         self.it, self.shots = webdriver.Chrome(options=options, service=Service(driver)), shots
         self.only = only
         self.size(1280, 900)
 
     def size(self, width, height, theme=None):
-        self.it.execute_cdp_cmd("Emulation.setDeviceMetricsOverride", {"width": width, "height": height, "deviceScaleFactor": 1, "mobile": False})
+        self.it.execute_cdp_cmd("Emulation.setDeviceMetricsOverride",
+            {"width": width, "height": height, "deviceScaleFactor": 1, "mobile": False})
         if theme:
             self.js("document.documentElement.dataset.theme = arguments[0]", theme)
         time.sleep(0.1)
@@ -154,8 +158,10 @@ class Browser:
 
     def nameless(self):
         """How many controls the tree for who can't see the page has, and those without a name."""
-        nodes = [n for n in self.it.execute_cdp_cmd("Accessibility.getFullAXTree", {})["nodes"] if not n.get("ignored") and n.get("role", {}).get("value") in ROLES]
-        return len(nodes), [n["role"]["value"] for n in nodes if not str(n.get("name", {}).get("value", "")).strip() and n["role"]["value"] not in ("group", "region")]
+        nodes = [n for n in self.it.execute_cdp_cmd("Accessibility.getFullAXTree", {})["nodes"] if not n.get("ignored")
+            and n.get("role", {}).get("value") in ROLES]
+        return len(nodes), [n["role"]["value"] for n in nodes if not str(n.get("name", {}).get("value", "")).strip()
+            and n["role"]["value"] not in ("group", "region")]
 
     def overflow(self):
         """By how much the page is wider than the window."""

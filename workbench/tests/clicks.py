@@ -16,7 +16,8 @@ def stacked_dump(folder):
     with open(DUMP) as file:
         dump = json.load(file)
     for name, item in dump["item"].items():
-        item["stack_size"] = 50 if name.endswith("-ore") or name in ("coal", "stone") else 200 if "circuit" in name or "cable" in name else 100
+        item["stack_size"] = 50 if name.endswith("-ore") or name in ("coal",
+            "stone") else 200 if "circuit" in name or "cable" in name else 100
     path = os.path.join(folder, "data-raw-dump.json")
     with open(path, "w") as file:
         json.dump(dump, file)
@@ -64,18 +65,21 @@ def wish(b, bench):
     check("it is saved at once", b"want electronic-circuit item:electronic-circuit 5" in bench.saved(), bench.saved())
     check("the flow chart stands below", len(b.find("svg .card")) == 7 and "900" in b.text("svg .hub"), b.text("svg"))
     check("exact numbers on hover", "exactly 15/2" in b.it.page_source or "15/2 /s" in b.it.page_source)
-    check("belts and stacks beside each flow", "belt" in b.text(".side") and "stack" in b.text(".side") and "belt" in b.text("svg .hub"), b.text(".side"))
+    check("belts and stacks beside each flow", "belt" in b.text(".side") and "stack" in b.text(".side") and "belt" in b.text("svg .hub"),
+        b.text(".side"))
     b.shot("workbench-plan")
 
 
 def changes(b, bench):
     before = bench.saved()
     b.click('[data-key="by electronic-circuit"]')
-    check("only machines that fit are offered", b.text(".picker").count("Assembling machine") == 3 and "furnace" not in b.text(".picker"), b.text(".picker"))
+    check("only machines that fit are offered", b.text(".picker").count("Assembling machine") == 3 and "furnace" not in b.text(".picker"),
+        b.text(".picker"))
     b.click(".option", "Assembling machine 1")
     check("another machine, another plan", machines(b) == "28", machines(b))
     check("the focus is where it was", b.focus() == "by electronic-circuit", b.focus())
-    check("its line is changed in its place", b"recipe:electronic-circuit by machine:assembling-machine-1" in bench.saved() and bench.saved().count(b"\n") == before.count(b"\n"), bench.saved())
+    check("its line is changed in its place", b"recipe:electronic-circuit by machine:assembling-machine-1" in bench.saved()
+        and bench.saved().count(b"\n") == before.count(b"\n"), bench.saved())
     b.chord(Keys.CONTROL, "z")
     check("undo", machines(b) == "25" and bench.saved() == before)
     b.it.refresh()
@@ -105,11 +109,13 @@ def cures(b, bench):
     b.click('[data-key="addwant"]')
     b.pick("iron gear")
     b.click(".tip", "Make Iron gear wheel")
-    check("one more good of the table", b"row electronic-circuit iron-gear-wheel recipe:iron-gear-wheel" in bench.saved() and proved(b), b.text(".verdict"))
+    check("one more good of the table", b"row electronic-circuit iron-gear-wheel recipe:iron-gear-wheel" in bench.saved() and proved(b),
+        b.text(".verdict"))
     b.write('[data-key="want item:iron-gear-wheel"]', "150", Keys.ENTER)
     check("so much of it, exactly", b"want electronic-circuit item:iron-gear-wheel 5/2" in bench.saved(), bench.saved())
     b.write('[data-key="want item:iron-gear-wheel"]', "x", Keys.ENTER)
-    check("what is no number is told, and not written", b.one('[data-key="want item:iron-gear-wheel"]').get_attribute("aria-invalid") == "true" and b"5/2" in bench.saved())
+    check("what is no number is told, and not written",
+        b.one('[data-key="want item:iron-gear-wheel"]').get_attribute("aria-invalid") == "true" and b"5/2" in bench.saved())
     b.write('[data-key="want item:iron-gear-wheel"]', "150", Keys.ENTER)
     folder = b.downloads
     b.click('[data-key="proof"]')
@@ -130,7 +136,8 @@ def exploring(b, bench):
     b.shot("workbench-card")
     b.click('[data-route="explore"]')
     b.write('[data-key="explore"]', "circ")
-    check("the explorer finds while one types", "Electronic circuit" in b.text(".tiles") and "Iron ore" not in b.text(".tiles"), b.text(".tiles"))
+    check("the explorer finds while one types", "Electronic circuit" in b.text(".tiles") and "Iron ore" not in b.text(".tiles"),
+        b.text(".tiles"))
     looked_at(b, "explorer and card")
     b.click('[data-route="what"]')
     b.click("#packs")
@@ -154,12 +161,14 @@ def refusals(b, bench):
     area.send_keys("row electronic-circuit x recipe:plastic-bar by machine:lab\nmilestone item:automation-science-pakc\n")
     time.sleep(0.5)
     b.settle()
-    check("a refused line is marked where it stands", "this machine doesn’t do that" in b.text(".marks") and b.text("#script").strip().endswith("2"), b.text(".marks"))
+    check("a refused line is marked where it stands", "this machine doesn’t do that" in b.text(".marks")
+        and b.text("#script").strip().endswith("2"), b.text(".marks"))
     check("and what one types stays", area.get_attribute("value").endswith("science-pakc\n"))
     b.shot("workbench-script")
     looked_at(b, "script with refused lines")
     b.click(".problem .tip", "By Chemical plant")
-    check("one click mends it", b"x recipe:plastic-bar by machine:chemical-plant" in bench.saved() and "milestone" not in b.text(".problem .why"), bench.saved())
+    check("one click mends it", b"x recipe:plastic-bar by machine:chemical-plant" in bench.saved()
+        and "milestone" not in b.text(".problem .why"), bench.saved())
     b.click(".problem .tip", "Automation science pack instead")
     check("a name that is nearly right is found", b"item:automation-science-pakc" not in bench.saved(), bench.saved())
     b.click(".problem .tip", "Drop the line")
@@ -187,7 +196,8 @@ def conflict(b, bench):
     names = sorted(os.listdir(bench.folder))
     with open(os.path.join(bench.folder, "factory (mine).txt")) as file:
         mine = file.read()
-    check("both texts are kept", names == ["factory (mine).txt", "factory.txt"] and mine.endswith("# mine\n# more of mine\n") and b"# another editor" in bench.saved(), (names, mine))
+    check("both texts are kept", names == ["factory (mine).txt", "factory.txt"] and mine.endswith("# mine\n# more of mine\n")
+        and b"# another editor" in bench.saved(), (names, mine))
     check("theirs is shown", b.one("textarea").get_attribute("value").endswith("# another editor\n"))
     b.click("#undo")
     check("and mine is behind Undo", bench.saved().endswith(b"# more of mine\n"), bench.saved())
@@ -195,7 +205,8 @@ def conflict(b, bench):
     with open(bench.script, "ab") as file:
         file.write(b"# the editor again\n")
     b.js("window.dispatchEvent(new Event('focus'))")
-    check("what an editor wrote is read when the window is looked at", until(lambda: "# the editor again" in b.one("textarea").get_attribute("value")), b.text("#toasts"))
+    check("what an editor wrote is read when the window is looked at",
+        until(lambda: "# the editor again" in b.one("textarea").get_attribute("value")), b.text("#toasts"))
     b.settle()
     # Two tabs.
     first = b.it.current_window_handle
@@ -224,7 +235,8 @@ def several(b, bench):
     b.click('[data-key="new"]')
     b.one('[data-key="new name"]').send_keys("second")
     b.click(".picker .main")
-    check("a second script of the folder", os.path.exists(os.path.join(bench.folder, "second.txt")) and b.one("textarea").get_attribute("value") == "", os.listdir(bench.folder))
+    check("a second script of the folder", os.path.exists(os.path.join(bench.folder, "second.txt"))
+        and b.one("textarea").get_attribute("value") == "", os.listdir(bench.folder))
     check("and the way back", "factory.txt" in b.text(".files"))
     b.js("const s = document.querySelector('.files'); s.value = 'factory.txt'; s.dispatchEvent(new Event('change'))")
     check("where all is as it was", until(lambda: "electronic-circuit" in b.one("textarea").get_attribute("value")))
@@ -280,7 +292,8 @@ def science(b, bench):
     b.write(".amount", "45")
     looked_at(b, "wish")
     b.click("#science")
-    check("all of science in one table", "science" in b.text(".tab.now") and b.text(".verdict").count("machines") == 1, b.text("main")[:600])
+    check("all of science in one table", "science" in b.text(".tab.now") and b.text(".verdict").count("machines") == 1,
+        b.text("main")[:600])
     b.shot("workbench-science")
 
 

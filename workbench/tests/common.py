@@ -35,7 +35,8 @@ class Bench:
         if text is not None:
             with open(self.script, "wb") as file:
                 file.write(text)
-        self.process = subprocess.Popen([sys.executable, os.path.join(server, "workbench.py"), dump, self.script, "--programs", programs, "--no-browser", *more],
+        self.process = subprocess.Popen([sys.executable, os.path.join(server, "workbench.py"), dump, self.script, "--programs", programs,
+            "--no-browser", *more],
                                         stdout=subprocess.PIPE, stderr=subprocess.PIPE, universal_newlines=True, env=env)
         self.url = self.process.stdout.readline().strip()
         if not self.url:

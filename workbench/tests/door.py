@@ -1,10 +1,15 @@
 """Requests of others: each must be refused, and what the page may ask is limited."""
+import base64
+import json
 import os
 import socket
+import tempfile
 import threading
 import time
 
 from common import DUMP, TOP, Bench, check, programs_that
+
+PICTURE = base64.b64decode("iVBORw0KGgoAAAANSUhEUgAAAAEAAAABCAYAAAAfFcSJAAAADUlEQVR42mNk+M9QDwADhgGAWjR9awAAAABJRU5ErkJggg==")
 
 
 def address(programs):
@@ -25,9 +30,11 @@ def token(programs):
     with Bench(programs) as bench:
         ours = bench.headers()
         check("a request of the page itself", bench.ask("POST", "/api/version", b'{"file":"factory.txt"}', ours)[0] == 200)
-        for what, given in [("no token", None), ("another token", "x" * 32), ("the token and more", bench.token + "x"), ("an empty token", "")]:
+        for what, given in [("no token", None), ("another token", "x" * 32), ("the token and more", bench.token + "x"),
+            ("an empty token", "")]:
             check("no answer with " + what, bench.ask("POST", "/api/version", b"{}", bench.headers(X_Workbench_Token=given))[0] == 403)
-        check("the token isn't in what is given out", all(bench.token.encode() not in bench.ask("GET", p)[2] for p in ("/", "/app.js", "/calls.js")))
+        check("the token isn't in what is given out",
+            all(bench.token.encode() not in bench.ask("GET", p)[2] for p in ("/", "/app.js", "/calls.js")))
         with Bench(programs) as other:
             check("each run has a token of its own", other.token != bench.token and len(bench.token) >= 32)
 
@@ -35,8 +42,10 @@ def token(programs):
 def host(programs):
     """A name of others that leads to this address (DNS rebinding) is refused."""
     with Bench(programs) as bench:
-        for name in ("evil.example:%d" % bench.port, "127.0.0.1", "127.0.0.1:1", "[::1]:%d" % bench.port, "127.0.0.1.evil.example:%d" % bench.port):
-            check("no answer to the name " + name.replace(str(bench.port), "PORT"), bench.ask("POST", "/api/version", b"{}", bench.headers(Host=name))[0] == 403)
+        for name in ("evil.example:%d" % bench.port, "127.0.0.1", "127.0.0.1:1", "[::1]:%d" % bench.port,
+            "127.0.0.1.evil.example:%d" % bench.port):
+            check("no answer to the name " + name.replace(str(bench.port), "PORT"),
+                bench.ask("POST", "/api/version", b"{}", bench.headers(Host=name))[0] == 403)
             check("no page to the name " + name.replace(str(bench.port), "PORT"), bench.ask("GET", "/", None, {"Host": name})[0] == 403)
         check("no answer without a name", bench.ask("GET", "/", None, {"X": "y"})[0] in (400, 403))
 
@@ -44,26 +53,31 @@ def host(programs):
 def origin(programs):
     """A page of another site is refused."""
     with Bench(programs) as bench:
-        for what, changes in [("another site", {"Origin": "http://evil.example"}), ("another port", {"Origin": "http://127.0.0.1:1"}), ("nobody", {"Origin": "null"}), ("no origin", {"Origin": None}),
+        for what, changes in [("another site", {"Origin": "http://evil.example"}), ("another port", {"Origin": "http://127.0.0.1:1"}),
+            ("nobody", {"Origin": "null"}), ("no origin", {"Origin": None}),
                               ("a site across", {"Sec_Fetch_Site": "cross-site"}), ("the same site", {"Sec_Fetch_Site": "same-site"})]:
             check("no answer to a page of " + what, bench.ask("POST", "/api/version", b"{}", bench.headers(**changes))[0] == 403)
         check("no page in another's", bench.ask("GET", "/", None, {"Host": bench.here, "Sec-Fetch-Site": "cross-site"})[0] == 403)
         headers = bench.ask("GET", "/")[1]
         check("no page may show it in a frame, and it loads nothing of others",
-              "default-src 'none'; script-src 'self'" in headers["Content-Security-Policy"] and "frame-ancestors 'none'" in headers["Content-Security-Policy"])
+              "default-src 'none'; script-src 'self'" in headers["Content-Security-Policy"]
+                  and "frame-ancestors 'none'" in headers["Content-Security-Policy"])
         check("nobody guesses kinds", headers["X-Content-Type-Options"] == "nosniff" and headers["Referrer-Policy"] == "no-referrer")
-        check("no answer lets others read", "Access-Control-Allow-Origin" not in headers and bench.ask("OPTIONS", "/api/run", None, bench.headers())[0] == 501)
+        check("no answer lets others read", "Access-Control-Allow-Origin" not in headers and bench.ask("OPTIONS", "/api/run", None,
+            bench.headers())[0] == 501)
 
 
 def kinds(programs):
     """Only JSON is taken: a form of another page can't send it without asking first."""
     with Bench(programs) as bench:
         for kind in ("application/x-www-form-urlencoded", "text/plain", "multipart/form-data", "application/json; charset=x", None):
-            check("no answer to %s" % kind, bench.ask("POST", "/api/version", b'{"file":"factory.txt"}', bench.headers(Content_Type=kind))[0] == 415)
+            check("no answer to %s" % kind, bench.ask("POST", "/api/version", b'{"file":"factory.txt"}',
+                bench.headers(Content_Type=kind))[0] == 415)
         check("no answer to what is no JSON", bench.ask("POST", "/api/version", b"{", bench.headers())[0] == 400)
         check("no answer to a list", bench.ask("POST", "/api/version", b"[]", bench.headers())[0] == 400)
         check("no answer to very deep JSON", bench.ask("POST", "/api/version", b"[" * 200000, bench.headers())[0] == 400)
-        check("no answer to lines of no length", bench.ask("POST", "/api/version", b"", bench.headers(Transfer_Encoding="chunked", Content_Length="0"))[0] == 415)
+        check("no answer to lines of no length", bench.ask("POST", "/api/version", b"",
+            bench.headers(Transfer_Encoding="chunked", Content_Length="0"))[0] == 415)
 
 
 def paths(programs):
@@ -72,20 +86,47 @@ def paths(programs):
         secret.write("{}")
         os.symlink(DUMP, os.path.join(bench.folder, "link.txt"))
         os.mkdir(os.path.join(bench.folder, "folder.txt"))
-        for path in ("/../workbench.py", "/workbench.py", "/page/app.js", "/..%2fworkbench.py", "//etc/passwd", "/picture/x/item/a", "/picture/%s/item/..%%2f..%%2fetc" % bench.token, "/picture/%s/../item/a" % bench.token,
+        for path in ("/../workbench.py", "/workbench.py", "/page/app.js", "/..%2fworkbench.py", "//etc/passwd", "/picture/x/item/a",
+            "/picture/%s/item/..%%2f..%%2fetc" % bench.token, "/picture/%s/../item/a" % bench.token,
                      "/api/version", "/app.js/../../server.py"):
             check("nothing at " + path.replace(bench.token, "TOKEN"), bench.ask("GET", path)[0] == 404)
-        for name in ("../x.txt", "/etc/passwd", "a/b.txt", "..", ".x.txt", "secret.json", "link.txt", "folder.txt", "x\0.txt", "x\n.txt", "a" * 101 + ".txt", ""):
+        for name in ("../x.txt", "/etc/passwd", "a/b.txt", "..", ".x.txt", "secret.json", "link.txt", "folder.txt", "x\0.txt", "x\n.txt",
+            "a" * 101 + ".txt", ""):
             for call in ("read", "run", "create", "version"):
                 status, reply = bench.call(call, file=name, script="", version="", ask=[])
                 check("no %s of a file %r" % (call, name[:20]), status in (400, 404), (status, reply))
-        check("and nothing was written", sorted(os.listdir(bench.folder)) == ["factory.txt", "folder.txt", "link.txt", "secret.json"], os.listdir(bench.folder))
+        check("and nothing was written", sorted(os.listdir(bench.folder)) == ["factory.txt", "folder.txt", "link.txt", "secret.json"],
+            os.listdir(bench.folder))
         for call in ("do_run", "end", "session", "__init__", "text", "nothing"):
             check("no call of %s" % call, bench.ask("POST", "/api/" + call, b"{}", bench.headers())[0] == 404)
-        for words in (["item:coal", "1", "--script", "/etc/passwd"], ["--into"], ["--table", "--script"], ["--help"], ["-x"], ["--script=/etc/passwd"], "x", [1]):
+        for words in (["item:coal", "1", "--script", "/etc/passwd"], ["--into"], ["--table", "--script"], ["--help"], ["-x"],
+            ["--script=/etc/passwd"], "x", [1]):
             check("no wish with %r" % (words,), bench.call("wish", file="factory.txt", script="", state="", words=words)[0] == 400)
         for question in ("grant item:coal", "undo", "table u", "?state\nundo", " undo", "quiet on", "batch", "", "?nothing", "\"undo\""):
             check("%r is no question" % question, bench.run("table t\n", [question])[0] == 400)
+
+
+def pictures(programs):
+    """Pictures and names of the game's folder, and nothing beside it."""
+    with tempfile.TemporaryDirectory() as room:
+        output = os.path.join(room, "script-output")
+        os.makedirs(os.path.join(output, "item"))
+        for path, data in [("item/iron-plate.png", PICTURE), ("../secret.png", b"secret"),
+            ("item-locale.json", json.dumps({"names": {"iron-plate": "Plaque de fer", "odd": 1}}).encode()), ("fluid-locale.json", b"[1")]:
+            with open(os.path.join(output, path), "wb") as file:
+                file.write(data)
+        os.symlink(os.path.join(room, "secret.png"), os.path.join(output, "item", "link.png"))
+        with Bench(programs, more=["--script-output", output]) as bench:
+            it = bench.call("open")[1]
+            check("names of the game", it["names"] == {"item": {"iron-plate": "Plaque de fer"}}, it["names"])
+            check("and of which things there are pictures", it["pictures"]["item"] == ["iron-plate", "link"]
+                and it["pictures"]["recipe"] == ["iron-plate", "link"], it["pictures"])
+            at = lambda path, token=bench.token: bench.ask("GET", "/picture/%s/%s" % (token, path))
+            check("a picture", at("item/iron-plate")[0] == 200 and at("recipe/iron-plate")[2] == PICTURE)
+            for path in ("item/..%2f..%2fsecret", "item/../../secret", "item/link", "item/%2e%2e%2f%2e%2e%2fsecret", "nothing/iron-plate",
+                "item/iron-plate%00", "item/"):
+                check("no picture at " + path, at(path)[0] == 404)
+            check("no picture without the token", at("item/iron-plate", "x")[0] == 404)
 
 
 def time_limit(programs):
@@ -105,8 +146,10 @@ def size_limit(programs):
         check("a program that writes too much is ended", bench.call("page", script="")[0] == 504)
         check("and none of them is left", not bench.children(), bench.children())
     with Bench(programs) as bench:
-        check("a script of over 16 MB is refused", bench.call("run", file="factory.txt", script="#" * (16 << 20) + "#", version=bench.call("version", file="factory.txt")[1]["version"], ask=[])[0] == 413)
-        check("a request of over 48 MB isn't read", bench.ask("POST", "/api/run", None, bench.headers(Content_Length=str(1 << 30)))[0] == 413)
+        check("a script of over 16 MB is refused", bench.call("run", file="factory.txt", script="#" * (16 << 20) + "#",
+            version=bench.call("version", file="factory.txt")[1]["version"], ask=[])[0] == 413)
+        check("a request of over 48 MB isn't read", bench.ask("POST", "/api/run", None,
+            bench.headers(Content_Length=str(1 << 30)))[0] == 413)
         check("more than 2,000 questions are refused", bench.run("", ["summary"] * 2001)[0] == 400)
         check("more than 90,000 lines are refused", bench.run("#\n" * 90001)[0] == 413)
         check("and nothing was written", bench.saved() == b"")
@@ -140,9 +183,12 @@ def ends(programs):
     import subprocess
     import sys
     start = [sys.executable, os.path.join(TOP, "workbench", "workbench.py")]
-    for words, status in [([], 2), ([DUMP, "--nothing"], 2), (["/nowhere.json", "x.txt", "--programs", programs], 4), ([DUMP, "/nowhere/x.txt", "--programs", programs], 4), ([DUMP, "x.txt", "--programs", "/nowhere"], 4)]:
-        done = subprocess.run([*start, *words], stdout=subprocess.PIPE, stderr=subprocess.PIPE, stdin=subprocess.DEVNULL, universal_newlines=True, cwd="/tmp", timeout=20)
-        check("status %d of %s" % (status, words[-1:]), done.returncode == status and done.stderr.strip() and "Traceback" not in done.stderr, done)
+    for words, status in [([], 2), ([DUMP, "--nothing"], 2), (["/nowhere.json", "x.txt", "--programs", programs], 4),
+        ([DUMP, "/nowhere/x.txt", "--programs", programs], 4), ([DUMP, "x.txt", "--programs", "/nowhere"], 4)]:
+        done = subprocess.run([*start, *words], stdout=subprocess.PIPE, stderr=subprocess.PIPE, stdin=subprocess.DEVNULL,
+            universal_newlines=True, cwd="/tmp", timeout=20)
+        check("status %d of %s" % (status, words[-1:]), done.returncode == status and done.stderr.strip()
+            and "Traceback" not in done.stderr, done)
 
 
-PARTS = [address, token, host, origin, kinds, paths, time_limit, size_limit, number_limit, ends]
+PARTS = [address, token, host, origin, kinds, paths, pictures, time_limit, size_limit, number_limit, ends]

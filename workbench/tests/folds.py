@@ -51,7 +51,8 @@ def fold(programs, make):
         figures = re.search(r"milestones (\d+) bits \d+ tables (\d+)", summary)
         if mine != theirs or is_open != said_open or (figures and (int(figures.group(1)), int(figures.group(2))) != (milestones, tables)):
             wrong.append((name, mine, theirs, is_open, said_open, tables, milestones, summary))
-    return check("the lines in force of %d stored scripts are those that the session says" % len(got), len(got) > 100 and not wrong, wrong[:3])
+    return check("the lines in force of %d stored scripts are those that the session says" % len(got), len(got) > 100 and not wrong,
+        wrong[:3])
 
 
 PARTS = [fold]

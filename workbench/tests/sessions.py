@@ -20,7 +20,8 @@ def without_ok(report):
 
 
 def run_report(programs, dump, text):
-    path = next(p for p in (os.path.join(programs, "factoplan"), os.path.join(programs, "factoplan", "out", "factoplan")) if os.path.isfile(p))
+    path = next(p for p in (os.path.join(programs, "factoplan"), os.path.join(programs, "factoplan", "out", "factoplan"))
+        if os.path.isfile(p))
     return subprocess.run([path, "run", dump, "/dev/stdin"], input=text, stdout=subprocess.PIPE).stdout.decode("utf-8", "replace")
 
 
@@ -78,7 +79,8 @@ def following(programs):
             fresh = [*lines]
             for _ in range(chance.choice((0, 1, 1, 2, 5))):
                 i = chance.randrange(len(fresh))
-                chance.choice([lambda: fresh.pop(i), lambda: fresh.insert(i, chance.choice(lines)), lambda: fresh.__setitem__(i, chance.choice(lines))])()
+                chance.choice([lambda: fresh.pop(i), lambda: fresh.insert(i, chance.choice(lines)),
+                    lambda: fresh.__setitem__(i, chance.choice(lines))])()
             text = "\n".join(fresh)
 
 
@@ -98,7 +100,8 @@ def cases(programs):
         text = script.decode("utf-8", "surrogateescape")
         lines = text.split("\n")
         with Bench(programs, dump=base + ".json") as bench:
-            for given in ("\n".join(lines[:len(lines) // 2]), "\n".join(lines[:len(lines) // 3] + ["# another"] + lines[len(lines) // 3 + 1:]), text):
+            for given in ("\n".join(lines[:len(lines) // 2]),
+                "\n".join(lines[:len(lines) // 3] + ["# another"] + lines[len(lines) // 3 + 1:]), text):
                 reply = bench.run(given)[1]
         count += 1
         if "replies" not in reply or report_of(reply) != without_ok(report):
@@ -116,7 +119,8 @@ def death(programs):
         os.kill(pids[0], signal.SIGKILL)
         until(lambda: pids[0] not in [p for p in bench.children() if not is_dead(p)], 5)
         after = bench.run(text, ["solve t", "?state"])[1]
-        check("a planner that was killed is started again where it was", after.get("answers") == before["answers"] and bench.children() not in ([], pids), after)
+        check("a planner that was killed is started again where it was",
+            after.get("answers") == before["answers"] and bench.children() not in ([], pids), after)
         pids = bench.children()
     with Bench(programs, more=["--seconds", "4"]) as bench:
         bench.run(text, ["solve t"])
