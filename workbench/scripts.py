@@ -105,7 +105,7 @@ def put_in_place(path, data, version):
             file.flush()
             os.fsync(file.fileno())
         os.chmod(new, mode_of(path))
-        if os.path.exists(path):
+        with contextlib.suppress(OSError):      # (where no file is yet, and on disks that know no second names)
             os.link(path, held)
         os.replace(new, path)
         if os.path.exists(held):

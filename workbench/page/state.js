@@ -198,13 +198,18 @@ export function settle(way) {
 /** Keeps my text as a script of its own, and goes on with theirs. */
 export async function settleBeside() {
   const base = S.file.replace(/\.txt$/, '');
-  for (let k = 1; k < 100; k++) {
-    const name = `${base} (mine${k > 1 ? ' ' + k : ''}).txt`;
-    if (S.files.includes(name)) continue;
-    const out = await call('create', { file: name, script: S.script });
-    S.files = out.files;
-    toast(`Your text is ${name} now.`);
-    return settle('theirs');
+  let k = 1;
+  const nameOfMine = () => `${base} (mine${k > 1 ? ' ' + k : ''}).txt`;
+  while (S.files.includes(nameOfMine())) k++;
+  S.asking++;
+  show();
+  try {
+    S.files = (await call('create', { file: nameOfMine(), script: S.script })).files;
+    toast(`Your text is ${nameOfMine()} now.`);
+    await settle('theirs');
+  } finally {
+    S.asking--;
+    show();
   }
 }
 

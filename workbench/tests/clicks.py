@@ -127,6 +127,25 @@ def cures(b, bench):
         check("and the checker's word", "proved" in b.text("#toasts"), b.text("#toasts"))
 
 
+REFUSED = """
+const [reply, done] = arguments;
+Promise.all(['cures', 'replies', 'state'].map(n => import(`/${n}.js`))).then(([{ curesOfPlan }, { planOf }, { S }]) => {
+  const table = [...S.model.tables.values()][0], { why, cures } = curesOfPlan(table, planOf(reply));
+  done([why, ...cures.map(c => c.text)]);
+}, fault => done([String(fault)]));
+"""
+
+
+def unsolved(b, bench):
+    """What is offered where the solver stops, by the words of its reply."""
+    b.it.set_script_timeout(20)
+    for code, word in (("V1", "too wide"), ("V2", "budget")):
+        trail = "  enter row iron-plate leave unit item:iron-plate\n  enter import item:copper-ore leave unit item:copper-cable\n"
+        told = b.it.execute_async_script(REFUSED, "? refused %s electronic-circuit\n%s" % (code, trail + ("  next enter row copper-cable leave unit item:copper-cable\n  total" if code == "V1" else "")))
+        check("a plan that is refused says why and what may help: " + code, word in told[0] and "Try the rows in the opposite order" in told
+              and "Bring in Iron plate" in told and "Bring in Copper cable" in told, told)
+
+
 def exploring(b, bench):
     b.keys("/")
     b.pick("advanced circuit")
@@ -297,7 +316,7 @@ def science(b, bench):
     b.shot("workbench-science")
 
 
-WAY = [wish, changes, cures, exploring, refusals, conflict, several, by_keys, dark, science]
+WAY = [wish, changes, unsolved, cures, exploring, refusals, conflict, several, by_keys, dark, science]
 
 
 def way(programs, make):

@@ -3,6 +3,8 @@ import base64
 import json
 import os
 import socket
+import subprocess
+import sys
 import tempfile
 import threading
 import time
@@ -179,9 +181,9 @@ def number_limit(programs):
 
 
 def ends(programs):
-    """How it ends where it can't start."""
-    import subprocess
-    import sys
+    """How it begins with a folder, and ends where it can't start."""
+    with Bench(programs, script="") as bench:
+        check("a folder of scripts", bench.call("open")[1]["files"] == ["factory.txt"])
     start = [sys.executable, os.path.join(TOP, "workbench", "workbench.py")]
     for words, status in [([], 2), ([DUMP, "--nothing"], 2), (["/nowhere.json", "x.txt", "--programs", programs], 4),
         ([DUMP, "/nowhere/x.txt", "--programs", programs], 4), ([DUMP, "x.txt", "--programs", "/nowhere"], 4)]:
