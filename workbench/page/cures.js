@@ -5,10 +5,9 @@ import { Frac } from './exact.js';
 import { nameOf, plain } from './look.js';
 import { MEANS } from './replies.js';
 import { line, linesOf, rowLine, rowOf } from './script.js';
-import { change, closed, S } from './state.js';
+import { addLines, change, S } from './state.js';
 
 const MOST = 8;
-const addTo = (table, ...lines) => change(S.model.open ? { add: closed(lines) } : { behind: table.last, add: lines });
 const cure = (id, text, act) => ({ id, text, act });
 
 // ---- Plans ----
@@ -36,10 +35,10 @@ function curesOfInfeasible(table, plan) {
     && !table.rows.some(r => r.does === x));
   const make = g => {
     const row = way(g) && newRow(table, way(g));
-    return row ? [cure(g, `${kindOf(row.does) === 'source' ? 'Mine' : 'Make'} ${nameOf(g)}`, () => addTo(table, rowLine(table.name, row)))] : [];
+    return row ? [cure(g, `${kindOf(row.does) === 'source' ? 'Mine' : 'Make'} ${nameOf(g)}`, () => addLines(table, rowLine(table.name, row)))] : [];
   };
-  const bringIn = g => cure(g, `Bring in ${nameOf(g)}`, () => addTo(table, line('import', table.name, g, '1')));
-  const letOut = g => cure(g, `Let out ${nameOf(g)}`, () => addTo(table, line('surplus', table.name, g, '0')));
+  const bringIn = g => cure(g, `Bring in ${nameOf(g)}`, () => addLines(table, line('import', table.name, g, '1')));
+  const letOut = g => cure(g, `Let out ${nameOf(g)}`, () => addLines(table, line('surplus', table.name, g, '0')));
   const named = list => list.slice(0, 3).map(nameOf).join(', ') + (list.length > 3 ? ' and others' : '');
   const why = bring.length ? `${named(bring)} ${bring.length > 1 ? 'are' : 'is'} needed and ${bring.length > 1 ? 'come' : 'comes'} from nowhere.`
     : out.length ? `${named(out)} ${out.length > 1 ? 'are' : 'is'} left over and ${out.length > 1 ? 'have' : 'has'} nowhere to go.`
@@ -62,7 +61,7 @@ function curesOfSolver(table, plan) {
     ? [cure(null, 'Try the rows in the opposite order', () =>
     change({ put: Object.fromEntries(lines.map((n, i) => [n, texts[lines[lines.length - 1 - i] - 1]])) }))] : [];
   const goods = [...new Set(plan.trail.slice(-12).flat().filter(w => /^(item|fluid):/.test(w) && !table.import.has(w) && !table.want.has(w)))];
-  return [...round, ...turn, ...goods.slice(-4).map(g => cure(g, `Bring in ${nameOf(g)}`, () => addTo(table, line('import', table.name, g, '1'))))];
+  return [...round, ...turn, ...goods.slice(-4).map(g => cure(g, `Bring in ${nameOf(g)}`, () => addLines(table, line('import', table.name, g, '1'))))];
 }
 
 // ---- Rows ----

@@ -24,13 +24,6 @@ export function draw(parent, children) {
   reconcile(parent, children.flat(9).filter(Boolean), parent.namespaceURI === 'http://www.w3.org/2000/svg');
 }
 
-/** An element of its own. */
-export function element(tree, svg = false) {
-  const it = normal(tree);
-  create(it, svg);
-  return it.el;
-}
-
 const normal = c => typeof c === 'object' ? c : { text: String(c) };
 const sortOf = v => v.memo ? 'memo' : v.text !== undefined ? '#' : v.name;
 

@@ -4,9 +4,8 @@ import { Frac } from './exact.js';
 import { EFFECTS, game, get, isGood, isReached, kindOf, KINDS, newRow, PLURAL, rankOf } from './game.js';
 import { amount, chip, found, icon, mark, nameOf, num, percent, plain, power } from './look.js';
 import { edit, pick } from './pick.js';
-import { addLines } from './rows.js';
 import { line, rowLine } from './script.js';
-import { answer, change, closed, drop, go, keep, open, S, say, show, side, tableShown } from './state.js';
+import { addLines, answer, change, closed, drop, go, keep, open, S, say, show, side, tableShown } from './state.js';
 import { wishFor } from './wish.js';
 
 const MOST_TILES = 240;

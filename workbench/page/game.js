@@ -50,7 +50,7 @@ export const isReached = id => Boolean(rankOf(id));
 /** Whether it is a good that a table may have: a fluid of several temperatures is one only by its variants. */
 export const isGood = id => kindOf(id) === 'item' || (kindOf(id) === 'fluid' && !(get(id).variants || []).length);
 export const reached = ids => (ids || []).filter(isReached);
-export const speedOf = id => Frac.of(get(id).speed || '1').number;
+const speedOf = id => Frac.of(get(id).speed || '1').number;
 
 // ---- What fits a row ----
 
@@ -76,7 +76,7 @@ export function newRow(table, does) {
   return fuelled(table, { label, does, by, fuel: null, modules: [], beacons: [], at: [] });
 }
 /** The row with a fuel that its machine takes: its own, one that the table burns already, or the first that is reached. */
-export function fuelled(table, row) {
+function fuelled(table, row) {
   const fuels = get(row.by).energy === 'burner' ? get(row.by).fuels || [] : [];
   if (fuels.includes(row.fuel)) return row;
   return { ...row, fuel: table.rows.map(r => r.fuel).find(f => f && fuels.includes(f)) || reached(fuels)[0] || fuels[0] || null };

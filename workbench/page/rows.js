@@ -5,7 +5,7 @@ import { beaconsFor, byOther, choicesOf, EFFECTS, game, get, isReached, modulesF
 import { chip, flowText, icon, look, mark, nameOf, num, PER, percent, plain, power, rate, watts } from './look.js';
 import { choose, edit, field, form, pick } from './pick.js';
 import { line, rowLine } from './script.js';
-import { change, closed, open, S } from './state.js';
+import { addLines, change, open, S } from './state.js';
 
 const MOST_SLOTS = 6;
 const effectsOf = id => EFFECTS.filter(k => get(id).module?.[k]).map(k =>
@@ -21,8 +21,6 @@ const fuelNote = id => `${Frac.of(get(id).fuel.value).over(1000000).text} MJ${is
 const tableNow = table => S.model.tables.get(table.name) || table;
 const rowNow = (table, row) => tableNow(table).rows.find(r => r.label === row.label) || row;
 const put = (table, row, next) => change({ put: { [rowNow(table, row).line]: rowLine(table.name, next) } });
-/** Lines behind the last that speaks of a table. */
-export const addLines = (table, ...lines) => change(S.model.open ? { add: closed(lines) } : { behind: tableNow(table).last, add: lines });
 
 /** The rows as a table of the page. Each is drawn anew only where its line, its plan or what is shown of it changed. */
 export function rowsView(table, plan, rates) {

@@ -12,7 +12,7 @@ export function wordsOf(line) {
 }
 
 /** A word as a script has it: between quotes where it must be. */
-export function word(text) {
+function word(text) {
   if (text && !/^#|[ \t\n\r"\\]/.test(text)) return text;
   return `"${text.replace(/["\\]/g, '\\$&').replace(/\n/g, '\\n').replace(/\t/g, '\\t').replace(/\r/g, '\\r')}"`;
 }

@@ -1,6 +1,6 @@
 // The state of the page: the text of a script, and what the programs answered to it. Each change of the text is saved and answered anew.
 import { call } from './calls.js';
-import { derive, game, isReached, KINDS } from './game.js';
+import { derive, game, KINDS } from './game.js';
 import { rateOf, planOf, readReply } from './replies.js';
 import { changed, inForce, inForceOf, line, linesOf, modelOf } from './script.js';
 import { toast } from './toast.js';
@@ -59,6 +59,11 @@ export function say(key, ...values) {
 }
 /** Lines that stand behind the script's last: an open batch would hold them. */
 export const closed = lines => S.model.open ? ['end', ...lines] : lines;
+/** Lines behind the last that speaks of a table; behind all, where a batch or an `undo` further on would take them for others. */
+export function addLines(table, ...lines) {
+  const now = S.model.tables.get(table.name);
+  return change(S.model.open || S.model.hasUndo || !now ? { add: closed(lines) } : { behind: now.last, add: lines });
+}
 /** Drops a line, or where lines take others back adds what is its contrary. */
 export const drop = (n, contrary) => S.model.hasUndo && contrary ? change({ add: closed([contrary]) }) : change({ put: { [n]: null } });
 
@@ -279,4 +284,3 @@ export function side(what) {
   keep('side', S.side);
   show();
 }
-export { isReached };

@@ -7,9 +7,9 @@ import { Frac, sum, ZERO } from './exact.js';
 import { game, get, isGood, isReached, kindOf, newRow } from './game.js';
 import { carried, chip, flow, icon, look, mark, nameOf, num, PER, plain, power } from './look.js';
 import { edit, pick } from './pick.js';
-import { addLines, rowsView } from './rows.js';
+import { rowsView } from './rows.js';
 import { line, linesAbout, rowLine } from './script.js';
-import { change, closed, go, open, planFor, S, show } from './state.js';
+import { addLines, change, closed, open, planFor, S, show } from './state.js';
 import { toast } from './toast.js';
 import { makeHere } from './wish.js';
 
@@ -36,7 +36,7 @@ export function tableView(table) {
 
 // ---- The head ----
 
-export const goodOptions = () => [...game.ids.filter(isGood), 'special:electricity', ...game.ids.filter(i => kindOf(i) === 'tech')];
+const goodOptions = () => [...game.ids.filter(isGood), 'special:electricity', ...game.ids.filter(i => kindOf(i) === 'tech')];
 const pickGood = (anchor, hint, done) => pick(anchor, { options: goodOptions(), hint, done });
 
 /** Sets how much is wanted of a good, or at what price it comes in or goes out; null is no longer. */

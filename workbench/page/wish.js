@@ -5,10 +5,9 @@ import { Frac } from './exact.js';
 import { game, get, isGood, isReached, kindOf, rawOf } from './game.js';
 import { chip, icon, look, mark, nameOf, PER } from './look.js';
 import { pick } from './pick.js';
-import { addLines } from './rows.js';
 import { linesOf, wordsOf } from './script.js';
 import { toast } from './toast.js';
-import { change, closed, gameLines, keep, open, S, show } from './state.js';
+import { addLines, change, closed, gameLines, keep, open, S, show } from './state.js';
 
 const wish = { good: null, amount: '60', by: [], module: null, fuel: null, dig: false, power: false, imports: [], beacon: null, said: '', words: [] };
 /** The wish of which the card of a thing was left. */

@@ -199,6 +199,25 @@ def refusals(b, bench):
     check("no refused line is left", not b.find(".problem"), b.text(".problem"))
 
 
+def taken_back(b, bench):
+    """Behind an `undo` of the script lines stand last, so that it takes nothing else back."""
+    before = bench.saved()
+    area = b.one("textarea")
+    area.send_keys(Keys.CONTROL, Keys.END)
+    area.send_keys("grant item:coal\nundo\n")
+    time.sleep(0.5)
+    b.settle()
+    b.click('[data-route="table:electronic-circuit"]')
+    b.click('[data-key="addrow"]')
+    b.pick("iron stick")
+    check("a row behind an undo stands last", bench.saved().split(b"\n")[-2].startswith(b"row electronic-circuit iron-stick") and "Iron stick" in b.text(".rows"), bench.saved()[-300:])
+    b.click('[aria-label="Remove row iron-stick"]')
+    check("and goes by a line that says so", bench.saved().split(b"\n")[-2] == b"unrow electronic-circuit iron-stick" and "Iron stick" not in b.text(".rows"), bench.saved()[-300:])
+    for _ in range(3):
+        b.click("#undo")
+    check("the script is as it was", bench.saved() == before, bench.saved()[-300:])
+
+
 def conflict(b, bench):
     area = b.one("textarea")
     with open(bench.script, "ab") as file:
@@ -316,7 +335,7 @@ def science(b, bench):
     b.shot("workbench-science")
 
 
-WAY = [wish, changes, unsolved, cures, exploring, refusals, conflict, several, by_keys, dark, science]
+WAY = [wish, changes, unsolved, cures, exploring, refusals, taken_back, conflict, several, by_keys, dark, science]
 
 
 def way(programs, make):

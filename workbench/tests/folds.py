@@ -1,9 +1,8 @@
 """What the page follows of a script by itself, against what the session says of it, over all stored scripts."""
-import os
 import re
 
 from common import Bench, check
-from sessions import CASES
+from sessions import lines_of, planner, stored
 
 FOLD = """
 const [cases, done] = arguments;
@@ -19,23 +18,17 @@ import('/script.js').then(({ inForce, inForceOf, modelOf, linesOf }) => {
 def fold(programs, make):
     """Over each stored script: the lines in force, whether a batch is open, how many tables and milestones there are."""
     given, told = [], []
-    for path in CASES:
-        base = path[:-len(".script")]
-        with open(base + ".status") as file:
-            status = file.read().strip()
-        with open(path, "rb") as file:
-            script = file.read()
-        if status not in ("0", "1") or len(script) > 100000 or not os.path.isfile(base + ".json"):
+    for name, dump, script, _ in stored():
+        try:
+            with planner(programs, dump) as it:
+                replies, answers = it.answers(lines_of(script), [b"?state", b"summary"])
+        except Exception as fault:
+            check("an answer to " + name, False, fault)
             continue
-        text = script.decode("utf-8", "surrogateescape")
-        with Bench(programs, dump=base + ".json") as bench:
-            reply = bench.run(text, ["?state", "summary"])[1]
-        if "replies" not in reply:
-            check("an answer to " + os.path.basename(base), False, reply)
-            continue
-        refused = [int(n) for n, r in reply["replies"].items() if re.match(r"\d+ refused ", r)]
-        given.append([text.encode("utf-8", "replace").decode(), refused, reply["answers"][0]])
-        told.append((os.path.basename(base), reply["answers"]))
+        refused = [i + 1 for i, reply in enumerate(replies) if reply and re.match(rb"\d+ refused ", reply[0])]
+        state, summary = (b"\n".join(answer).decode("utf-8", "replace") for answer in answers)
+        given.append([script.decode("utf-8", "replace"), refused, state])
+        told.append((name, (state, summary)))
     with Bench(programs) as bench:
         b = make()
         try:

@@ -91,6 +91,10 @@ def conflicts(programs):
         check("and so it is where an editor wrote", third.get("conflict") and bench.saved() == b"# the first tab\n# an editor\n", third)
         status, fourth = bench.run("# now\n", version=third["version"])
         check("with the version that it was told it saves", fourth.get("version") and bench.saved() == b"# now\n", fourth)
+        os.unlink(bench.script)
+        gone = bench.run("# here\n", version=fourth["version"])[1]
+        check("a script that was taken away isn't written again unasked", gone.get("conflict") and not os.path.exists(bench.script), gone)
+        bench.run("# now\n", version=gone["version"])
         status, made = bench.call("create", file="factory.txt", script="# over it\n")
         check("a new script doesn't take the place of one", status == 409 and bench.saved() == b"# now\n", made)
         said = subprocess.run([sys.executable, "-c", RACE % (WORKBENCH, bench.folder)], stdout=subprocess.PIPE,

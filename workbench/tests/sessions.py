@@ -1,11 +1,13 @@
 """The planner behind a script: what it answers is the report of `factoplan run`, however the script came to be; and it is started again."""
+import contextlib
 import glob
 import os
 import random
 import signal
 import subprocess
+import sys
 
-from common import DUMP, TOP, Bench, check, until
+from common import DUMP, TOP, WORKBENCH, Bench, check, until
 
 CASES = sorted(glob.glob(os.path.join(TOP, "tests", "cases", "*.script")))
 
@@ -84,28 +86,52 @@ def following(programs):
             text = "\n".join(fresh)
 
 
-def cases(programs):
-    """The stored scripts: cut, changed and put right again, each is answered by its stored report."""
-    wrong, count = [], 0
+def stored():
+    """The stored scripts that are answered by a report: name, dump, script and report."""
     for path in CASES:
         base = path[:-len(".script")]
         with open(base + ".status") as file:
             status = file.read().strip()
         with open(path, "rb") as file:
             script = file.read()
-        if status not in ("0", "1") or len(script) > 100000 or not os.path.isfile(base + ".json"):
-            continue
-        with open(base + ".report", "rb") as file:
-            report = file.read().decode("utf-8", "replace")
-        text = script.decode("utf-8", "surrogateescape")
-        lines = text.split("\n")
-        with Bench(programs, dump=base + ".json") as bench:
-            for given in ("\n".join(lines[:len(lines) // 2]),
-                "\n".join(lines[:len(lines) // 3] + ["# another"] + lines[len(lines) // 3 + 1:]), text):
-                reply = bench.run(given)[1]
-        count += 1
-        if "replies" not in reply or report_of(reply) != without_ok(report):
-            wrong.append((os.path.basename(base), reply if "replies" not in reply else report_of(reply)[:200]))
+        if status in ("0", "1") and len(script) <= 100000 and os.path.isfile(base + ".json"):
+            with open(base + ".report", "rb") as file:
+                yield os.path.basename(base), base + ".json", script, file.read().decode("utf-8", "replace")
+
+
+@contextlib.contextmanager
+def planner(programs, dump):
+    """A planner by itself, without the server."""
+    sys.path.insert(0, WORKBENCH)
+    from programs import Programs
+    from session import Session
+    these = Programs(programs, 60)
+    it = Session(these.words("factoplan_session", dump), these.limits)
+    try:
+        yield it
+    finally:
+        it.end()
+
+
+def lines_of(script):
+    lines = script.split(b"\n")
+    return lines[:-1] if lines[-1] == b"" else lines
+
+
+def cases(programs):
+    """The stored scripts: cut, changed and put right again, each is answered by its stored report."""
+    wrong, count = [], 0
+    for name, dump, script, report in stored():
+        lines, count = lines_of(script), count + 1
+        try:
+            with planner(programs, dump) as it:
+                for given in (lines[:len(lines) // 2], lines[:len(lines) // 3] + [b"# another"] + lines[len(lines) // 3 + 1:], lines):
+                    replies, _ = it.answers(given, [])
+            told = "".join(line.decode("utf-8", "replace") + "\n" for reply in replies for line in reply)
+        except Exception as fault:
+            told = str(fault)
+        if told != report:
+            wrong.append((name, told[:300], report[:300]))
     check("%d stored scripts are answered by their reports" % count, count > 100 and not wrong, wrong[:3])
 
 
