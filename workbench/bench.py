@@ -84,7 +84,7 @@ class Bench:
                 return {"conflict": True, **self.text(name)}
         replies, answers = self.session(name).answers(lines_of(data), [q.encode("utf-8", "surrogateescape") for q in questions])
         answered = time.time() * 1000
-        said = {i + 1: text_of(reply) for i, reply in enumerate(replies) if reply and reply[0].split(b" ", 1)[1] not in (b"ok", b"held")}
+        said = {n: text_of(reply) for n, reply in replies.items()}
         return {**out, "at": answered, "replies": said, "answers": [text_of(answer) for answer in answers]}
 
     def do_wish(self, asked):

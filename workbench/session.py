@@ -56,6 +56,11 @@ def is_refused(reply):
     return bool(reply) and re.match(rb"\S+ refused ", reply[0]) is not None
 
 
+def is_plain(reply):
+    """Whether a reply only says that the line was taken."""
+    return len(reply) == 1 and reply[0].endswith((b" ok", b" held")) and reply[0].count(b" ") == 1
+
+
 class Died(Exception):
     """The program ended or fell silent: why."""
 
@@ -79,8 +84,8 @@ class Session:
     # ---- What is asked of it ----
 
     def answers(self, lines, questions):
-        """The replies to the lines of a script and to questions behind it, each a list of lines. A session that died is started again where
-        it was; what it dies of a second time is told."""
+        """The replies to the lines of a script, by their numbers, but for those that are just `ok` or `held`; and those to questions behind
+        it. Each is a list of lines. A session that died is started again where it was; what it dies of a second time is told."""
         if len(lines) > MOST_SCRIPT_LINES:
             raise Refused(413, "the script has more than %d lines" % MOST_SCRIPT_LINES)
         for question in questions:
@@ -103,7 +108,8 @@ class Session:
 
     def answers_once(self, lines, questions):
         self.follow(lines)
-        return [self.script_reply(i) for i in range(len(self.sent))], [self.answer(question) for question in questions]
+        replies = {i + 1: self.script_reply(i) for i, it in enumerate(self.sent) if it.reply and not is_plain(it.reply)}
+        return replies, [self.answer(question) for question in questions]
 
     def retire(self):
         """Ends the program once what is asked of it is answered."""
@@ -219,8 +225,6 @@ class Session:
     def script_reply(self, index):
         """The reply to a line of the script, with the numbers of the script in place of those of the session."""
         it = self.sent[index]
-        if not it.reply:
-            return []
         head = re.sub(rb"\A\d+ ", b"%d " % (index + 1), it.reply[0])
         if first_word(it.line) == b"end" and is_refused(it.reply):
             head = re.sub(rb"(?<= at )(\d+)\Z", lambda m: b"%d" % self.place_of(int(m.group(1))), head)

@@ -25,7 +25,7 @@ def fold(programs, make):
         except Exception as fault:
             check("an answer to " + name, False, fault)
             continue
-        refused = [i + 1 for i, reply in enumerate(replies) if reply and re.match(rb"\d+ refused ", reply[0])]
+        refused = [n for n, reply in replies.items() if re.match(rb"\d+ refused ", reply[0])]
         state, summary = (b"\n".join(answer).decode("utf-8", "replace") for answer in answers)
         given.append([script.decode("utf-8", "replace"), refused, state])
         told.append((name, (state, summary)))

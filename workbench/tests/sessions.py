@@ -127,10 +127,10 @@ def cases(programs):
             with planner(programs, dump) as it:
                 for given in (lines[:len(lines) // 2], lines[:len(lines) // 3] + [b"# another"] + lines[len(lines) // 3 + 1:], lines):
                     replies, _ = it.answers(given, [])
-            told = "".join(line.decode("utf-8", "replace") + "\n" for reply in replies for line in reply)
+            told = "".join(line.decode("utf-8", "replace") + "\n" for _, reply in sorted(replies.items()) for line in reply)
         except Exception as fault:
             told = str(fault)
-        if told != report:
+        if told != without_ok(report):
             wrong.append((name, told[:300], report[:300]))
     check("%d stored scripts are answered by their reports" % count, count > 100 and not wrong, wrong[:3])
 
