@@ -61,7 +61,8 @@ function curesOfSolver(table, plan) {
     ? [cure(null, 'Try the rows in the opposite order', () =>
     change({ put: Object.fromEntries(lines.map((n, i) => [n, texts[lines[lines.length - 1 - i] - 1]])) }))] : [];
   const goods = [...new Set(plan.trail.slice(-12).flat().filter(w => /^(item|fluid):/.test(w) && !table.import.has(w) && !table.want.has(w)))];
-  return [...round, ...turn, ...goods.slice(-4).map(g => cure(g, `Bring in ${nameOf(g)}`, () => addLines(table, line('import', table.name, g, '1'))))];
+  return [...round, ...turn, ...goods.slice(-4).map(g => cure(g, `Bring in ${nameOf(g)}`, () =>
+    addLines(table, line('import', table.name, g, '1'))))];
 }
 
 // ---- Rows ----

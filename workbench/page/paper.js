@@ -5,7 +5,7 @@ import { h } from './dom.js';
 import { icon, plain } from './look.js';
 import { field, form } from './pick.js';
 import { line, linesOf } from './script.js';
-import { become, newFile, openFile, run, S, show, side } from './state.js';
+import { become, newFile, openFile, run, S, show, side, working } from './state.js';
 import { fileName } from './table.js';
 import { toast } from './toast.js';
 
@@ -28,7 +28,8 @@ export function scriptView() {
   const refused = [...S.refused];
   return h('div.script', { key: 'script' }, h('div.cardhead', null, files(), h('small.dim', null, `${linesOf(S.script).length} lines`),
     refused.length > 0 && h('small.bad', null, `✗ ${refused.length} refused`), h('span.grow'),
-    h('button.quiet', { type: 'button', title: 'One HTML page with all that the script asked, to keep or to send', onclick: exportPage },
+    h('button.quiet', { type: 'button', title: 'One HTML page with all that the script asked, to keep or to send',
+      onclick: () => working(exportPage) },
       'Save as page'), h('button.tool', { type: 'button', title: 'Close (e)', 'aria-label': 'Close the script', onclick: () => side('script') },
       '×')),
   paper(), refused.length > 0 && h('div.problems', { role: 'region', 'aria-label': 'Refused lines', tabindex: '0' },

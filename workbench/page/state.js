@@ -171,6 +171,13 @@ async function readGame(text, ranksOf) {
   S.ranksOf = ranksOf;
 }
 
+/** Does what takes a while; until it is done the top says so. */
+export async function working(how) {
+  S.asking++;
+  show();
+  try { return await how(); } finally { S.asking--; show(); }
+}
+
 /** The words of the answer to a question about the state as it is, asked when it is looked at; null until it is there. */
 export function answer(question) {
   if (!S.asked.has(question)) {
@@ -206,16 +213,11 @@ export async function settleBeside() {
   let k = 1;
   const nameOfMine = () => `${base} (mine${k > 1 ? ' ' + k : ''}).txt`;
   while (S.files.includes(nameOfMine())) k++;
-  S.asking++;
-  show();
-  try {
+  await working(async () => {
     S.files = (await call('create', { file: nameOfMine(), script: S.script })).files;
     toast(`Your text is ${nameOfMine()} now.`);
     await settle('theirs');
-  } finally {
-    S.asking--;
-    show();
-  }
+  });
 }
 
 /** Looks whether script and dump are still those that were read. */
@@ -239,18 +241,17 @@ export async function lookAround() {
 }
 
 /** Opens a script of the folder. */
-export async function openFile(file) {
+export const openFile = file => working(async () => {
   await running;
-  const it = await call('read', { file });
-  begin(it);
-  return run(false);
-}
+  begin(await call('read', { file }));
+  await run(false);
+});
 /** A new script, with a text to begin with. */
-export async function newFile(name, text) {
+export const newFile = (name, text) => working(async () => {
   const file = /\.txt$/.test(name) ? name : name + '.txt';
   await call('create', { file, script: text });
-  return openFile(file);
-}
+  await openFile(file);
+});
 export function begin(it) {
   Object.assign(S, { file: it.file, files: it.files, script: it.script, saved: it.script, version: it.version, refused: new Map(), plans: new Map(),
     rates: new Map(),

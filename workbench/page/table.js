@@ -9,7 +9,7 @@ import { carried, chip, flow, icon, look, mark, nameOf, num, PER, plain, power }
 import { edit, pick } from './pick.js';
 import { rowsView } from './rows.js';
 import { line, linesAbout, rowLine } from './script.js';
-import { addLines, change, closed, open, planFor, S, show } from './state.js';
+import { addLines, change, closed, open, planFor, S, show, working } from './state.js';
 import { toast } from './toast.js';
 import { makeHere } from './wish.js';
 
@@ -98,7 +98,7 @@ function verdict(table, plan) {
     figure('electric power', power(sum(all)), 'At work, at rest and for beacons'), figure('pollution /min', num(of('pollution'))),
     figure('cost', num(plan.cost), 'What the plan costs in the prices of imports, surpluses and rows'),
     h('button.proof', { type: 'button', 'data-key': 'proof',
-      title: 'No plan of this table costs less: its prices prove it. A click gives the certificate, with which anyone can check that.', onclick: () => certificate(table) }, '✓ proved: nothing is cheaper', h('span.dim', null, ' · certificate')));
+      title: 'No plan of this table costs less: its prices prove it. A click gives the certificate, with which anyone can check that.', onclick: () => working(() => certificate(table)) }, '✓ proved: nothing is cheaper', h('span.dim', null, ' · certificate')));
 }
 async function certificate(table) {
   try {

@@ -7,7 +7,7 @@ import { chip, icon, look, mark, nameOf, PER } from './look.js';
 import { pick } from './pick.js';
 import { linesOf, wordsOf } from './script.js';
 import { toast } from './toast.js';
-import { addLines, change, closed, gameLines, keep, open, S, show } from './state.js';
+import { addLines, change, closed, gameLines, keep, open, S, show, working } from './state.js';
 
 const wish = { good: null, amount: '60', by: [], module: null, fuel: null, dig: false, power: false, imports: [], beacon: null, said: '', words: [] };
 /** The wish of which the card of a thing was left. */
@@ -153,10 +153,8 @@ async function oneByOne(wants, name) {
   return { lines };
 }
 async function wishing(how) {
-  S.asking++;
-  show();
-  try { Object.assign(wish, { said: '', words: [] }, await how()); } catch (fault) { Object.assign(wish, { said: fault.message, words: [] }); }
-  S.asking--;
-  keep('route', S.route);
-  show();
+  await working(async () => {
+    try { Object.assign(wish, { said: '', words: [] }, await how()); } catch (fault) { Object.assign(wish, { said: fault.message, words: [] }); }
+    keep('route', S.route);
+  });
 }

@@ -141,7 +141,8 @@ def unsolved(b, bench):
     b.it.set_script_timeout(20)
     for code, word in (("V1", "too wide"), ("V2", "budget")):
         trail = "  enter row iron-plate leave unit item:iron-plate\n  enter import item:copper-ore leave unit item:copper-cable\n"
-        told = b.it.execute_async_script(REFUSED, "? refused %s electronic-circuit\n%s" % (code, trail + ("  next enter row copper-cable leave unit item:copper-cable\n  total" if code == "V1" else "")))
+        told = b.it.execute_async_script(REFUSED, "? refused %s electronic-circuit\n%s" % (code,
+            trail + ("  next enter row copper-cable leave unit item:copper-cable\n  total" if code == "V1" else "")))
         check("a plan that is refused says why and what may help: " + code, word in told[0] and "Try the rows in the opposite order" in told
               and "Bring in Iron plate" in told and "Bring in Copper cable" in told, told)
 
@@ -152,6 +153,7 @@ def exploring(b, bench):
     check("a card", "Advanced circuit" in b.text("aside h2"), b.text("aside"))
     b.click("aside .quiet", "Show the steps")
     check("a way to it", until(lambda: len(b.find(".why li")) > 20), b.text(".why"))
+    b.js("document.querySelector('#toasts button:last-child')?.click()")
     b.shot("workbench-card")
     b.click('[data-route="explore"]')
     b.write('[data-key="explore"]', "circ")
@@ -210,9 +212,11 @@ def taken_back(b, bench):
     b.click('[data-route="table:electronic-circuit"]')
     b.click('[data-key="addrow"]')
     b.pick("iron stick")
-    check("a row behind an undo stands last", bench.saved().split(b"\n")[-2].startswith(b"row electronic-circuit iron-stick") and "Iron stick" in b.text(".rows"), bench.saved()[-300:])
+    check("a row behind an undo stands last", bench.saved().split(b"\n")[-2].startswith(b"row electronic-circuit iron-stick")
+        and "Iron stick" in b.text(".rows"), bench.saved()[-300:])
     b.click('[aria-label="Remove row iron-stick"]')
-    check("and goes by a line that says so", bench.saved().split(b"\n")[-2] == b"unrow electronic-circuit iron-stick" and "Iron stick" not in b.text(".rows"), bench.saved()[-300:])
+    check("and goes by a line that says so", bench.saved().split(b"\n")[-2] == b"unrow electronic-circuit iron-stick"
+        and "Iron stick" not in b.text(".rows"), bench.saved()[-300:])
     for _ in range(3):
         b.click("#undo")
     check("the script is as it was", bench.saved() == before, bench.saved()[-300:])

@@ -58,10 +58,10 @@ GUARDS = [
 ]
 
 
-def run(programs):
-    """Takes each away and looks whether its test fails; one that has no test of its own here is tested by itself."""
+def run(programs, only=""):
+    """Takes each away and looks whether its test fails."""
     held = 0
-    tried = [g for g in GUARDS if g[4]]
+    tried = [g for g in GUARDS if not only or any(x in g[0] for x in only.split(","))]
     for name, file, old, new, test in tried:
         with tempfile.TemporaryDirectory() as room:
             without = os.path.join(room, "workbench")
