@@ -1,5 +1,6 @@
 """What the page may ask of the server. Each answer is what one of the programs said; nothing is reckoned here."""
 import os
+import re
 import tempfile
 import threading
 import time
@@ -54,7 +55,14 @@ class Bench:
     def do_open(self, asked):
         """All that a page begins with."""
         return {**self.text(self.scripts.first), "files": self.scripts.names(), "dump": os.path.basename(self.dump), "stamp": self.stamp(),
-                "names": self.pictures.names(), "pictures": self.pictures.known(), "programs": self.programs.there()}
+                "names": self.pictures.names(), "pictures": self.pictures.known(), "options": self.options()}
+
+    def options(self):
+        """The options of a wish that factoplan_table tells of, so that the page offers no others."""
+        if not self.programs.path("factoplan_table"):
+            return []
+        told = self.programs.run("factoplan_table", ["--help"])["text"]
+        return [option for option in OPTIONS if re.search(r"%s(?![\w-])" % option, told)]
 
     def text(self, name):
         data = self.scripts.read(name)

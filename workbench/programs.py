@@ -7,7 +7,6 @@ import time
 
 from faults import Refused
 
-NAMES = ("factoplan", "factoplan_table", "factoplan_page", "factoplan_catalog", "factoplan_session")
 MOST_ANSWER = 64 << 20
 MOST_SAID = 20_000
 AT_ONCE, WAITING = 2, 8
@@ -44,10 +43,6 @@ class Programs:
             if os.path.isfile(path) and os.access(path, os.X_OK):
                 return path
         return None
-
-    def there(self):
-        """The names of those that are there."""
-        return [name for name in NAMES if self.path(name)]
 
     def words(self, name, *words):
         """A command by its words: no shell ever sees them."""

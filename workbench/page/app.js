@@ -131,7 +131,7 @@ window.addEventListener('resize', show);
     const it = await call('open');
     look.names = it.names;
     look.pictures = Object.fromEntries(Object.entries(it.pictures).map(([kind, names]) => [kind, new Set(names)]));
-    Object.assign(S, { stamp: it.stamp, programs: it.programs });
+    Object.assign(S, { stamp: it.stamp, options: new Set(it.options) });
     onChange(drawSoon);
     const last = kept('file', it.file);
     if (last !== it.file && it.files.includes(last)) await openFile(last);

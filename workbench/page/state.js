@@ -12,7 +12,7 @@ export const kept = (key, start) => { try { return JSON.parse(sessionStorage.get
 export function keep(key, value) { try { sessionStorage.setItem(key, JSON.stringify(value)); } catch { sessionStorage.removeItem(key); } }
 
 export const S = {
-  file: '', files: [], script: '', saved: '', version: '', stamp: '', programs: [], past: [], future: [],
+  file: '', files: [], script: '', saved: '', version: '', stamp: '', options: new Set(), past: [], future: [],
   model: modelOf(''), replies: new Map(), refused: new Map(), plans: new Map(), rates: new Map(), asked: new Map(), total: null,
   ranksOf: null, catalogOf: null, busy: false, asking: 0, conflict: null, times: { answer: 0, shown: 0 },
   route: kept('route', ''), side: kept('side', null), card: kept('card', null), cards: [],

@@ -143,7 +143,7 @@ function side(table, what, name, hint, flows, start, more) {
   const one = ([g, it]) => {
     const x = flows?.get(g), idle = x?.isZero;
     return h('tr' + (idle ? '.idle' : ''), { key: g }, h('td', null, chip(g, open), idle && h('small.rest', null, 'not used'),
-      what === 'import' && isMade(g) && h('button.mini',
+      what === 'import' && S.options.has('--rows-for') && isMade(g) && h('button.mini',
       { type: 'button', title: `Rows that make ${nameOf(g)} in this table`, onclick: () => makeHere(table, g) }, 'make it here')),
       h('td.r', null, x ? flow(g, x) : '–', x && carried(g, x) && h('small.carried', null, carried(g, x))),
       h('td.r', null, h('span.dim', null, 'at '), price(g, it)), h('td', null,

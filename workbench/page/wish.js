@@ -9,7 +9,7 @@ import { linesOf, wordsOf } from './script.js';
 import { toast } from './toast.js';
 import { addLines, change, closed, gameLines, keep, open, S, show, working } from './state.js';
 
-const wish = { good: null, amount: '60', by: [], module: null, fuel: null, dig: false, power: false, imports: [], beacon: null, said: '', words: [] };
+const wish = { good: null, amount: '60', by: [], module: null, fuel: null, dig: false, power: false, imports: [], beacon: null, cheapest: 'cost', without: [], only: [], said: '', words: [] };
 /** The wish of which the card of a thing was left. */
 export function wishFor(id) { Object.assign(wish, { good: id, said: '', words: [] }); }
 
@@ -60,8 +60,13 @@ function options() {
     'A machine to take before faster ones'),
     one('Modules', 'module', those(m => m.module), 'Fills each machine that takes it'), beaconOption(),
       one('Fuel', 'fuel', those(m => m.fuel && kindOf(m.id) === 'item'), 'The fuel of each burner that takes it'),
-      many('Bring in', 'imports', those(m => isGood(m.id)), 'A good that isn’t made here'));
+      many('Bring in', 'imports', those(m => isGood(m.id)), 'A good that isn’t made here'),
+    S.options.has('--without') && many('Not by', 'without', recipes, 'A recipe that is no row'), S.options.has('--only') && many('Only by', 'only', recipes, 'What it gives is made by no other'),
+    S.options.has('--cheapest') && cheapestOption());
 }
+const recipes = () => game.ids.filter(id => kindOf(id) === 'recipe' && isReached(id));
+const cheapestOption = () => h('label.opt', { title: 'What the plan takes least of' }, h('span.dim', null, 'Least'),
+  h('select.files', { 'data-key': 'wish cheapest', onchange: e => set('cheapest', e.target.value) }, ['cost', 'power', 'pollution', 'machines'].map(k => h('option', { value: k, selected: k === wish.cheapest }, k))));
 function beaconOption() {
   const b = wish.beacon, [first] = those(m => m.kind === 'beacon')();
   if (!b && !first) return null;
@@ -86,6 +91,8 @@ function wordsOfWish(wants, table, more = []) {
   if (wish.beacon) out.push('--beacon', wish.beacon.by, `${wish.beacon.count}`, `${wish.beacon.share}`, wish.beacon.module);
   for (const id of wish.imports) out.push('--import', `${id}=1`);
   for (const key of ['dig', 'power']) if (wish[key]) out.push('--' + key);
+  for (const key of ['without', 'only']) for (const id of wish[key]) out.push('--' + key, id);
+  if (wish.cheapest !== 'cost') out.push('--cheapest', wish.cheapest);
   return out;
 }
 function nameFor(base) {
@@ -131,7 +138,7 @@ async function allScience() {
   if (!x || x.n <= 0n) { Object.assign(wish, { said: 'The amount must be a number above 0.', words: [] }); return show(); }
   await wishing(async () => {
     const name = nameFor('science'), wants = game.packs.filter(isReached).map(pack => [pack, x.over(look.per)]);
-    let made = await linesFor(wordsOfWish(wants, name, ['--rows', '120']));
+    let made = await linesFor(wordsOfWish(wants, name, S.options.has('--rows') ? ['--rows', '120'] : []));
     if (made.status === 2) made = await oneByOne(wants, name);
     if (made.said) return made;
     S.route = 'table:' + name;

@@ -12,12 +12,16 @@ SIZES = [(1280, 900), (600, 900), (320, 700)]
 
 
 def stacked_dump(folder):
-    """The example's dump, whose items don't tell how many are a stack, with stacks as the game has them."""
+    """The example's dump, which has no stacks and no belts, with both as the game has them."""
     with open(DUMP) as file:
         dump = json.load(file)
     for name, item in dump["item"].items():
         item["stack_size"] = 50 if name.endswith("-ore") or name in ("coal",
             "stone") else 200 if "circuit" in name or "cable" in name else 100
+    dump["transport-belt"] = {}
+    for name, speed in (("transport-belt", 0.03125), ("fast-transport-belt", 0.0625), ("express-transport-belt", 0.09375)):
+        dump["transport-belt"][name] = {"type": "transport-belt", "name": name, "speed": speed}
+        dump["item"][name]["place_result"] = name
     path = os.path.join(folder, "data-raw-dump.json")
     with open(path, "w") as file:
         json.dump(dump, file)
