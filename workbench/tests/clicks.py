@@ -238,6 +238,12 @@ def conflict(b, bench):
     area.send_keys("# more of mine\n")
     time.sleep(0.5)
     looked_at(b, "conflict")
+    for width, height in SIZES:
+        b.size(width, height)
+        seen = b.js("return [...document.querySelectorAll('.conflict button')].every(e => { const r = e.getBoundingClientRect();"
+                    " return e.contains(document.elementFromPoint(r.x + r.width / 2, r.y + r.height / 2)); })")
+        check("the choice isn't covered at %d pixels" % width, seen)
+    b.size(*SIZES[0])
     b.click("#keep-both")
     names = sorted(os.listdir(bench.folder))
     with open(os.path.join(bench.folder, "factory (mine).txt")) as file:
