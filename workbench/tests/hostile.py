@@ -3,7 +3,7 @@ import json
 import os
 import tempfile
 
-from common import DUMP, Bench, check, until
+from common import DUMP, Bench, check
 from door import PICTURE
 
 HTML, TURNED, LONG = '<img src=x onerror="window.pwned=1">"\'><script>window.pwned=2</script>', "\u202egnp.elttob\u202c\u2066\u200b\u0000\u0007", "a" * 10000
@@ -88,14 +88,11 @@ def safe(b, where):
 
 def large(programs, make):
     """A table of 300 rows: an answer stands within 100 milliseconds of the program's, and only what changed is drawn anew."""
-    with open(DUMP) as file:
-        recipes = json.load(file)["recipe"]
     count, rows = 300, ["table big"]
     for k in range(count):
         rows.append("row big r%d recipe:iron-gear-wheel by machine:assembling-machine-%d" % (k, 1 + k % 3))
         rows.append("price big r%d %d" % (k, 1 + k))
     rows += ["import big item:iron-plate 1", "want big item:iron-gear-wheel 5"]
-    assert recipes
     with Bench(programs, text=("\n".join(rows) + "\n").encode(), more=["--seconds", "120"]) as bench:
         b = make()
         try:
