@@ -9,8 +9,8 @@ use Rattle.script_reader.specs.declared.command_words.CommandWord.{CommandWord}
 use Rattle.node_report.specs.Words.{printed_word}
 use Rattle.run_hints.specs.declared.causes.Cause.{Cause}
 use Rattle.run_hints.specs.declared.causes.Cause.TheVariants as cause
-use Rattle.run_hints.specs.declared.causes.QuoteFault.{QuoteFault}
-use Rattle.run_hints.specs.declared.causes.QuoteFault.TheVariants as quote
+use Rattle.line_words.specs.declared.words.QuoteFault.{QuoteFault}
+use Rattle.line_words.specs.declared.words.QuoteFault.TheVariants as quote
 use Rattle.run_hints.specs.Forms.{form, front_words, next_words, slot_code, slot_words}
 
 -- what a code says of a line, where no more is known

@@ -23,7 +23,7 @@ refused_hint script line column cause like = hint_line script (place_text line c
 
 -- how many more there are
 abbrev pub more_hint : Option (List ℕ) → ℕ → List ℕ
-more_hint script more = hint_line script (decimal more ++ codes " more lines are refused")
+more_hint script more = hint_line script (codes "and " ++ (decimal more ++ codes " more"))
 
 -- why a table has no plan, as far as one good tells it
 abbrev pub short_text : Short → List ℕ

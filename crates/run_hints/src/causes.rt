@@ -3,25 +3,11 @@ ghost use Rattle.std.specs.Prelude.{◌≡◌, IfOk, string_bytes};
 ghost use Rattle.run_hints.specs.Causes.{cause_text, code_of, code_words, kind_noun, quote_words, stands_text};
 
 use crate::forms::{Slot, form_of, front_words, next_words, slot_code, slot_words};
+use line_words::QuoteFault;
 use plan_base::{Kind, Text};
 use plan_report::{RefusalCode, printed_word};
 use script_reader::CommandWord;
 use std::alloc::{AllocError, Global};
-
-/// How a line is no line of words.
-#[derive(Clone, Copy, Debug, PartialEq, Eq)]
-pub enum QuoteFault {
-    /// It is not in UTF-8.
-    NotUtf8,
-    /// A quote stands in a word that has none at its front.
-    Within,
-    /// A quote is not closed.
-    Open,
-    /// A word goes on behind its closing quote.
-    Behind,
-    /// A backslash stands before a letter that it may not stand before.
-    Escape,
-}
 
 /// Why a line is refused, as far as its words and the game tell. Each cause is one of a code.
 #[derive(Drop)]

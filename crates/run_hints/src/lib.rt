@@ -14,7 +14,7 @@ mod lines;
 mod names;
 mod place;
 
-pub use causes::{Cause, QuoteFault, cause_text, code_of, code_words};
+pub use causes::{Cause, cause_text, code_of, code_words};
 pub use forms::{Slot, form_of, slot_code};
 pub use hints::{hint, unread_hint};
 pub use laws::{hints_are_lines, names_are_of_the_run};

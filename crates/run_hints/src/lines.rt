@@ -66,7 +66,7 @@ pub fn refused_hint(
     hint_line(alloc, script, said.as_str())
 }
 
-/// How many lines more are refused than were told.
+/// How many more lines there are to be told of.
 ///
 /// # Errors
 ///
@@ -74,7 +74,7 @@ pub fn refused_hint(
 pub fn more_hint(alloc: Global, script: Option<&str>, more: u32) -> Result<Text, NoMemory>
     ensures { IfOk result (λ text. text ≡ more_hint (option_map (λ name. name.now) script.entry) more) }
 {
-    let said = format!(in alloc; "{more} more lines are refused")?;
+    let said = format!(in alloc; "and {more} more")?;
     hint_line(alloc, script, said.as_str())
 }
 

@@ -1,6 +1,6 @@
 //! What stands at the places of a line, and whether a word may stand there.
-use crate::words::LineWord;
 use fractions::read_ratio;
+use line_words::LineWord;
 use plan_base::NoMemory;
 use plan_report::RefusalCode;
 use run_hints::{Slot, form_of, slot_code};

@@ -8,8 +8,8 @@ use crate::games::{fuel_for, machine_for, machine_of, variant_given};
 use crate::names::{
     like_command, like_label, like_object, like_table, like_word, node_text, object_text,
 };
-use crate::words::{LineWord, Unread, words_of};
 use game_types::Game;
+use line_words::{LineWord, Unread, words_of};
 use plan_base::{Kind, NoMemory, NodeId, Text};
 use plan_report::{Detail, RefusalCode};
 use production_table::Table;

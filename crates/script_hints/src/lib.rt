@@ -12,11 +12,9 @@ mod lines;
 mod names;
 mod short;
 mod telling;
-mod words;
 
 pub use found::{Found, Line, Refused, found_of, found_unread};
 pub use kept::KeptStore;
 pub use lines::{Script, script_hints, unread_hints};
 pub use short::short_of;
 pub use telling::{Ended, is_script_to_keep, said_of_lines};
-pub use words::{LineWord, Unread, words_of};

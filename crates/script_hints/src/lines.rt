@@ -6,8 +6,8 @@ ghost use Rattle.game_types.specs.Sound.{IsSound};
 
 use crate::found::{Found, Line, Refused, found_of, found_unread};
 use crate::short::short_of;
-use crate::words::words_of;
 use game_types::Game;
+use line_words::words_of;
 use linear_table::{Linear, SolveAnswer};
 use plan_base::{NoMemory, Steps, Text};
 use plan_report::{Detail, RefusalCode, Reply};

@@ -1,8 +1,21 @@
-//! The words of a line, and where they begin.
 use plan_base::{NoMemory, Text};
-use run_hints::QuoteFault;
 use std::alloc::Global;
 use std::str::from_utf8;
+
+/// How a line is no line of words.
+#[derive(Clone, Copy, Debug, PartialEq, Eq)]
+pub enum QuoteFault {
+    /// It is not in UTF-8.
+    NotUtf8,
+    /// A quote stands in a word that has none at its front.
+    Within,
+    /// A quote is not closed.
+    Open,
+    /// A word goes on behind its closing quote.
+    Behind,
+    /// A backslash stands before a letter that it may not stand before.
+    Escape,
+}
 
 /// A word of a line, and the column at which it begins.
 #[derive(Drop)]
