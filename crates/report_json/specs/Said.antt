@@ -23,6 +23,20 @@ abbrev pub or_else : Option (List ℕ) → Option (List ℕ) → Option (List �
 or_else (Some first) second = Some first
 or_else None second = second
 
+-- one text behind another, where all are there
+abbrev pub all_texts : {A : Type 0} → (A → Option (List ℕ)) → List A → Option (List ℕ)
+all_texts text [] = Some []
+all_texts text (x ∷ xs) = both (text x) (all_texts text xs)
+
+-- the first text that is there
+abbrev pub first_text : {A : Type 0} → (A → Option (List ℕ)) → List A → Option (List ℕ)
+first_text text [] = None
+first_text text (x ∷ xs) = or_else (text x) (first_text text xs)
+
+abbrev pub data_in : Items → List Data
+data_in no_items = []
+data_in (item d ds) = d ∷ data_in ds
+
 -- ---- members
 abbrev pub string_at : Name → Data → Option (List ℕ)
 string_at key d = option_and_then as_str (get (name_text key) d)
@@ -65,9 +79,11 @@ spaced_word word = 32 ∷ printed_word word
 abbrev pub where_true : Bool → Name → Option (List ℕ)
 where_true holds word = if holds then Some (32 ∷ name_text word) else None
 
+abbrev pub item_word : Data → Option (List ℕ)
+item_word d = option_map spaced_word (as_str d)
+
 abbrev pub items_words : Items → Option (List ℕ)
-items_words no_items = Some []
-items_words (item d ds) = both (option_map spaced_word (as_str d)) (items_words ds)
+items_words ds = all_texts item_word (data_in ds)
 
 -- a piece of a line, where its members are there
 abbrev pub piece_text : Piece → Data → Option (List ℕ)
@@ -83,21 +99,21 @@ piece_text (piece.Empty key word) d = where_true (is_empty_at key d) word
 
 -- the pieces of a line, where all of their members are there
 abbrev pub line_text : List Piece → Data → Option (List ℕ)
-line_text [] d = Some []
-line_text (piece ∷ pieces) d = both (piece_text piece d) (line_text pieces d)
+line_text pieces d = all_texts (λ piece. piece_text piece d) pieces
 
 -- a line by the first form that fits
 abbrev pub first_fit : List Form → Data → Option (List ℕ)
-first_fit [] d = None
-first_fit (form ∷ forms) d = or_else (line_text (pieces_of form) d) (first_fit forms d)
+first_fit forms d = first_text (λ form. line_text (pieces_of form) d) forms
 
 -- ---- replies
 abbrev pub further_line : List ℕ → List ℕ
 further_line words = 32 ∷ (words ++ codes "\n")
 
+abbrev pub item_line : List Form → Data → Option (List ℕ)
+item_line shapes d = option_map further_line (first_fit shapes d)
+
 abbrev pub items_lines : List Form → Items → Option (List ℕ)
-items_lines shapes no_items = Some []
-items_lines shapes (item d ds) = both (option_map further_line (first_fit shapes d)) (items_lines shapes ds)
+items_lines shapes ds = all_texts (item_line shapes) (data_in ds)
 
 -- the further lines of a section: none where it has no list
 abbrev pub lines_at : List Form → Option Data → Option (List ℕ)
@@ -108,16 +124,14 @@ abbrev pub section_text : Section → Data → Option (List ℕ)
 section_text section d = lines_at (shapes_of section) (get (name_text (key_of section)) d)
 
 abbrev pub sections_text : List Section → Data → Option (List ℕ)
-sections_text [] d = Some []
-sections_text (section ∷ sections) d = both (section_text section d) (sections_text sections d)
+sections_text sections d = all_texts (λ section. section_text section d) sections
 
 -- a reply of a form, without its number
 abbrev pub reply_form : Form → Data → Option (List ℕ)
 reply_form form d = both (line_text (pieces_of form) d) (option_map (λ lines. 10 ∷ lines) (sections_text (sections_of form) d))
 
 abbrev pub reply_by : List Form → Data → Option (List ℕ)
-reply_by [] d = None
-reply_by (form ∷ forms) d = or_else (reply_form form d) (reply_by forms d)
+reply_by forms d = first_text (λ form. reply_form form d) forms
 
 -- the text of the reply that an object says, where it says one: the number of its line, and the rest by the first form that fits
 unfoldable pub said : Data → Option (List ℕ)

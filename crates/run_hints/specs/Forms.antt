@@ -1,7 +1,7 @@
 -- What stands behind the first word of a line, place by place, and how that is said. The forms are those of the project's own language of
 -- scripts, whose grammar is in `script_reader/specs/Arguments`.
-use Rattle.std.specs.Prelude.{ℕ, List, [], ◌∷◌, ◌++◌, Option, None, Some, codes}
-use Rattle.std.specs.List.{flat_map}
+use Rattle.std.specs.Prelude.{ℕ, List, [], ◌∷◌, Option, None, Some, codes, map}
+use Rattle.node_report.specs.Layout.{spaced}
 use Rattle.plan_report.specs.declared.reply.RefusalCode.{RefusalCode}
 use Rattle.plan_report.specs.declared.reply.RefusalCode.TheVariants.{Q2, Q3, Q5}
 use Rattle.script_reader.specs.declared.command_words.CommandWord.{CommandWord}
@@ -124,7 +124,7 @@ form word.Power = slot.Table ∷ slot.Switch ∷ []
 
 -- names, each behind a space
 abbrev pub front_words : List Slot → List ℕ
-front_words slots = flat_map (λ slot. 32 ∷ slot_name slot) slots
+front_words slots = spaced (map slot_name slots)
 
 -- what stands at a place, or that the line ends there
 abbrev pub next_words : Option Slot → List ℕ

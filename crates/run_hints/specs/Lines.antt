@@ -29,7 +29,7 @@ more_hint script more = hint_line script (codes "and " ++ (decimal more ++ codes
 abbrev pub short_text : Short → List ℕ
 short_text (short.Ungiven good) = codes "no row or import gives " ++ printed_word good
 short_text (short.Warmer base variant) =
-    codes "no row or import gives " ++ (printed_word base ++ (codes ", which has several temperatures; " ++ (printed_word variant ++ codes " is given")))
+    codes "no row or import gives " ++ (printed_word base ++ (codes ", but " ++ printed_word variant))
 short_text (short.Unmet good) = codes "no rates give as much of " ++ (printed_word good ++ codes " as is taken and wanted")
 
 -- of a table without a plan

@@ -1,6 +1,6 @@
 // What stands at the places of a line, command by command.
-ghost use Rattle.std.specs.Prelude.{◌≡◌, IfOk, codes, string_bytes, take};
-ghost use Rattle.std.specs.List.{flat_map, slice_get};
+ghost use Rattle.std.specs.Prelude.{◌≡◌, IfOk, string_bytes};
+ghost use Rattle.std.specs.List.{slice_get};
 ghost use Rattle.run_hints.specs.Forms.{form, front_words, next_words, slot_code, slot_name, slot_words};
 
 use plan_report::RefusalCode;

@@ -89,7 +89,7 @@ fn short_text(alloc: Global, short: &Short) -> Result<String, AllocError>
         Short::Warmer { base, variant } => {
             let base = printed_word(alloc, base.as_str())?;
             let variant = printed_word(alloc, variant.as_str())?;
-            format!(in alloc; "no row or import gives {base}, which has several temperatures; {variant} is given")
+            format!(in alloc; "no row or import gives {base}, but {variant}")
         }
         Short::Unmet(good) => {
             let good = printed_word(alloc, good.as_str())?;

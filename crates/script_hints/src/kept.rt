@@ -10,7 +10,7 @@ use std::alloc::Global;
 pub struct KeptStore<S: Store + Drop> {
     store: S,
     script: Option<u32>,
-    begun: u32,
+    calls: u32,
     bytes: Option<Vec<u8>>,
 }
 
@@ -23,7 +23,7 @@ impl<S: Store + Drop> KeptStore<S> {
         KeptStore {
             store,
             script: None,
-            begun: 0,
+            calls: 0,
             bytes: if is_wanted {
                 Some(Vec::new(alloc))
             } else {
@@ -65,8 +65,8 @@ impl<S: Store + Drop> Store for KeptStore<S> {
 
     fn begin(&mut self, name: &str) -> Result<u32, Failed> {
         let slot = self.store.begin(name);
-        self.begun = self.begun.saturating_add(1);
-        if self.begun == 2 {
+        self.calls = self.calls.saturating_add(1);
+        if self.calls == 2 {
             self.script = slot.ok();
         }
         slot

@@ -197,8 +197,34 @@ fn tell_answer(
     }
 }
 
+// Carries out a command, with nothing solved.
+fn pose_command<L>(
+    planner: &mut Planner,
+    number: u32,
+    command: Command,
+    steps: &mut Steps<L>,
+) -> Result<Posed, NoMemory>
+    requires { (base : State) × IsSessionOf base planner.old }
+    ensures { (base : State) × IsSessionOf base planner.new }
+{
+    planner.pose(number, command, steps)
+}
+
+// Answers a line without a command.
+fn pose_reading<L>(
+    planner: &mut Planner,
+    number: u32,
+    reading: Result<Option<Command>, ScriptFault>,
+    steps: &mut Steps<L>,
+) -> Result<Posed, NoMemory>
+    requires { (base : State) × IsSessionOf base planner.old }
+    ensures { (base : State) × IsSessionOf base planner.new }
+{
+    reply_to(planner, number, reading, steps).map(Posed::Reply)
+}
+
 // Carries out what a line is read as, with nothing solved.
-fn posed<L>(
+fn carried_out<L>(
     planner: &mut Planner,
     number: u32,
     reading: Result<Option<Command>, ScriptFault>,
@@ -208,11 +234,8 @@ fn posed<L>(
     ensures { (base : State) × IsSessionOf base planner.new }
 {
     match reading {
-        Ok(Some(command)) => planner.pose(number, command, steps),
-        other => match reply_to(planner, number, other, steps) {
-            Ok(reply) => Ok(Posed::Reply(reply)),
-            Err(NoMemory) => Err(NoMemory),
-        },
+        Ok(Some(command)) => pose_command(planner, number, command, steps),
+        other => pose_reading(planner, number, other, steps),
     }
 }
 
@@ -256,7 +279,7 @@ fn look_at<L>(
     ensures { (base : State) × IsSessionOf base planner.new }
 {
     let reading = reading_of(alloc, line.bytes)?;
-    let posed = posed(planner, line.number, reading, steps)?;
+    let posed = carried_out(planner, line.number, reading, steps)?;
     tell_posed(alloc, planner, script, line, posed, solved, telling)
 }
 
