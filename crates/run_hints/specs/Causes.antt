@@ -96,6 +96,20 @@ code_of (cause.DoneBy machine activity other) = r.K1
 code_of (cause.Warmer fluid machine variant) = r.K1
 code_of (cause.Fuelless machine fuel) = r.L1
 
+-- a table has no row of a label
+abbrev pub no_row_text : List ℕ → List ℕ → List ℕ
+no_row_text table label = (codes "table " ++ printed_word table) ++ (codes " has no row " ++ printed_word label)
+
+-- another machine does what one doesn't
+abbrev pub done_by_text : List ℕ → List ℕ → List ℕ → List ℕ
+done_by_text machine activity other =
+    (printed_word machine ++ (codes " does not do " ++ printed_word activity)) ++ (codes "; " ++ (printed_word other ++ codes " does"))
+
+-- a machine gives a fluid at a temperature
+abbrev pub warmer_text : List ℕ → List ℕ → List ℕ → List ℕ
+warmer_text fluid machine variant =
+    (printed_word fluid ++ codes " has several temperatures; ") ++ (printed_word machine ++ (codes " makes " ++ printed_word variant))
+
 -- what is said of a cause
 abbrev pub cause_text : Cause → List ℕ
 cause_text (cause.Coded code) = code_words code
@@ -110,11 +124,9 @@ cause_text (cause.NoObject kind word) = codes "no " ++ (kind_noun kind ++ (codes
 cause_text (cause.NoModule word) = printed_word word ++ codes " is no module"
 cause_text (cause.NoBeacon word) = printed_word word ++ codes " is no beacon"
 cause_text (cause.NoTable word) = codes "no table is called " ++ printed_word word
-cause_text (cause.NoRow table label) = codes "table " ++ (printed_word table ++ (codes " has no row " ++ printed_word label))
-cause_text (cause.NoPrice word) = printed_word word ++ codes " has no such price to take off"
+cause_text (cause.NoRow table label) = no_row_text table label
+cause_text (cause.NoPrice word) = printed_word word ++ codes " has no such price"
 cause_text (cause.Undone machine activity) = printed_word machine ++ (codes " does not do " ++ printed_word activity)
-cause_text (cause.DoneBy machine activity other) =
-    printed_word machine ++ (codes " does not do " ++ (printed_word activity ++ (codes "; " ++ (printed_word other ++ codes " does"))))
-cause_text (cause.Warmer fluid machine variant) =
-    printed_word fluid ++ (codes " has several temperatures; " ++ (printed_word machine ++ (codes " makes " ++ printed_word variant)))
-cause_text (cause.Fuelless machine fuel) = printed_word machine ++ (codes " burns a fuel, and none is named; it takes " ++ printed_word fuel)
+cause_text (cause.DoneBy machine activity other) = done_by_text machine activity other
+cause_text (cause.Warmer fluid machine variant) = warmer_text fluid machine variant
+cause_text (cause.Fuelless machine fuel) = printed_word machine ++ (codes " burns a fuel, such as " ++ printed_word fuel)

@@ -41,7 +41,9 @@ pub struct Found {
 
 impl Found {
     // By the code alone.
-    fn coded(code: RefusalCode) -> Found {
+    fn coded(code: RefusalCode) -> Found
+        ensures { code_of result.cause ≡ code }
+    {
         Found {
             column: None,
             cause: Cause::Coded(code),
