@@ -59,7 +59,9 @@ fn ran<R: Files + Print + Eprint + Clock>(
     let mut out = WatchedSink::make(HostSink::make(rt), Watch::start(rt, is_shown));
     let mut steps = Steps::new(Program);
     let Outcome {
-        status, answers, ..
+        status,
+        answers,
+        ..
     } = run(alloc, words, &mut store, &mut out, &mut steps);
     let (store, script) = store.into_parts();
     store.clear();

@@ -52,12 +52,7 @@ fn json_end<R: Files + Print>(
 }
 
 // The CSV of a plan, or the end of a script that leaves none.
-fn plan_end<R: Files + Print>(
-    rt: &R,
-    alloc: Global,
-    plan: Option<Text>,
-    names: Names<'_>,
-) -> End {
+fn plan_end<R: Files + Print>(rt: &R, alloc: Global, plan: Option<Text>, names: Names<'_>) -> End {
     let Some(plan) = plan else {
         return End::saying(
             alloc,

@@ -33,9 +33,9 @@ pub one_joined : {A : Type 0} (text : A → Option (List ℕ)) (xs : List A) (k 
     → Joined text xs k so_far → Joined text xs (k + 1) new
 one_joined text xs k x so_far more new within at put is so = record {
   behind = so.behind ∙ ap (λ ys. both (Some so_far) (all_texts text ys)) (next xs k x within at)
-    ∙ ap (λ o. both (Some so_far) (both o (all_texts text (drop (k + 1) xs)))) (sym is)
-    ∙ regroup so_far more (all_texts text (drop (k + 1) xs))
-    ∙ ap (λ t. both (Some t) (all_texts text (drop (k + 1) xs))) (sym put);
+      ∙ ap (λ o. both (Some so_far) (both o (all_texts text (drop (k + 1) xs)))) (sym is)
+      ∙ regroup so_far more (all_texts text (drop (k + 1) xs))
+      ∙ ap (λ t. both (Some t) (all_texts text (drop (k + 1) xs))) (sym put);
 }
 
 pub not_joined : {A : Type 0} (text : A → Option (List ℕ)) (xs : List A) (k : ℕ) (x : A) (so_far : List ℕ) → k < length xs → x ≡ get_or xs k x → None ≡ text x

@@ -196,8 +196,7 @@ pub fn reply_value(alloc: Global, text: &str) -> Result<Option<Value>, NoMemory>
     let Some(number) = number_in(first) else {
         return Ok(None);
     };
-    let Some((form, mut members)) =
-        first_members(alloc, heads(), first.get(1..).unwrap_or(&[]))?
+    let Some((form, mut members)) = first_members(alloc, heads(), first.get(1..).unwrap_or(&[]))?
     else {
         return Ok(None);
     };

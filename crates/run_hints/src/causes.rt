@@ -17,7 +17,10 @@ pub enum Cause {
     /// What the code alone says.
     Coded(RefusalCode),
     /// The same, of what a word names.
-    Of { word: Text, code: RefusalCode },
+    Of {
+        word: Text,
+        code: RefusalCode,
+    },
     /// The script begins with a byte order mark.
     Mark,
     /// No command is called so.
@@ -31,11 +34,17 @@ pub enum Cause {
         at: usize,
     },
     /// A word is not what stands at such a place.
-    Unfit { word: Text, slot: Slot },
+    Unfit {
+        word: Text,
+        slot: Slot,
+    },
     /// A word is badly quoted.
     Quoting(QuoteFault),
     /// Nothing of a kind has the name of a word.
-    NoObject { kind: Kind, word: Text },
+    NoObject {
+        kind: Kind,
+        word: Text,
+    },
     /// An item is no module.
     NoModule(Text),
     /// A machine is no beacon.
@@ -43,11 +52,17 @@ pub enum Cause {
     /// There is no table of a name.
     NoTable(Text),
     /// A table has no row of a label.
-    NoRow { table: Text, label: Text },
+    NoRow {
+        table: Text,
+        label: Text,
+    },
     /// A good has no import, or no surplus.
     NoPrice(Text),
     /// A machine does not do an activity.
-    Undone { machine: Text, activity: Text },
+    Undone {
+        machine: Text,
+        activity: Text,
+    },
     /// The same, and another does.
     DoneBy {
         machine: Text,
@@ -61,7 +76,10 @@ pub enum Cause {
         variant: Text,
     },
     /// A machine takes a fuel, and none is named; it takes this one.
-    Fuelless { machine: Text, fuel: Text },
+    Fuelless {
+        machine: Text,
+        fuel: Text,
+    },
 }
 
 /// What a code says of a line, where no more is known.
@@ -120,7 +138,8 @@ fn quote_words(fault: QuoteFault) -> &'static str
         QuoteFault::Within => "a quote stands within a word",
         QuoteFault::Open => "a quote is not closed",
         QuoteFault::Behind => "a word goes on behind its closing quote",
-        QuoteFault::Escape => "a backslash in quotes stands before none of n, t, r, quote and backslash",
+        QuoteFault::Escape =>
+            "a backslash in quotes stands before none of n, t, r, quote and backslash",
     }
 }
 
@@ -301,7 +320,12 @@ pub fn cause_text(alloc: Global, cause: &Cause) -> Result<String, AllocError>
             variant,
         } => warmer_text(alloc, fluid.as_str(), machine.as_str(), variant.as_str()),
         Cause::Fuelless { machine, fuel } => {
-            between(alloc, machine.as_str(), " burns a fuel, such as ", fuel.as_str())
+            between(
+                alloc,
+                machine.as_str(),
+                " burns a fuel, such as ",
+                fuel.as_str(),
+            )
         }
     }
 }

@@ -64,11 +64,7 @@ fn text_after(alloc: Global, fault: JsonFault) -> Result<String, AllocError>
 }
 
 // The text of a place, or of no place.
-fn placed_text(
-    alloc: Global,
-    fault: JsonFault,
-    place: Option<Place>,
-) -> Result<String, AllocError>
+fn placed_text(alloc: Global, fault: JsonFault, place: Option<Place>) -> Result<String, AllocError>
     ensures { IfOk result (λ text. string_bytes text ≡ json_text_at place fault) }
 {
     match place {

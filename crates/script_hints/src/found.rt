@@ -75,11 +75,7 @@ fn is_mark(line: &Line<'_>) -> bool {
 }
 
 // Of a line whose first word is no command.
-fn unknown_command(
-    alloc: Global,
-    line: &Line<'_>,
-    words: &[LineWord],
-) -> Result<Found, NoMemory> {
+fn unknown_command(alloc: Global, line: &Line<'_>, words: &[LineWord]) -> Result<Found, NoMemory> {
     if is_mark(line) {
         return Ok(Found::at(1, Cause::Mark));
     }
@@ -97,18 +93,11 @@ fn unknown_command(
 
 // The word of a comment behind a command.
 fn comment_among(words: &[LineWord]) -> Option<&LineWord> {
-    words
-        .iter()
-        .skip(1)
-        .find(|word| word.text.as_str().as_bytes().first() == Some(&b'#'))
+    words.iter().skip(1).find(|word| word.text.as_str().as_bytes().first() == Some(&b'#'))
 }
 
 // Of a line with other words than those of its command.
-fn wrong_words(
-    alloc: Global,
-    command: CommandWord,
-    words: &[LineWord],
-) -> Result<Found, NoMemory> {
+fn wrong_words(alloc: Global, command: CommandWord, words: &[LineWord]) -> Result<Found, NoMemory> {
     if let Some(word) = comment_among(words) {
         return Ok(Found::at(word.column, Cause::Comment));
     }
@@ -166,21 +155,15 @@ fn unread(
 // Whether a line of such a code can't be read.
 fn is_unread(code: RefusalCode) -> bool {
     match code {
-        RefusalCode::Q1
-        | RefusalCode::Q2
-        | RefusalCode::Q3
-        | RefusalCode::Q4
-        | RefusalCode::Q5 => true,
+        RefusalCode::Q1 | RefusalCode::Q2 | RefusalCode::Q3 | RefusalCode::Q4 | RefusalCode::Q5 =>
+            true,
         _ => false,
     }
 }
 
 // The first word behind the command that is so written.
 fn word_of<'a>(words: &'a [LineWord], text: &str) -> Option<&'a LineWord> {
-    words
-        .iter()
-        .skip(1)
-        .find(|word| word.text.as_str() == text)
+    words.iter().skip(1).find(|word| word.text.as_str() == text)
 }
 
 // The word before the first one that is so written.
@@ -191,18 +174,12 @@ fn word_before<'a>(words: &'a [LineWord], text: &str) -> Option<&'a LineWord> {
 
 // The word behind the first `fuel`.
 fn fuel_word(words: &[LineWord]) -> Option<&LineWord> {
-    let place = words
-        .iter()
-        .position(|word| word.text.as_str() == "fuel")?;
+    let place = words.iter().position(|word| word.text.as_str() == "fuel")?;
     words.get(place.checked_add(1)?)
 }
 
 // By the code, of the word where there is one.
-fn of_some(
-    alloc: Global,
-    word: Option<&LineWord>,
-    code: RefusalCode,
-) -> Result<Found, NoMemory> {
+fn of_some(alloc: Global, word: Option<&LineWord>, code: RefusalCode) -> Result<Found, NoMemory> {
     match word {
         Some(word) => Found::of_word(alloc, word, code),
         None => Ok(Found::coded(code)),
@@ -598,11 +575,7 @@ pub fn found_of(
 /// # Errors
 ///
 /// `NoMemory` where memory could not be had.
-pub fn found_unread(
-    alloc: Global,
-    line: &Line<'_>,
-    code: RefusalCode,
-) -> Result<Found, NoMemory>
+pub fn found_unread(alloc: Global, line: &Line<'_>, code: RefusalCode) -> Result<Found, NoMemory>
     ensures { IfOk result (λ found. code_of found.cause ≡ code) }
 {
     let found = match words_of(alloc, line.bytes)? {

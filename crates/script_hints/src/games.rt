@@ -18,7 +18,9 @@ fn place_of(game: &Game, kind: Kind, name: &str) -> Option<usize>
 pub fn machine_of<'a>(game: &'a Game, name: &str) -> Option<&'a Machine>
     requires { IsSound game.now }
 {
-    game.machines.as_slice().get(place_of(game, Kind::Machine, name)?)
+    game.machines
+        .as_slice()
+        .get(place_of(game, Kind::Machine, name)?)
 }
 
 // The name of a fluid.
