@@ -4,12 +4,10 @@
 mod telling;
 
 use crate::telling::said;
-use linear_table::SolveAnswer;
 use plan_base::{NoMemory, Steps, Text};
 use plan_io::{HostSink, HostStore};
-use planner_cli::{Outcome, Status, run};
+use planner_cli::{Status, run};
 use run_progress::{Watch, WatchedSink, WatchedStore};
-use script_hints::{Ended, KeptStore, is_script_to_keep, said_of_lines};
 use std::alloc::Global;
 use std::io::IsTerminal;
 use std::process::ExitCode;
@@ -39,71 +37,33 @@ fn program_words<R: Env + AllocGlobal>(rt: &R, alloc: Global) -> Result<Vec<Text
     Ok(words)
 }
 
-// How a run ended, and what a second look at its lines takes.
-#[derive(Drop)]
-struct Run {
-    status: Status,
-    answers: Vec<SolveAnswer>,
-    script: Option<Vec<u8>>,
-}
-
-// The run that the words ask for. Its progress is told on standard error where that is shown.
-fn ran<R: Files + Print + Eprint + Clock>(
+// How the run that the words ask for ended. Its progress is told on standard error where that is shown.
+fn ended<R: Files + Print + Eprint + Clock>(
     rt: &R,
     alloc: Global,
     words: &[Text],
     is_shown: bool,
-) -> Run {
-    let store = WatchedStore::make(HostStore::make(rt), Watch::start(rt, is_shown));
-    let mut store = KeptStore::make(alloc, store, is_script_to_keep(rt, alloc, words));
+) -> Status {
+    let mut store = WatchedStore::make(HostStore::make(rt), Watch::start(rt, is_shown));
     let mut out = WatchedSink::make(HostSink::make(rt), Watch::start(rt, is_shown));
     let mut steps = Steps::new(Program);
-    let Outcome {
-        status,
-        answers,
-        ..
-    } = run(alloc, words, &mut store, &mut out, &mut steps);
-    let (store, script) = store.into_parts();
+    let status = run(alloc, words, &mut store, &mut out, &mut steps).status;
     store.clear();
     out.clear();
-    Run {
-        status,
-        answers,
-        script,
-    }
-}
-
-// Says on standard error how a run ended, and what is to be said of its lines.
-fn tell<R: Files + Eprint + AllocGlobal>(rt: &R, alloc: Global, words: &[Text], ended: &Run) {
-    let lines = Ended {
-        status: &ended.status,
-        answers: &ended.answers,
-        script: ended.script.as_deref(),
-    };
-    // Where nothing can be said, the status still tells.
-    if let Some(said) = said(rt, alloc, &ended.status, words) {
-        let _ = rt.eprint(said.as_str());
-    }
-    if let Some(said) = said_of_lines(rt, alloc, words, &lines) {
-        let _ = rt.eprint(said.as_str());
-    }
+    status
 }
 
 fn main(rt: HostRuntime) -> ExitCode {
     let alloc = rt.alloc();
     // A terminal that has the report itself shows how far the run is.
     let is_shown = rt.stderr().is_terminal() && !rt.stdout().is_terminal();
-    let (ended, words) = match program_words(&rt, alloc) {
-        Ok(words) => (ran(&rt, alloc, &words, is_shown), words),
-        Err(NoMemory) => {
-            let ended = Run {
-                status: Status::NoMemory,
-                answers: Vec::new(alloc),
-                script: None,
-            };
-            (ended, Vec::new(alloc))
-        }
+    let (status, words) = match program_words(&rt, alloc) {
+        Ok(words) => (ended(&rt, alloc, &words, is_shown), words),
+        Err(NoMemory) => (Status::NoMemory, Vec::new(alloc)),
     };
-    tell(&rt, alloc, &words, &ended);
-    ExitCode::from(ended.status.exit())
+    if let Some(said) = said(&rt, alloc, &status, &words) {
+        // Where nothing can be said, the status still tells.
+        let _ = rt.eprint(said.as_str());
+    }
+    ExitCode::from(status.exit())
 }
