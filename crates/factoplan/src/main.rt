@@ -3,7 +3,7 @@
 
 mod telling;
 
-use crate::telling::said;
+use crate::telling::{said, unread};
 use plan_base::{NoMemory, Steps, Text};
 use plan_io::{HostSink, HostStore};
 use planner_cli::{Status, run};
@@ -37,31 +37,32 @@ fn program_words<R: Env + AllocGlobal>(rt: &R, alloc: Global) -> Result<Vec<Text
     Ok(words)
 }
 
-// How the run that the words ask for ended. Its progress is told on standard error where that is shown.
+// How the run that the words ask for ended, and what is to be said of a file that could not be read. Its progress is told on standard
+// error where that is shown.
 fn ended<R: Files + Print + Eprint + Clock>(
     rt: &R,
     alloc: Global,
     words: &[Text],
     is_shown: bool,
-) -> Status {
-    let mut store = WatchedStore::make(HostStore::make(rt), Watch::start(rt, is_shown));
+) -> (Status, Option<Text>) {
+    let mut store = WatchedStore::make(HostStore::make(alloc, rt), Watch::start(rt, is_shown));
     let mut out = WatchedSink::make(HostSink::make(rt), Watch::start(rt, is_shown));
     let mut steps = Steps::new(Program);
     let status = run(alloc, words, &mut store, &mut out, &mut steps).status;
     store.clear();
     out.clear();
-    status
+    (status, unread(alloc, store.store().fault()))
 }
 
 fn main(rt: HostRuntime) -> ExitCode {
     let alloc = rt.alloc();
     // A terminal that has the report itself shows how far the run is.
     let is_shown = rt.stderr().is_terminal() && !rt.stdout().is_terminal();
-    let (status, words) = match program_words(&rt, alloc) {
+    let ((status, unread), words) = match program_words(&rt, alloc) {
         Ok(words) => (ended(&rt, alloc, &words, is_shown), words),
-        Err(NoMemory) => (Status::NoMemory, Vec::new(alloc)),
+        Err(NoMemory) => ((Status::NoMemory, None), Vec::new(alloc)),
     };
-    if let Some(said) = said(&rt, alloc, &status, &words) {
+    if let Some(said) = said(&rt, alloc, &status, &words, unread) {
         // Where nothing can be said, the status still tells.
         let _ = rt.eprint(said.as_str());
     }

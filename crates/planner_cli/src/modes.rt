@@ -11,7 +11,7 @@ ghost use Rattle.planner_core.specs.Lines.{first_planned, IsSessionOf};
 ghost use Rattle.planner_cli.specs.Ending.{EndsRun, answering};
 ghost use Rattle.run_inputs.specs.Ready.{IsReady};
 ghost use Rattle.run_inputs.specs.Inputs.{IsScript};
-ghost use Rattle.run_inputs.specs.Keeping.{KeepsSink, KeepsStore};
+ghost use Rattle.run_inputs.specs.Keeping.{KeepsSink, KeepsSlots, KeepsStore};
 ghost use Rattle.cli_words.specs.Words.{Check, FileNames, Files, Run, Sample};
 
 use crate::answer::answer;
@@ -40,6 +40,7 @@ pub fn run_files<S: Store, K: Sink, L>(
     requires none_yet { solved.old.items ≡ [] }
     ensures leaves { Leaves (EndsRun (S.shelf store.old) (Some (Files (answering prove) (record { dump = dump.now; script = script.now }))) (steps.new - steps.old) solved.new.items) is_cut (K.written out.old) (K.written out.new) steps.old steps.new result }
     ensures begins { BeginsFiles (S.shelf store.old) (Some (Files (answering prove) (record { dump = dump.now; script = script.now }))) (S.begun store.old) (S.begun store.new) result }
+    ensures slots { KeepsSlots (S.left store.old) (S.left store.new) (S.begun store.old).slots }
     ensures store { KeepsStore (S.shelf store.old) (S.shelf store.new) (S.faults store.old) (S.faults store.new) (result ≡ Status.ReadFault) }
     ensures sink { KeepsSink (K.limit out.old) (K.limit out.new) (K.faults out.old) (K.faults out.new) (result ≡ Status.WriteFault) }
 {
@@ -65,6 +66,7 @@ fn check_lent<S: Store, K: Sink, L>(
         → Leaves (EndsRun (S.shelf store.old) (Some (Files (Check cert.now) names)) (steps.new - first) []) is_cut (K.written out.old) (K.written out.new) first steps.new result }
     ensures begins { (names : FileNames) (first : Begun) → IsScript (S.shelf store.old) (Some (Files Run names)) script.now → BeginsFiles (S.shelf store.old) (Some (Files Run names)) first (S.begun store.old) Status.Done
         → BeginsFiles (S.shelf store.old) (Some (Files (Check cert.now) names)) first (S.begun store.new) result }
+    ensures slots { KeepsSlots (S.left store.old) (S.left store.new) (S.begun store.old).slots }
     ensures store { KeepsStore (S.shelf store.old) (S.shelf store.new) (S.faults store.old) (S.faults store.new) (result ≡ Status.ReadFault) }
     ensures sink { KeepsSink (K.limit out.old) (K.limit out.new) (K.faults out.old) (K.faults out.new) (result ≡ Status.WriteFault) }
     ensures later { steps.old ≤ steps.new }
@@ -100,6 +102,7 @@ fn check_ready<S: Store, K: Sink, L>(
         → Leaves (EndsRun (S.shelf store.old) (Some (Files (Check cert.now) names)) (steps.new - first) []) is_cut (K.written out.old) (K.written out.new) first steps.new result }
     ensures begins { (names : FileNames) (first : Begun) → IsScript (S.shelf store.old) (Some (Files Run names)) ready.script.items → BeginsFiles (S.shelf store.old) (Some (Files Run names)) first (S.begun store.old) Status.Done
         → BeginsFiles (S.shelf store.old) (Some (Files (Check cert.now) names)) first (S.begun store.new) result }
+    ensures slots { KeepsSlots (S.left store.old) (S.left store.new) (S.begun store.old).slots }
     ensures store { KeepsStore (S.shelf store.old) (S.shelf store.new) (S.faults store.old) (S.faults store.new) (result ≡ Status.ReadFault) }
     ensures sink { KeepsSink (K.limit out.old) (K.limit out.new) (K.faults out.old) (K.faults out.new) (result ≡ Status.WriteFault) }
     ensures later { steps.old ≤ steps.new }
@@ -126,6 +129,7 @@ pub fn check_files<S: Store, K: Sink, L>(
     requires calls { (S.begun store.old).calls ≤ 1 }
     ensures leaves { Leaves (EndsRun (S.shelf store.old) (Some (Files (Check cert.now) (record { dump = dump.now; script = script.now }))) (steps.new - steps.old) []) is_cut (K.written out.old) (K.written out.new) steps.old steps.new result }
     ensures begins { BeginsFiles (S.shelf store.old) (Some (Files (Check cert.now) (record { dump = dump.now; script = script.now }))) (S.begun store.old) (S.begun store.new) result }
+    ensures slots { KeepsSlots (S.left store.old) (S.left store.new) (S.begun store.old).slots }
     ensures store { KeepsStore (S.shelf store.old) (S.shelf store.new) (S.faults store.old) (S.faults store.new) (result ≡ Status.ReadFault) }
     ensures sink { KeepsSink (K.limit out.old) (K.limit out.new) (K.faults out.old) (K.faults out.new) (result ≡ Status.WriteFault) }
 {

@@ -5,7 +5,6 @@ ghost use Rattle.graph_store.specs.Rows.{member_count};
 ghost use Rattle.game_types.specs.Nodes.{shape_of};
 ghost use Rattle.game_types.specs.Sound.{IsSound};
 ghost use Rattle.depend_rows.specs.Rows.{rows_of};
-ghost use Rattle.depend_rows.specs.declared.rows.TheConstants.{MEMBER_LIMIT};
 ghost use Rattle.state_changes.specs.States.{State};
 ghost use Rattle.planner_tables.specs.Effects.{AreSoundTables};
 ghost use Rattle.edit_undo.specs.Session.{last_of, redo_of, undo_of};
@@ -71,8 +70,8 @@ impl Planner {
     pub fn load<L>(alloc: Global, game: Game, steps: &mut Steps<L>) -> Result<Planner, LoadFault>
         requires { IsSound game }
         ensures planner { MatchResult result
-            (λ planner. (planner ≡ first_planned game) × (member_count (rows_of game) ≤ MEMBER_LIMIT))
-            (λ fault. fault ≡ LoadFault.Members → MEMBER_LIMIT < member_count (rows_of game)) }
+            (λ planner. (planner ≡ first_planned game) × (member_count (rows_of game) ≤ 4_194_304))
+            (λ fault. fault ≡ LoadFault.Members → 4_194_304 < member_count (rows_of game)) }
         ensures steps { IfOk result (λ _. steps.new ≤ steps.old + node_count (shape_of game) + 4 * (node_count (shape_of game) + member_count (rows_of game))) }
         ensures later { steps.old ≤ steps.new }
     {
