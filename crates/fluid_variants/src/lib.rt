@@ -1,7 +1,10 @@
-//! Fluids by temperature: a fluid that is made at several temperatures becomes a base and a variant for each of them.
+//! Fluids by temperature: the temperatures at which a game makes each of its fluids, and a base with a variant for each of
+//! them where they are several.
 #![tactic(auto)]
 
 mod assembly;
+mod lists;
+mod made;
 mod naming;
 mod places;
 mod records;
