@@ -2,9 +2,13 @@
 #![tactic(auto)]
 
 mod dump;
+mod families;
+mod goods;
 mod keys;
 mod laws;
 mod links;
+mod machines;
+mod ways;
 
 pub use dump::read_dump;
 pub use laws::one_game;
