@@ -1,4 +1,5 @@
-//! Tests of the small crates: lists, files, names, fractions, energies, the queue of nodes and the check of plans.
+//! Tests of the small crates: lists, files, names, fractions, energies, the queue of nodes, the check of plans and the reader
+//! of JSON.
 #![tactic(auto)]
 
 #[cfg(test)]
@@ -9,6 +10,12 @@ mod energies;
 mod files;
 #[cfg(test)]
 mod fractions_of_text;
+#[cfg(test)]
+mod json_faults;
+#[cfg(test)]
+mod json_made;
+#[cfg(test)]
+mod json_trees;
 #[cfg(test)]
 mod lists;
 #[cfg(test)]

@@ -1,4 +1,4 @@
-//! Tests of the records of a game, and of the rates of machines.
+//! Tests of the records of a game, of the rates of machines and of the script's lines.
 #![tactic(auto)]
 
 #[cfg(test)]
@@ -9,3 +9,7 @@ mod fitting;
 mod games;
 #[cfg(test)]
 mod rates;
+#[cfg(test)]
+mod script_fields;
+#[cfg(test)]
+mod script_lines;

@@ -1,4 +1,4 @@
-//! Tests of what a dump is read as: its fields, and its prototypes.
+//! Tests of what a dump is read as, its fields and its prototypes, and of the texts that the maker of samples writes.
 #![tactic(auto)]
 
 #[cfg(test)]
@@ -9,5 +9,7 @@ mod drafts;
 mod faults;
 #[cfg(test)]
 mod fields;
+#[cfg(test)]
+mod samples;
 #[cfg(test)]
 mod trees;

@@ -1,3 +1,4 @@
+//! The texts of samples beside those that the reference makes.
 ghost use Rattle.std.specs.Prelude.{◌<◌, ◌≤◌};
 
 use plan_base::NoMemory;

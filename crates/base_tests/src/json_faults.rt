@@ -1,5 +1,5 @@
 //! Texts beside what a slow reader in another language says of them.
-use crate::made::{bytes, digits, wanted};
+use crate::json_made::{bytes, digits, wanted};
 use json_text::{JsonCode, JsonFault, SpanTree, read_spans, skip_value};
 use plan_base::NoMemory;
 use std::alloc::Global;

@@ -1,5 +1,5 @@
 //! Trees that are read, and texts that are refused at their ends.
-use crate::made::wanted;
+use crate::json_made::wanted;
 use json_text::{
     JsonCode, JsonFault, JsonNode, SpanMember, SpanNode, SpanText, SpanTree, Tree, read_spans,
     read_tree,
