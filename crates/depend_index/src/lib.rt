@@ -1,9 +1,11 @@
 //! The nodes that the rows of a game are put together from, in lists by number, and what is looked up in them.
 #![tactic(auto)]
 
+mod about;
 mod among;
 mod index;
 mod kinds;
+mod lists;
 mod marks;
 mod noting;
 mod places;
