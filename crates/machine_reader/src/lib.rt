@@ -6,6 +6,7 @@ mod energy;
 mod machines;
 mod names;
 mod raw;
+mod rules;
 mod sections;
 
 pub use machines::read_machine;
