@@ -1,6 +1,7 @@
 //! The fields of a prototype: how each kind of value is read of a tree of JSON, and which faults it may have.
 #![tactic(auto)]
 
+mod amounts;
 mod fault;
 mod fields;
 mod lists;
