@@ -28,6 +28,7 @@ use Rattle.json_text.proofs.Complete.{complete}
 use Rattle.json_text.proofs.Found.{ends_between}
 use Rattle.json_text.proofs.Places.{steps, steps-push, IsWell, IsLetter, GoWell, go-well, goes_on, no_longer}
 use Rattle.json_text.proofs.Refusals.{utf8_push, utf8_strip, known_of, pending_more, MoreUtf8, Refusal, refusal, not_utf8, not_json, lex_inside, lex_in_string, inside_step, chars_utf8}
+use Rattle.json_text.proofs.Reading.{classed}
 
 -- states outside of strings, and those at the beginning of one
 abbrev pub IsOutside : State → Type 0
@@ -232,10 +233,6 @@ GoLeads b (next deep many σ) = Leads b σ
 GoLeads b (names repeats σ) = Leads b σ
 GoLeads b (refused code) = code ≡ NotJson
 
-quote-class : (b : ℕ) → class b ≡ Quote → b ≡ 34
-unfolding class
-quote-class b h = grind (arith, nat_tests)
-
 other_class : (b : ℕ) → 128 ≤ b → class b ≡ Other
 unfolding class
 other_class b h = grind (arith, nat_tests)
@@ -249,7 +246,7 @@ plain-class b c h q o = (low (nat_lt b 128) refl, λ e. q (sym h ∙ ap class e)
     low false e = let big : 128 ≤ b = grind (arith, nat_tests) in absurd (o (sym h ∙ other_class b big))
 
 shape-leads : (b : ℕ) (c : Class) (σ : State) → class b ≡ c → Shape c σ → Leads b σ
-shape-leads b Quote σ e s = let q = quote-class b e in (omega arith, inl (q, s))
+shape-leads b Quote σ e s = let q = classed Quote b e in (omega arith, inl (q, s))
 shape-leads b Zero σ e s = let p = plain-class b Zero e (λ x. cc) (λ x. cc) in (p.0, inr (p.1, s))
 shape-leads b Digit σ e s = let p = plain-class b Digit e (λ x. cc) (λ x. cc) in (p.0, inr (p.1, s))
 shape-leads b Minus σ e s = let p = plain-class b Minus e (λ x. cc) (λ x. cc) in (p.0, inr (p.1, s))

@@ -8,7 +8,7 @@ use Rattle.json_text.specs.Text.{is_space, IsSpace}
 use Rattle.json_text.specs.Lending.{IsColon}
 use Rattle.json_text.specs.Machine.{class}
 use Rattle.json_text.specs.declared.class.Class.TheVariants.{Space, Colon}
-use Rattle.json_text.proofs.Reading.{class-58}
+use Rattle.json_text.proofs.Reading.{classed}
 use Rattle.json_text.proofs.Steps.{slice-empty, slice-more, slice-one}
 use Rattle.json_text.proofs.Lexed.{slice_join}
 
@@ -39,7 +39,7 @@ colon_spelled bytes at i end le lt within s c t = record {
   before = slice_range bytes at i;
   behind = slice_range bytes (i + 1) end;
   spelled = sym (slice_join bytes at i end le (omega arith) within) ∙ ap (λ x. slice_range bytes at i ++ x) (sym (slice_join bytes i (i + 1) end (omega arith) (omega arith) within)
-      ∙ ap (λ x. x ++ slice_range bytes (i + 1) end) (slice-one bytes i (omega arith) ∙ ap (λ b. b ∷ []) (class-58 (get_or bytes i 0) c)));
+      ∙ ap (λ x. x ++ slice_range bytes (i + 1) end) (slice-one bytes i (omega arith) ∙ ap (λ b. b ∷ []) (classed Colon (get_or bytes i 0) c)));
   space_before = s;
   space_behind = t;
 }

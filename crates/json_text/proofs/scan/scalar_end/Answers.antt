@@ -6,8 +6,9 @@ use Rattle.std.proofs.Common.{subst, inr, refl, get_or}
 use Rattle.std.specs.Prelude.{slice_range}
 use Rattle.json_text.specs.Cutting.{ScalarCut, starts_zero, starts_whole}
 use Rattle.json_text.specs.declared.number.Phase.TheVariants.{Zero, Whole}
-use Rattle.json_text.proofs.Reading.{class-45, class-48, class-digit}
+use Rattle.json_text.proofs.Reading.{classed, class-digit}
 use Rattle.json_text.proofs.Cuts.{scalar_none, scalar_cut, number_scalar, one_to}
+use Rattle.json_text.specs.declared.class.Class.TheVariants as of_class
 use Rattle.json_text.proofs.scan.scalar_end.Goals as goal
 
 pub returns-in-Ok-clause-ok : goal.returns-in-Ok-clause-ok
@@ -41,7 +42,7 @@ returns-in_default c = record {
 }
 
 pub number_end-requires-clause-read : goal.number_end-requires-clause-read
-number_end-requires-clause-read c = one_to c.args.bytes.now c.args.at 48 Zero (omega arith) (class-48 (get_or c.args.bytes.now c.args.at 0) (sym c.class_of.ensures ∙ c.in-Zero.is)) starts_zero
+number_end-requires-clause-read c = one_to c.args.bytes.now c.args.at 48 Zero (omega arith) (classed of_class.Zero (get_or c.args.bytes.now c.args.at 0) (sym c.class_of.ensures ∙ c.in-Zero.is)) starts_zero
 
 pub returns-in-Ok-clause-scalar : goal.returns-in-Ok-clause-scalar
 returns-in-Ok-clause-scalar c = number_scalar (slice_range c.args.bytes.now c.args.at c.in-Ok.end) c.in-Ok.ensures.numeral
@@ -59,4 +60,4 @@ pub returns-in-Err-number_end-clause-cut : goal.returns-in-Err-number_end-clause
 returns-in-Err-number_end-clause-cut c = let h = c.in-Err-number_end.ensures.cut in scalar_cut c.args.bytes.now c.args.at c.in-Err-number_end.fault.at (omega (arith, h.0)) h.1 h.2
 
 pub minus_end-requires-clause-minus : goal.minus_end-requires-clause-minus
-minus_end-requires-clause-minus c = class-45 (get_or c.args.bytes.now c.args.at 0) (sym c.class_of.ensures ∙ c.in-Minus.is)
+minus_end-requires-clause-minus c = classed of_class.Minus (get_or c.args.bytes.now c.args.at 0) (sym c.class_of.ensures ∙ c.in-Minus.is)
