@@ -40,6 +40,7 @@ use Rattle.node_lists.specs.Members.{passes, those}
 use Rattle.depend_index.specs.declared.index.Index.{Index}
 use Rattle.node_lists.proofs.AmongLemmas.{at_those, below_those}
 use Rattle.node_lists.proofs.OrderLemmas.{those_same}
+use Rattle.plan_base.proofs.Bools.{neither}
 
 -- ---- games alike
 pub alike_same : (edits : List Edit) (g : Game) → AlikeBut edits g g
@@ -64,11 +65,6 @@ alike_back edits old new alike = record {
   products = λ r x unnamed. sym (alike.products r x unnamed);
   unlocks = λ t r unnamed. sym (alike.unlocks t r unnamed);
 }
-
-neither : (a b : Bool) → (a || b) ≡ false → (a ≡ false) × (b ≡ false)
-neither false false is = (refl, refl)
-neither false true is = absurd cc
-neither true b is = absurd cc
 
 apart : (test : Edit → Bool) (first second : List Edit) → list_any test (first ++ second) ≡ false → (list_any test first ≡ false) × (list_any test second ≡ false)
 apart test first second none = neither (list_any test first) (list_any test second) (sym (list_any-append test first second) ∙ none)

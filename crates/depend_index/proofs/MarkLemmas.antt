@@ -4,6 +4,7 @@ use Rattle.std.specs.Prelude.{◌==◌, ◌||◌}
 use Rattle.node_lists.specs.Lists.{is_among}
 use Rattle.depend_index.specs.Marks.{AreMarks}
 use Rattle.node_lists.proofs.Walks.{next, drop_all}
+use Rattle.plan_base.proofs.Bools.{or_false}
 
 -- the marks so far, with those that are to come
 pub record MarkedSoFar (categories : List ℕ) (old : List Bool) (i : ℕ) (marks : List Bool) : Type 0 where
@@ -46,11 +47,7 @@ marked_past categories old i x marks within is past before = record {
       ∙ ap (λ l. get_or marks k false || is_among l k) (sym (next categories i x within is)) ∙ before.each k small;
 }
 
-none : (a : Bool) → (a || false) ≡ a
-none true = refl
-none false = refl
-
 pub marked_last : (categories : List ℕ) (old : List Bool) (i : ℕ) (marks : List Bool) → length categories ≤ i → ((k : ℕ) → k < length old → get_or old k false ≡ false) → MarkedSoFar categories old i marks → AreMarks categories marks
 marked_last categories old i marks end clear before k within =
     let small : k < length old = omega (arith, within, before.as_long) in
-    sym (none (get_or marks k false)) ∙ ap (λ l. get_or marks k false || is_among l k) (sym (drop_all categories i end)) ∙ before.each k small ∙ ap (λ b. b || is_among categories k) (clear k small)
+    sym (or_false (get_or marks k false)) ∙ ap (λ l. get_or marks k false || is_among l k) (sym (drop_all categories i end)) ∙ before.each k small ∙ ap (λ b. b || is_among categories k) (clear k small)

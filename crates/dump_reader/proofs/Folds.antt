@@ -4,9 +4,7 @@ use Rattle.std.proofs.lemmas.Grind.{common_steps}
 use Rattle.prototype_fields.proofs.Each.{next}
 use Rattle.craft_reader.specs.declared.fault.DumpFault.{DumpFault}
 use Rattle.dump_reader.specs.Dump.{◌▷◌, each_after}
-
-drop_all : {X : Type 0} (xs : List X) (k : ℕ) → length xs ≤ k → drop k xs ≡ []
-drop_all xs k end = grind (arith, common_steps)
+use Rattle.plan_base.proofs.Walks.{drop_all}
 
 abbrev pub SoFar : {X Z G : Type 0} → (X → Z) → (Z → G → Result G DumpFault) → List X → ℕ → G → G → Type 0
 SoFar view read xs k start g = each_after read (map view xs) start ≡ each_after read (map view (drop k xs)) g

@@ -1,4 +1,3 @@
-pub mod Loops
 pub mod Renumbered
 pub mod PlaceLemmas
 pub mod NameLemmas

@@ -13,6 +13,7 @@ use Rattle.graph_store.specs.Users.{users_at}
 use Rattle.graph_store.specs.Replace.{Change, count_of, has_change, is_changed_user, nodes_of_changes, Adds, AreForDifferentNodes, MayUse, Replaces}
 use Rattle.graph_store.proofs.ReplaceLemmas.{any-at, cond-one, cond-zero, get_or_inside}
 use Rattle.graph_store.proofs.TidyLemmas.{any-then}
+use Rattle.plan_base.proofs.Bools.{and_second}
 
 pub record AreExchangedTo (k : ℕ) (old new : List Row) (before after : List Change) : Type 0 where
   pub as_long : length new ≡ length old
@@ -119,10 +120,6 @@ pub cond-small : (b : Bool) → cond {A = ℕ} b 1 0 ≤ 1
 cond-small true = omega arith
 cond-small false = omega arith
 
-pub and-second : (a b : Bool) → a ≡ true → (a && b) ≡ false → b ≡ false
-and-second true b e h = h
-and-second false b e h = absurd (false≢true e)
-
 pub may-added : (rows : List Row) (changes : List Change) (old new : List (Vec NodeId Global)) → length old ≡ length rows → ((n : ℕ) → n < length rows → AreUsers rows n (users_at old n)) → Adds (is_changed_user changes) old new → MayUse rows (is_changed_user changes) new
 may-added rows changes old new long each adds = record {
   as_long = adds.as_long ∙ long;
@@ -168,7 +165,7 @@ may-exchanged old new before after users put back same there may = record {
             let long : length after ≡ length before = sym (length-map after (λ (c : Change). c.0)) ∙ (ap (λ (ns : List NodeId). length ns) same ∙ length-map before (λ (c : Change). c.0)) in
             let node : (get_or after i d).0.0 ≡ u = ap (λ (m : NodeId). m.0) (node-at before after i d same lt) ∙ eqb-true (get_or before i d).0.0 u at in
             is_user-put after new old i u n d back (omega arith) node
-            ∙ and-second (eqb (get_or after i d).0.0 u) (has_member (get_or after i d).1 n) (eq-eqb (get_or after i d).0.0 u node) (any-at (λ (c : Change). eqb c.0.0 u && has_member c.1 n) after i d (omega arith) nothing))
+            ∙ and_second (eqb (get_or after i d).0.0 u) (has_member (get_or after i d).1 n) (eq-eqb (get_or after i d).0.0 u node) (any-at (λ (c : Change). eqb c.0.0 u && has_member c.1 n) after i d (omega arith) nothing))
         | inr hasnt ↦ ap (λ (o : Option Row). is_user o n) (sym (put.others u hasnt)) ∙ isnt
       ]) (changed-none before old new u n put isnt);
 }

@@ -123,10 +123,6 @@ pub is_user-row : (rows : List Row) (node n : ℕ) (row : Row) → node < length
 is_user-row rows node n row lt at =
     ap (λ (o : Option Row). is_user o n) (slice_get-get_or rows node row lt ∙ ap (λ (r : Row). Some r) (sym at))
 
-pub not-true : (b : Bool) → not b ≡ true → b ≡ false
-not-true true h = absurd (false≢true h)
-not-true false h = refl
-
 pub and-false : (b : Bool) → (b && not true) ≡ false
 and-false true = refl
 and-false false = refl

@@ -19,6 +19,7 @@ use Rattle.graph_store.proofs.TidyLemmas.{any-then, has_node-here, length-from_c
 use Rattle.milestone_masks.specs.Worlds.{ranked}
 use Rattle.milestone_masks.specs.Why.{comes_first, is_first_member, is_support, IsSupported}
 use Rattle.milestone_masks.specs.Found.{is_better, stands_on, AreSeen, Grows, IsBestOf, IsFirstOf, IsFound}
+use Rattle.plan_base.proofs.Bools.{and_false, and_second, not_true}
 
 -- one node more that was found
 
@@ -77,27 +78,19 @@ not-before false a b f h = refl
 not-before true true b f h = absurd (false≢true (sym h ∙ f refl))
 not-before true false b f h = refl
 
-pub and-no : (b : Bool) → (b && false) ≡ false
-and-no true = refl
-and-no false = refl
-
-pub second-no : (a b : Bool) → a ≡ true → (a && b) ≡ false → b ≡ false
-second-no true b e h = h
-second-no false b e h = absurd (false≢true e)
-
 pub best-taken : (ranks : List ℕ) (members : List NodeId) (i : ℕ) (best : Option NodeId) (d : NodeId) → i < length members → IsBestOf best ranks (take i members) → is_better ranks best (get_or members i d).0 ≡ true → IsBestOf (Some (get_or members i d)) ranks (take (i + 1) members)
 best-taken ranks members i None d lt all better =
     let m : NodeId = get_or members i d in (
       here-more members i d lt,
       better,
-      All-more (λ (x : NodeId). (ranked ranks x.0 && comes_first ranks x.0 m.0) ≡ false) members i d lt (λ k e inside. rw (all k e inside) refl) (not-before (ranked ranks m.0) (comes_first ranks m.0 m.0) false (λ h. absurd (false≢true (sym (first-irreflexive m.0 (get_or ranks m.0 0)) ∙ h))) (and-no (ranked ranks m.0))),
+      All-more (λ (x : NodeId). (ranked ranks x.0 && comes_first ranks x.0 m.0) ≡ false) members i d lt (λ k e inside. rw (all k e inside) refl) (not-before (ranked ranks m.0) (comes_first ranks m.0 m.0) false (λ h. absurd (false≢true (sym (first-irreflexive m.0 (get_or ranks m.0 0)) ∙ h))) (and_false (ranked ranks m.0))),
     )
 best-taken ranks members i (Some b) d lt all better =
     let m : NodeId = get_or members i d in
     let parts = and_parts (ranked ranks m.0) (comes_first ranks m.0 b.0) better in (
       here-more members i d lt,
       parts.0,
-      All-more (λ (x : NodeId). (ranked ranks x.0 && comes_first ranks x.0 m.0) ≡ false) members i d lt (λ k e inside. let x : NodeId = get_or (take i members) k e in not-before (ranked ranks x.0) (comes_first ranks x.0 m.0) (comes_first ranks x.0 b.0) (λ h. first-trans x.0 m.0 b.0 (get_or ranks x.0 0) (get_or ranks m.0 0) (get_or ranks b.0 0) h parts.1) (all.2 k e inside)) (not-before (ranked ranks m.0) (comes_first ranks m.0 m.0) false (λ h. absurd (false≢true (sym (first-irreflexive m.0 (get_or ranks m.0 0)) ∙ h))) (and-no (ranked ranks m.0))),
+      All-more (λ (x : NodeId). (ranked ranks x.0 && comes_first ranks x.0 m.0) ≡ false) members i d lt (λ k e inside. let x : NodeId = get_or (take i members) k e in not-before (ranked ranks x.0) (comes_first ranks x.0 m.0) (comes_first ranks x.0 b.0) (λ h. first-trans x.0 m.0 b.0 (get_or ranks x.0 0) (get_or ranks m.0 0) (get_or ranks b.0 0) h parts.1) (all.2 k e inside)) (not-before (ranked ranks m.0) (comes_first ranks m.0 m.0) false (λ h. absurd (false≢true (sym (first-irreflexive m.0 (get_or ranks m.0 0)) ∙ h))) (and_false (ranked ranks m.0))),
     )
 
 pub best-kept : (ranks : List ℕ) (members : List NodeId) (i : ℕ) (best : Option NodeId) (d : NodeId) → i < length members → IsBestOf best ranks (take i members) → is_better ranks best (get_or members i d).0 ≡ false → IsBestOf best ranks (take (i + 1) members)
@@ -130,10 +123,6 @@ first-none ranks members none n =
       | inr isnt ↦ isnt
     ]
 
-pub not-true_is : (b : Bool) → not b ≡ true → b ≡ false
-not-true_is true h = absurd (false≢true h)
-not-true_is false h = refl
-
 pub first-some : (ranks : List ℕ) (members : List NodeId) (b : NodeId) → IsBestOf (Some b) ranks members → (n : ℕ) → is_first_member ranks members n ≡ eqb b.0 n
 first-some ranks members b best n =
     elim (cases_eq b.0 n) [
@@ -149,8 +138,8 @@ first-some ranks members b best n =
             any-then (λ (m : NodeId). eqb m.0 b.0) members (is_first_member ranks members n ≡ eqb b.0 n) best.0 (λ j e within at_b.
             any-then (λ (m : NodeId). eqb m.0 n) members (is_first_member ranks members n ≡ eqb b.0 n) parts.0 (λ k d lt at_n.
             let n_not_first : (ranked ranks n && comes_first ranks n b.0) ≡ false = subst (λ (x : ℕ). (ranked ranks x && comes_first ranks x b.0) ≡ false) (eqb-true (get_or members k d).0 n at_n) (best.2 k d lt) in
-            let b_not_first : (ranked ranks b.0 && comes_first ranks b.0 n) ≡ false = subst (λ (x : ℕ). (ranked ranks x && comes_first ranks x n) ≡ false) (eqb-true (get_or members j e).0 b.0 at_b) (not-true_is _ (list_all-at (λ (m : NodeId). not (ranked ranks m.0 && comes_first ranks m.0 n)) members j e rest.1 within)) in
-            absurd (other (first-one b.0 n (get_or ranks b.0 0) (get_or ranks n 0) (second-no (ranked ranks b.0) (comes_first ranks b.0 n) best.1 b_not_first) (second-no (ranked ranks n) (comes_first ranks n b.0) rest.0 n_not_first)))))
+            let b_not_first : (ranked ranks b.0 && comes_first ranks b.0 n) ≡ false = subst (λ (x : ℕ). (ranked ranks x && comes_first ranks x n) ≡ false) (eqb-true (get_or members j e).0 b.0 at_b) (not_true _ (list_all-at (λ (m : NodeId). not (ranked ranks m.0 && comes_first ranks m.0 n)) members j e rest.1 within)) in
+            absurd (other (first-one b.0 n (get_or ranks b.0 0) (get_or ranks n 0) (and_second (ranked ranks b.0) (comes_first ranks b.0 n) best.1 b_not_first) (and_second (ranked ranks n) (comes_first ranks n b.0) rest.0 n_not_first)))))
         | inr isnt ↦ isnt ∙ sym (ne_eqb b.0 n other)
       ]
     ]
@@ -173,7 +162,7 @@ pub record IsGathered (rows : List Row) (granted : List Bool) (ranks : List ℕ)
 pub stood-on : (set : Nodes) (rows : List Row) (granted : List Bool) (ranks : List ℕ) (n m : ℕ) → IsSupported rows granted ranks set → set n ≡ true → stands_on rows granted ranks n m ≡ true → set m ≡ true
 stood-on set rows granted ranks n m supported is stands =
     let parts = and_parts (not (get_or granted n false)) (is_support ranks (slice_get rows n) m) stands in
-    supported n m is (not-true_is (get_or granted n false) parts.0) parts.1
+    supported n m is (not_true (get_or granted n false) parts.0) parts.1
 
 pub gathered-more : (rows : List Row) (granted : List Bool) (ranks : List ℕ) (node k : ℕ) (d : NodeId) (found more : List NodeId) → k < length found → IsGathered rows granted ranks node k found → Grows (stands_on rows granted ranks (get_or found k d).0) found more → IsGathered rows granted ranks node (k + 1) more
 gathered-more rows granted ranks node k d found more lt are grows = record {

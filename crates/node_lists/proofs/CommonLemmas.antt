@@ -11,6 +11,7 @@ use Rattle.plan_base.specs.declared.ids.NodeId.{NodeId}
 use Rattle.node_lists.specs.Lists.{has_node, is_among, is_in_all, list_at, number_at, AreCommon, IsPlaceOf, Rise}
 use Rattle.node_lists.proofs.OrderLemmas.{numbers_of}
 use Rattle.node_lists.proofs.Walks.{next, drop_all}
+use Rattle.plan_base.proofs.Bools.{and_false, and_twice}
 
 -- ---- the elements that pass
 -- the elements that pass, so far, with those that are to come
@@ -73,8 +74,8 @@ one_there nodes k place m rise at within there false is =
     no_other i inside same other above =
         let before : i < place → number_at nodes i < k = at.below i in
         let behind : place < i → number_at nodes place < number_at nodes i = λ later. rises nodes rise place i later inside in
-        let here : i ≡ place → number_at nodes place ≡ k = λ is. ap (number_at nodes) (sym is) ∙ same in
-        grind (arith, before, behind, here, same, there, other, above)
+        let and_twice : i ≡ place → number_at nodes place ≡ k = λ is. ap (number_at nodes) (sym is) ∙ same in
+        grind (arith, before, behind, and_twice, same, there, other, above)
 
 -- what is searched for is between two places
 pub record Sought (k : ℕ) (nodes : List NodeId) (low high : ℕ) : Type 0 where
@@ -99,8 +100,8 @@ sought_above k nodes low high probe rise from before is sought =
     lower : (i : ℕ) → i < probe + 1 → number_at nodes probe < k → number_at nodes i < k
     lower i inside less =
         let earlier : i < probe → number_at nodes i < number_at nodes probe = λ first. rises nodes rise i probe first (omega (arith, before, sought.within)) in
-        let here : i ≡ probe → number_at nodes i ≡ number_at nodes probe = λ is. ap (number_at nodes) is in
-        grind (arith, inside, earlier, here, less)
+        let and_twice : i ≡ probe → number_at nodes i ≡ number_at nodes probe = λ is. ap (number_at nodes) is in
+        grind (arith, inside, earlier, and_twice, less)
 
 pub sought_below : (k : ℕ) (nodes : List NodeId) (low high probe : ℕ) → Rise nodes → low ≤ probe → probe < high → nat_lt (number_at nodes probe) k ≡ false → Sought k nodes low high → Sought k nodes low probe
 sought_below k nodes low high probe rise from before is sought =
@@ -115,8 +116,8 @@ sought_below k nodes low high probe rise from before is sought =
     higher : (i : ℕ) → probe ≤ i → i < length nodes → k ≤ number_at nodes probe → k ≤ number_at nodes i
     higher i past inside more =
         let later : probe < i → number_at nodes probe < number_at nodes i = λ behind. rises nodes rise probe i behind inside in
-        let here : i ≡ probe → number_at nodes i ≡ number_at nodes probe = λ is. ap (number_at nodes) is in
-        grind (arith, past, later, here, more)
+        let and_twice : i ≡ probe → number_at nodes i ≡ number_at nodes probe = λ is. ap (number_at nodes) is in
+        grind (arith, past, later, and_twice, more)
 
 pub sought_last : (k : ℕ) (nodes : List NodeId) (low high : ℕ) → high ≤ low → Sought k nodes low high → IsPlaceOf k nodes low
 sought_last k nodes low high end sought = record {
@@ -137,9 +138,9 @@ met_more nodes others i place next x kept new b rise within is at passes put bef
   filtered = filtered_more (λ n. has_node others n.0) nodes i x kept new b within is (sym passes) put before.filtered;
   within = at.within;
   behind = λ inside j earlier.
-      let here = at.below j earlier in
+      let and_twice = at.below j earlier in
       let later = rises nodes rise i (i + 1) (omega arith) inside in
-      omega (arith, here, later, number_is nodes i x within is);
+      omega (arith, and_twice, later, number_is nodes i x within is);
 }
 
 -- ---- the nodes of a list that are in all of some
@@ -187,11 +188,6 @@ kept_more lists numbers nodes i x others kept new within is list put before = re
 pub kept_last : (lists : List (Vec NodeId Global)) (numbers : List ℕ) (nodes : List NodeId) (i : ℕ) (kept : List NodeId) → length numbers ≤ i → KeptSoFar lists numbers nodes i kept → kept ≡ filter (λ n. is_in_all lists numbers n.0) nodes
 kept_last lists numbers nodes i kept end before = sym (filter_all kept) ∙ ap (λ l. filter (λ n. is_in_all lists l n.0) kept) (sym (drop_all numbers i end)) ∙ before.rest
 
--- those of one of the lists that are in all are the common ones
-never : (b : Bool) → (b && false) ≡ false
-never true = refl
-never false = refl
-
 has_first : (p : ℕ → Bool) (k : ℕ) (n : NodeId) (nodes rest : List NodeId) → has_node rest k ≡ (has_node nodes k && p k) → (b : Bool) → p n.0 ≡ b → (same : Bool) → (n.0 == k) ≡ same
     → has_node (if b then n ∷ rest else rest) k ≡ ((same || has_node nodes k) && p k)
 has_first p k n nodes rest more true passes true is = let at : n.0 ≡ k = grind (arith, is) in ap (λ b. b || has_node rest k) is ∙ sym passes ∙ ap p at
@@ -199,16 +195,12 @@ has_first p k n nodes rest more true passes false is = ap (λ b. b || has_node r
 has_first p k n nodes rest more false passes true is =
     let at : n.0 ≡ k = grind (arith, is) in
     let fails : p k ≡ false = ap p (sym at) ∙ passes in
-    more ∙ ap (λ b. has_node nodes k && b) fails ∙ never (has_node nodes k) ∙ sym fails
+    more ∙ ap (λ b. has_node nodes k && b) fails ∙ and_false (has_node nodes k) ∙ sym fails
 has_first p k n nodes rest more false passes false is = more
 
 pub has_filtered : (p : ℕ → Bool) (k : ℕ) (nodes : List NodeId) → has_node (filter (λ n. p n.0) nodes) k ≡ (has_node nodes k && p k)
 has_filtered p k [] = refl
 has_filtered p k (n ∷ nodes) = has_first p k n nodes (filter (λ n. p n.0) nodes) (has_filtered p k nodes) (p n.0) refl (n.0 == k) refl
-
-here : (a b : Bool) → (a && (a && b)) ≡ (a && b)
-here true b = refl
-here false b = refl
 
 there : (a b c : Bool) → (a && c) ≡ c → (a && (b && c)) ≡ (b && c)
 there true b c is = refl
@@ -219,7 +211,7 @@ first_or_later : (lists : List (Vec NodeId Global)) (first k j : ℕ) (numbers :
     → (b : Bool) → (j == first) ≡ b → (b || is_among numbers first) ≡ true → (has_node (list_at lists first) k && is_in_all lists (j ∷ numbers) k) ≡ is_in_all lists (j ∷ numbers) k
 first_or_later lists first k j numbers more true is among =
     let at : j ≡ first = grind (arith, is) in
-    ap (λ m. has_node (list_at lists m) k && is_in_all lists (j ∷ numbers) k) (sym at) ∙ here (has_node (list_at lists j) k) (is_in_all lists numbers k)
+    ap (λ m. has_node (list_at lists m) k && is_in_all lists (j ∷ numbers) k) (sym at) ∙ and_twice (has_node (list_at lists j) k) (is_in_all lists numbers k)
 first_or_later lists first k j numbers more false is among = there (has_node (list_at lists first) k) (has_node (list_at lists j) k) (is_in_all lists numbers k) (more among)
 
 in_first : (lists : List (Vec NodeId Global)) (first k : ℕ) (numbers : List ℕ) → is_among numbers first ≡ true → (has_node (list_at lists first) k && is_in_all lists numbers k) ≡ is_in_all lists numbers k

@@ -9,6 +9,7 @@ use Rattle.node_lists.proofs.CommonLemmas.{has_one}
 use Rattle.node_lists.proofs.Listing.{list_is}
 use Rattle.node_lists.proofs.NumbersLemmas.{Rising, rising}
 use Rattle.node_lists.proofs.OrderLemmas.{increasing, numbers_of}
+use Rattle.plan_base.proofs.Bools.{or_right}
 
 -- ---- a node put into a list
 either_swap : (a b c : Bool) → (b || (a || c)) ≡ (a || (b || c))
@@ -45,12 +46,8 @@ put_rises nodes place n rise at absent =
     clash true is not = absurd cc
     clash false is not = absurd cc
 
-either_last : (a b : Bool) → b ≡ true → (a || b) ≡ true
-either_last true b is = refl
-either_last false b is = is
-
 pub put_keeps : (nodes : List NodeId) (place : ℕ) (n : NodeId) (k : ℕ) → place ≤ length nodes → has_node nodes k ≡ true → has_node (insert nodes place n) k ≡ true
-put_keeps nodes place n k within there = has_put nodes place n k within ∙ either_last (n.0 == k) (has_node nodes k) there
+put_keeps nodes place n k within there = has_put nodes place n k within ∙ or_right (n.0 == k) (has_node nodes k) there
 
 -- ---- a list put among lists
 length_contents : (lists : List (Vec NodeId Global)) → length (contents lists) ≡ length lists

@@ -6,12 +6,7 @@ use Rattle.std.proofs.lemmas.Grind.{common_steps}
 use Rattle.std.proofs.lemmas.List.{get_or_default}
 use Rattle.plan_base.specs.declared.ids.NodeId.{NodeId}
 use Rattle.node_lists.specs.Members.{node, those}
-
-pub next : {X : Type 0} (xs : List X) (k : ℕ) (x : X) → k < length xs → x ≡ get_or xs k x → drop k xs ≡ x ∷ drop (k + 1) xs
-next xs k x within is = drop-cons xs k x within ∙ ap (λ j. get_or xs k x ∷ drop j xs) (sym (add-one k)) ∙ ap (λ y. y ∷ drop (k + 1) xs) (sym is)
-
-pub drop_all : {X : Type 0} (xs : List X) (k : ℕ) → length xs ≤ k → drop k xs ≡ []
-drop_all xs k end = grind (arith, common_steps)
+pub use Rattle.plan_base.proofs.Walks.{next, drop_all}
 
 -- what f gives for the elements, put behind a list one by one
 abbrev pub Appended : {X Y : Type 0} → (X → Y) → List Y → List X → ℕ → List Y → Type 0

@@ -8,7 +8,8 @@ use Rattle.plan_base.specs.declared.ids.GoodId.{GoodId}
 use Rattle.game_types.proofs.Walks.{drop_all}
 use Rattle.production_table.specs.Numbers.{is_pair_of, number_of, with_number, without_number}
 use Rattle.table_rows.specs.Places.{has_at, AllBelow, IsPlace, StartsFrom}
-use Rattle.table_rows.proofs.Parts.{first_branch, second_branch, third_branch, has_place}
+use Rattle.table_rows.proofs.Parts.{second_branch, third_branch, has_place}
+use Rattle.plan_base.proofs.Bools.{if_true}
 
 -- ---- the number of a good, looked for from the front
 pub find_pass : (pairs rest : List (GoodId × Fraction)) (p : GoodId × Fraction) (good : GoodId) → pairs ≡ p ∷ rest → (p.0.0 == good.0) ≡ false → number_of pairs good ≡ number_of rest good
@@ -21,7 +22,7 @@ find_pass pairs rest p good is h = ap (λ (ps : List (GoodId × Fraction)). numb
 
 pub find_stop : (pairs rest : List (GoodId × Fraction)) (p : GoodId × Fraction) (good : GoodId) → pairs ≡ p ∷ rest → (p.0.0 == good.0) ≡ true → number_of pairs good ≡ Some p.1
 unfolding number_of
-find_stop pairs rest p good is h = ap (λ (ps : List (GoodId × Fraction)). number_of ps good) is ∙ first_branch (p.0.0 == good.0) (Some p.1) (number_of rest good) h
+find_stop pairs rest p good is h = ap (λ (ps : List (GoodId × Fraction)). number_of ps good) is ∙ if_true (p.0.0 == good.0) (Some p.1) (number_of rest good) h
 
 pub find_end : (pairs : List (GoodId × Fraction)) (k : ℕ) (good : GoodId) → length pairs ≤ k → number_of (drop k pairs) good ≡ None
 unfolding number_of
@@ -54,7 +55,7 @@ put_new good number [] zero below behind none within = refl
 put_new good number [] (suc place) below behind none within = absurd (omega arith)
 put_new good number (q ∷ ps) zero below behind none within =
     let less : nat_lt good.0 q.0.0 ≡ true = grind (arith, nat_tests) in
-    first_branch (nat_lt good.0 q.0.0) _ _ less
+    if_true (nat_lt good.0 q.0.0) _ _ less
 put_new good number (q ∷ ps) (suc place) below behind none within = put_behind good number q ps below.0 ∙ ap (λ (rest : List (GoodId × Fraction)). q ∷ rest) (put_new good number ps place below.1 behind none (omega arith))
 
 pub put_at : (good : GoodId) (number : Fraction) (pairs : List (GoodId × Fraction)) (place : ℕ) → IsPlace pairs good place → has_at pairs place good ≡ true → with_number good number pairs ≡ slice_set pairs place (good, number)

@@ -19,8 +19,9 @@ use Rattle.fractions.specs.Signs.{is_negative}
 use Rattle.production_table.specs.Tables.{is_label, HasOwnLabels, IsSoundTable}
 use Rattle.production_table.proofs.Pairs.{same_parts}
 use Rattle.production_table.proofs.Added.{new_is}
-use Rattle.production_table.proofs.Labels.{any_at, differ, or_false, false_or}
+use Rattle.production_table.proofs.Labels.{any_at, differ}
 use Rattle.fractions.proofs.SignLemmas.{not_negative}
+use Rattle.plan_base.proofs.Bools.{neither, none_of}
 
 own_label : (label : List ℕ) → bytes_eq label label ≡ true
 own_label label = (bytes_eq-Decides label label).1 refl
@@ -29,7 +30,7 @@ own_label label = (bytes_eq-Decides label label).1 refl
 last_place : (p : TableRow → Bool) (rows : List TableRow) (row : TableRow) → list_any p rows ≡ false → p row ≡ true → position_or_len p (rows ++ row ∷ []) ≡ length rows
 last_place p [] row h k = ap (λ b. cond (not b) (1 + 0) 0) k
 last_place p (x ∷ rows) row h k =
-    let both = or_false (p x) (list_any p rows) h in
+    let both = neither (p x) (list_any p rows) h in
     let rest = last_place p rows row both.1 k in
     ap (λ b. cond (not b) (1 + position_or_len p (rows ++ row ∷ [])) 0) both.0 ∙ ap (λ n. 1 + n) rest ∙ omega arith
 
@@ -71,7 +72,7 @@ label_free : (rows : List TableRow) (k : ℕ) (row : TableRow) → HasOwnLabels 
 label_free [] k row own h = absurd (cc)
 label_free (x ∷ rows) zero row own h = let same : x ≡ row = cc in subst (λ (r : TableRow). list_any (is_label r.label) rows ≡ false) same own.0
 label_free (x ∷ rows) (suc k) row own h =
-    false_or (is_label row.label x) (list_any (is_label row.label) (remove rows k)) (differ x.label row.label (any_at (is_label x.label) rows k row own.0 h)) (label_free rows k row own.1 h)
+    none_of (is_label row.label x) (list_any (is_label row.label) (remove rows k)) (differ x.label row.label (any_at (is_label x.label) rows k row own.0 h)) (label_free rows k row own.1 h)
 
 one_fewer : (rows : List TableRow) (k : ℕ) (row : TableRow) → slice_get rows k ≡ Some row → (length (remove rows k) + 1 ≡ length rows) × (k ≤ length (remove rows k))
 one_fewer [] k row h = absurd (cc)

@@ -10,6 +10,7 @@ use Rattle.std.proofs.lemmas.Slice.Eq.{bytes_eq-Decides}
 use Rattle.name_table.specs.Names.{place_of}
 use Rattle.name_table.proofs.NamesLemmas.{named_at}
 use Rattle.rocket_launches.specs.Launches.{first_taken, is_taken}
+use Rattle.plan_base.proofs.Bools.{or_right}
 
 some_position : {X : Type 0} (p : X → Bool) (xs : List X) → is_some (position p xs) ≡ list_any p xs
 some_position p [] = refl
@@ -69,10 +70,6 @@ take_get (x ∷ xs) (suc k) (suc j) d below = take_get xs k j d (omega (arith, b
 
 length_take : {X : Type 0} (xs : List X) (k : ℕ) → k < length xs → length (take k xs) ≡ k
 length_take xs k within = grind (arith, common_steps)
-
-or_right : (a b : Bool) → b ≡ true → (a || b) ≡ true
-or_right true b is = refl
-or_right false b is = is
 
 or_left : (a b : Bool) → a ≡ true → (a || b) ≡ true
 or_left a b is = ap (λ t. t || b) is

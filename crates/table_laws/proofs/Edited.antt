@@ -31,6 +31,7 @@ use Rattle.data_edit.specs.Faults.{Outcome, ◌▸◌, changed_list, known, posi
 use Rattle.data_edit.specs.Lists.{is_part, part_key, plain_part, same_lists, with_entry, without}
 use Rattle.table_laws.proofs.Fits.{always_fits}
 use Rattle.table_laws.proofs.Same.{fitting_kept, Keeps}
+use Rattle.plan_base.proofs.Bools.{both, and_true}
 
 -- ---- a list with one element changed
 at_next : {A : Type 0} (f : A → A) (place : ℕ) (x : A) (xs : List A) → with_at f (suc place) (x ∷ xs) ≡ x ∷ with_at f place xs
@@ -79,21 +80,13 @@ changed_ok same old list new e = chosen (same_lists same list old) (nat_lt 1024 
 abbrev Passes : (Part → Bool) → Part → Type 0
 Passes p part = p part ≡ true
 
-both_true : (a b : Bool) → (a && b) ≡ true → (a ≡ true) × (b ≡ true)
-both_true true b h = (refl, h)
-both_true false b h = absurd (cc)
-
-true_both : (a b : Bool) → a ≡ true → b ≡ true → (a && b) ≡ true
-true_both true b h k = k
-true_both false b h k = absurd (cc)
-
 all_of : (p : Part → Bool) (parts : List Part) → list_all p parts ≡ true → All (Passes p) parts
 all_of p [] h = All-nil (Passes p)
-all_of p (part ∷ parts) h = let two = both_true (p part) (list_all p parts) h in All-cons (Passes p) part parts two.0 (all_of p parts two.1)
+all_of p (part ∷ parts) h = let two = both (p part) (list_all p parts) h in All-cons (Passes p) part parts two.0 (all_of p parts two.1)
 
 of_all : (p : Part → Bool) (parts : List Part) → All (Passes p) parts → list_all p parts ≡ true
 of_all p [] h = refl
-of_all p (part ∷ parts) h = true_both (p part) (list_all p parts) (All-head (Passes p) part parts h) (of_all p parts (All-tail (Passes p) part parts h))
+of_all p (part ∷ parts) h = and_true (p part) (list_all p parts) (All-head (Passes p) part parts h) (of_all p parts (All-tail (Passes p) part parts h))
 
 all_without : (p : Part → Bool) (number : ℕ) (parts : List Part) → All (Passes p) parts → All (Passes p) (without part_key number parts)
 all_without p number parts h = All-filter (λ entry. not (part_key entry == number)) (Passes p) parts h

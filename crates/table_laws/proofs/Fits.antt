@@ -7,22 +7,15 @@ use Rattle.plan_base.specs.declared.ids.GoodId.{GoodId}
 use Rattle.game_types.specs.declared.goods.Fluid.{Fluid}
 use Rattle.game_types.specs.declared.games.Game.{Game}
 use Rattle.game_types.specs.Temperatures.{choice_of, coolest, coolest_fit, cooler_of, first_where, fits_alone, fluid_at, is_base, is_cooler, is_fit, is_fit_variant, is_good, is_within, or_else}
+use Rattle.plan_base.proofs.Bools.{or_right, and_true}
 
 any_within : (x : Fraction) → is_within None None x ≡ true
 unfolding is_within
 any_within x = refl
 
-or_true : (a b : Bool) → b ≡ true → (a || b) ≡ true
-or_true true b h = refl
-or_true false b h = h
-
-and_true : (a b : Bool) → a ≡ true → b ≡ true → (a && b) ≡ true
-and_true true b h k = k
-and_true false b h k = absurd (cc)
-
 alone : (o : Option Fluid) → fits_alone None None o ≡ true
 alone None = refl
-alone (Some fluid) = or_true (is_some fluid.of) (is_within None None fluid.at) (any_within fluid.at)
+alone (Some fluid) = or_right (is_some fluid.of) (is_within None None fluid.at) (any_within fluid.at)
 
 -- ---- a coolest fluid is found where there is one
 cooler_some : (best : Option (GoodId × Fraction)) (first : ℕ) (at : Fraction) → is_some (cooler_of best first at) ≡ true

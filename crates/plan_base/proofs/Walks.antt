@@ -1,15 +1,26 @@
--- Loops that go through a list: what was found so far, and what the rest gives behind it.
-use Rattle.std.proofs.Common.{◌≡◌, ◌∙◌, ◌<◌, ◌≤◌, ◌+◌, ℕ, List, [], ◌∷◌, ◌++◌, Option, Some, None, length, drop, get_or, map, sym, ap, append_assoc, append-nil}
+-- Loops that go through a list: what is left of it at each step, and what was found so far.
+use Rattle.std.proofs.Common.{◌≡◌, ◌∙◌, ◌<◌, ◌≤◌, ◌+◌, ℕ, List, [], ◌∷◌, ◌++◌, Option, Some, None, length, drop, get_or, map, sym, ap, append_assoc, append-nil, arith, drop-cons, add-one}
 use Rattle.std.specs.List.{cons_option, filter_map, flat_map}
-use Rattle.game_types.proofs.Walks.{next, drop_all}
+use Rattle.std.proofs.lemmas.Grind.{common_steps}
 
+pub next : {X : Type 0} (xs : List X) (k : ℕ) (x : X) → k < length xs → x ≡ get_or xs k x → drop k xs ≡ x ∷ drop (k + 1) xs
+next xs k x within is = drop-cons xs k x within ∙ ap (λ j. get_or xs k x ∷ drop j xs) (sym (add-one k)) ∙ ap (λ y. y ∷ drop (k + 1) xs) (sym is)
+
+pub next_at : {X : Type 0} (xs : List X) (k : ℕ) (d : X) → k < length xs → drop k xs ≡ get_or xs k d ∷ drop (k + 1) xs
+next_at xs k d within = drop-cons xs k d within ∙ ap (λ j. get_or xs k d ∷ drop j xs) (sym (add-one k))
+
+pub drop_all : {X : Type 0} (xs : List X) (k : ℕ) → length xs ≤ k → drop k xs ≡ []
+drop_all xs k end = grind (arith, common_steps)
+
+-- ---- one for each element
 pub map_next : {A B : Type 0} (f : A → B) (k : ℕ) (found : List B) (xs : List A) (x : A) → k < length xs → x ≡ get_or xs k x → found ++ map f (drop k xs) ≡ (found ++ f x ∷ []) ++ map f (drop (k + 1) xs)
 map_next f k found xs x within is = ap (λ ys. found ++ map f ys) (next xs k x within is) ∙ sym (append_assoc found (f x ∷ []) (map f (drop (k + 1) xs)))
 
 pub map_end : {A B : Type 0} (f : A → B) (k : ℕ) (found : List B) (xs : List A) → length xs ≤ k → found ++ map f (drop k xs) ≡ found
 map_end f k found xs end = ap (λ ys. found ++ map f ys) (drop_all xs k end) ∙ append-nil found
 
-before_rest : {B : Type 0} (found : List B) (one : Option B) (rest : List B) → found ++ cons_option one rest ≡ (found ++ cons_option one []) ++ rest
+-- ---- at most one for each element
+pub before_rest : {B : Type 0} (found : List B) (one : Option B) (rest : List B) → found ++ cons_option one rest ≡ (found ++ cons_option one []) ++ rest
 before_rest found None rest = ap (λ xs. xs ++ rest) (sym (append-nil found))
 before_rest found (Some value) rest = sym (append_assoc found (value ∷ []) rest)
 
@@ -20,6 +31,7 @@ found_next find k found xs x within is = ap (λ ys. found ++ filter_map find ys)
 pub found_end : {A B : Type 0} (find : A → Option B) (k : ℕ) (found : List B) (xs : List A) → length xs ≤ k → found ++ filter_map find (drop k xs) ≡ found
 found_end find k found xs end = ap (λ ys. found ++ filter_map find ys) (drop_all xs k end) ∙ append-nil found
 
+-- ---- several for each element
 pub flat_next : {A B : Type 0} (f : A → List B) (k : ℕ) (found : List B) (xs : List A) (x : A) → k < length xs → x ≡ get_or xs k x → found ++ flat_map f (drop k xs) ≡ (found ++ f x) ++ flat_map f (drop (k + 1) xs)
 flat_next f k found xs x within is = ap (λ ys. found ++ flat_map f ys) (next xs k x within is) ∙ sym (append_assoc found (f x) (flat_map f (drop (k + 1) xs)))
 
