@@ -1,5 +1,6 @@
 //! A table that is tried for a wish: it is made, solved, and mended where it has no plan.
-ghost use Rattle.std.specs.Prelude.{IfOk};
+ghost use Rattle.std.specs.Prelude.{IfOk, IfSome};
+ghost use Rattle.wish_tables.specs.Outcomes.{HasSoundTable};
 ghost use Rattle.game_types.specs.Sound.{IsSound};
 ghost use Rattle.production_table.specs.Tables.{IsSoundTable};
 
@@ -11,7 +12,7 @@ use linear_table::{Linear, Plan, SolveAnswer};
 use plan_base::{GoodId, Items, NoMemory};
 use production_table::Table;
 use std::alloc::Global;
-use wish_setups::{Met, Solved, WishFault, is_good_marked, price_in, solved};
+use wish_setups::{Met, Solved, WishFault, is_good_marked, price_in, solve_table};
 use wish_walk::{Ground, Walk};
 
 /// The most times that a table gets more that comes in or goes out, or a larger reserve of power.
@@ -174,7 +175,9 @@ fn met_by(
     plan: &Plan,
     extra: &mut Extra,
 ) -> Result<Option<Met>, NoMemory>
-    requires { IsSound trial.now.ground.game.now }
+    requires game { IsSound trial.now.ground.game.now }
+    requires table { IsSoundTable table }
+    ensures { IfOk result (λ found. IfSome found (λ met. IsSoundTable met.table)) }
 {
     if !trial.start.power {
         let rim = rim_of(alloc, trial, walk, extra, &table)?;
@@ -209,9 +212,10 @@ fn step(
 ) -> Result<Option<Outcome>, WishFault>
     requires game { IsSound trial.now.ground.game.now }
     requires start { IsSoundTable trial.now.start.now }
+    ensures { IfOk result (λ found. IfSome found HasSoundTable) }
 {
     let table = tried_table(alloc, trial, walk, order, extra)?;
-    let Some(Solved { linear, answer }) = solved(alloc, trial.ground.game, &table)? else {
+    let Some(Solved { linear, answer }) = solve_table(alloc, trial.ground.game, &table)? else {
         return Ok(Some(Outcome::Unsolved));
     };
     match answer {
@@ -243,6 +247,7 @@ pub fn try_order(
 ) -> Result<Outcome, WishFault>
     requires game { IsSound trial.now.ground.game.now }
     requires start { IsSoundTable trial.now.start.now }
+    ensures { IfOk result HasSoundTable }
 {
     let mut extra = Extra::none(alloc);
     for _ in 0..MENDS {
