@@ -154,15 +154,26 @@ fn takes_those(game: &Game, setup: &Setup) -> bool
 struct Candidate {
     machine: EntityId,
     fuel: Option<GoodId>,
-    preferred: bool,
+    // The place among the machines of the wish, behind the last where it is none of them.
+    place: usize,
+    unused: Ratio,
     machines: Ratio,
 }
 
-// Whether a candidate comes before another: machines of the wish, then faster ones, then those that burn nothing.
+// Whether a candidate comes before another: an earlier machine of the wish, then a generator that leaves less unused, then a faster
+// machine, then one that burns nothing.
 fn is_better(one: &Candidate, other: &Candidate) -> bool {
-    if one.preferred != other.preferred {
-        return one.preferred;
+    if one.place != other.place {
+        return one.place < other.place;
     }
+    match one.unused.cmp(&other.unused) {
+        Ordering::Less => true,
+        Ordering::Greater => false,
+        Ordering::Equal => is_faster(one, other),
+    }
+}
+
+fn is_faster(one: &Candidate, other: &Candidate) -> bool {
     match one.machines.cmp(&other.machines) {
         Ordering::Less => true,
         Ordering::Greater => false,
@@ -174,6 +185,43 @@ fn better(best: Option<Candidate>, other: Candidate) -> Option<Candidate> {
     match best {
         Some(best) if !is_better(&other, &best) => Some(best),
         _ => Some(other),
+    }
+}
+
+// How far two temperatures lie apart.
+fn distance(one: &Ratio, other: &Ratio) -> Ratio {
+    match one.sub(other) {
+        Ok(apart) => {
+            if apart.is_neg() {
+                apart.neg()
+            } else {
+                apart
+            }
+        }
+        Err(_) => Ratio::zero(),
+    }
+}
+
+// What a generator leaves unused: how far the fluid is from the highest temperature of which it makes use.
+fn unused_by(game: &Game, kind: &MachineKind, fluid: GoodId) -> Ratio {
+    match kind {
+        MachineKind::Generator {
+            max_temperature,
+            burns,
+            ..
+        } => match game.fluid(fluid) {
+            Some(fluid) if !*burns => distance(&fluid.at, max_temperature),
+            _ => Ratio::zero(),
+        },
+        _ => Ratio::zero(),
+    }
+}
+
+// What the machine of a set-up leaves unused.
+fn unused_of(game: &Game, bare: &Bare<'_>) -> Ratio {
+    match (game.machines.as_slice().get(bare.machine.0 as usize), bare.at.first()) {
+        (Some(machine), Some(fluid)) => unused_by(game, &machine.kind, *fluid),
+        _ => Ratio::zero(),
     }
 }
 
@@ -211,6 +259,14 @@ fn fuel_with(
     }
 }
 
+// The place of a machine among some, behind the last where it is none of them.
+fn place_among(machines: &[EntityId], machine: EntityId) -> usize {
+    match machines.iter().position(|other| *other == machine) {
+        Some(place) => place,
+        None => machines.len(),
+    }
+}
+
 // A machine as a candidate.
 fn as_candidate(
     alloc: Global,
@@ -235,11 +291,11 @@ fn as_candidate(
     let Some(machines) = count_with(alloc, game, &bare)? else {
         return Ok(None);
     };
-    let preferred = wish.by.as_slice().iter().any(|by| *by == machine);
     Ok(Some(Candidate {
         machine,
         fuel,
-        preferred,
+        place: place_among(wish.by.as_slice(), machine),
+        unused: unused_of(game, &bare),
         machines,
     }))
 }

@@ -17,4 +17,4 @@ pub use reach::{
 };
 pub use setups::{column_in, is_fitting};
 pub use undoing::is_undoing;
-pub use wish::{Wish, WishBeacon, WishFault};
+pub use wish::{Cheapest, Met, Reason, Unmade, Wish, WishBeacon, WishFault};

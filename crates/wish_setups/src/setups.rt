@@ -261,34 +261,45 @@ fn takes(
     Ok(is_fitting(game, &setup))
 }
 
-// Those of the wish's modules and beacons that a set-up takes: both, else the modules, else the beacons, else none.
-fn extras(
+// The first of some modules that a machine takes.
+fn first_taken(
     alloc: Global,
     game: &Game,
-    wish: &Wish,
     bare: &Bare<'_>,
-) -> Result<(Option<GoodId>, Option<WishBeacon>), NoMemory>
+    modules: &[GoodId],
+) -> Result<Option<GoodId>, NoMemory>
     requires { IsSound game.now }
 {
-    if wish.module.is_none() && wish.beacon.is_none() {
-        return Ok((None, None));
+    for module in modules {
+        if takes(alloc, game, bare, Some(*module), None)? {
+            return Ok(Some(*module));
+        }
     }
-    if takes(alloc, game, bare, wish.module, wish.beacon)? {
-        return Ok((wish.module, wish.beacon));
-    }
-    if takes(alloc, game, bare, wish.module, None)? {
-        return Ok((wish.module, None));
-    }
-    if takes(alloc, game, bare, None, wish.beacon)? {
-        return Ok((None, wish.beacon));
-    }
-    Ok((None, None))
+    Ok(None)
 }
 
-/// The set-up with those of the wish's modules and beacons that it takes.
+// The beacons of a wish, where a machine takes them.
+fn taken_beacon(
+    alloc: Global,
+    game: &Game,
+    bare: &Bare<'_>,
+    module: Option<GoodId>,
+    beacon: Option<WishBeacon>,
+) -> Result<Option<WishBeacon>, NoMemory>
+    requires { IsSound game.now }
+{
+    if beacon.is_some() && takes(alloc, game, bare, module, beacon)? {
+        Ok(beacon)
+    } else {
+        Ok(None)
+    }
+}
+
+/// The set-up with the first of the wish's modules that it takes, and with the wish's beacons where it takes them.
 pub fn dressed(alloc: Global, game: &Game, wish: &Wish, bare: &Bare<'_>) -> Result<Setup, NoMemory>
     requires { IsSound game.now }
 {
-    let (module, beacon) = extras(alloc, game, wish, bare)?;
+    let module = first_taken(alloc, game, bare, wish.modules.as_slice())?;
+    let beacon = taken_beacon(alloc, game, bare, module, wish.beacon)?;
     setup_with(alloc, game, bare, module, beacon)
 }

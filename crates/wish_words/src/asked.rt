@@ -1,5 +1,6 @@
 //! What the words ask for.
 use fractions::Ratio;
+use wish_setups::Cheapest;
 
 /// A good that is wished for, as it is named, and the units a second; a belt full of it where no rate is named.
 #[derive(Clone, Copy)]
@@ -31,16 +32,6 @@ pub struct AskedSetup<'a> {
     pub modules: Vec<&'a str>,
     pub beacon: Option<AskedBeacon<'a>>,
     pub fuel: Option<&'a str>,
-}
-
-/// What a plan is to take least of.
-#[derive(Clone, Copy, Debug, PartialEq, Eq)]
-pub enum Cheapest {
-    /// What is taken from outside.
-    Cost,
-    Power,
-    Pollution,
-    Machines,
 }
 
 /// More rows for a table that stands: those that make a good.

@@ -8,7 +8,7 @@ mod options;
 mod rates;
 mod words;
 
-pub use asked::{Asked, AskedBeacon, AskedImport, AskedMore, AskedSetup, AskedWish, Cheapest};
+pub use asked::{Asked, AskedBeacon, AskedImport, AskedMore, AskedSetup, AskedWish};
 pub use faults::{Wanted, WordFault};
 pub use options::{command, question};
 pub use rates::{is_writable, read_rate};

@@ -1,5 +1,5 @@
 //! How the words are read.
-use crate::asked::{Asked, AskedBeacon, AskedImport, AskedMore, AskedSetup, AskedWish, Cheapest};
+use crate::asked::{Asked, AskedBeacon, AskedImport, AskedMore, AskedSetup, AskedWish};
 use crate::faults::{Wanted, WordFault};
 use crate::rates::{is_writable, read_rate};
 use clap::ArgMatches;
@@ -7,6 +7,7 @@ use fractions::{Ratio, read_ratio};
 use production_table::LIMIT;
 use script_reader::count_at;
 use std::alloc::{AllocFailed, Global};
+use wish_setups::Cheapest;
 
 /// The most rows where the words name no number of them.
 const ROWS: u32 = 40;
