@@ -1,19 +1,24 @@
 //! Prints the lines of a script that make a table for a wish. What went wrong is said on standard error.
 #![tactic(auto)]
 
-mod planning;
-mod saying;
-mod wishing;
+ghost use Rattle.state_changes.specs.States.{State};
+ghost use Rattle.planner_core.specs.Lines.{IsSessionOf};
 
-use crate::saying::{Failure, end_by_failure};
-use crate::wishing::output;
+mod saying;
+
+use crate::saying::{end_by_failure, end_by_fault};
 use clap::ArgMatches;
 use plan_base::{NoMemory, Steps, Text};
+use planner_cli::Ready;
 use program_runs::{End, Names, end_by, end_by_words, ended, loaded, program_words, written};
-use std::alloc::Global;
+use std::alloc::{AllocError, Global};
 use std::process::ExitCode;
 use std::rt::Files;
-use wish_words::{Asked, WordFault, command, read_asked};
+use wish_answers::{Failure, whole_script};
+use wish_words::{Asked, command, read_asked};
+
+/// The version of the program.
+const VERSION: &str = "0.6.0";
 
 // Marks the counter of the program.
 #[derive(Drop)]
@@ -27,6 +32,48 @@ fn names_of<'a>(asked: &Asked<'a>) -> Names<'a> {
     }
 }
 
+// Whether a byte of a file's name stands for itself in a shell.
+fn is_plain(byte: u8) -> bool {
+    byte.is_ascii_alphanumeric() || matches!(byte, b'/' | b'.' | b'-' | b'_')
+}
+
+// The words that ask for more rows of the table, where what is printed was saved as OUTPUT.
+fn command_for(alloc: Global, dump: &str) -> Result<String, AllocError> {
+    if dump.bytes().all(is_plain) {
+        format!(in alloc; "factoplan_table {dump} --script OUTPUT")
+    } else {
+        String::from_str(alloc, "factoplan_table DUMP --script OUTPUT")
+    }
+}
+
+// The script with the lines of the wish behind its own.
+fn script_for<L>(
+    alloc: Global,
+    ready: Ready,
+    asked: &Asked<'_>,
+    said: &mut String,
+    steps: &mut Steps<L>,
+) -> Result<Vec<u8>, Failure>
+    requires { (base : State) × IsSessionOf base ready.planner }
+{
+    let Ready {
+        mut planner,
+        mut script,
+    } = ready;
+    let command = command_for(alloc, asked.dump)?;
+    whole_script(
+        alloc,
+        &mut planner,
+        &mut script,
+        asked,
+        None,
+        command.as_str(),
+        said,
+        steps,
+    )?;
+    Ok(script)
+}
+
 // The run that words ask for.
 fn wish_run<R: Files + Print>(rt: &R, alloc: Global, asked: &Asked<'_>) -> End {
     let names = names_of(asked);
@@ -36,24 +83,10 @@ fn wish_run<R: Files + Print>(rt: &R, alloc: Global, asked: &Asked<'_>) -> End {
         Err(status) => return end_by(rt, alloc, &status, names),
     };
     let mut said = String::new(alloc);
-    match output(alloc, ready, asked, &mut said, &mut steps) {
-        Ok(lines) => written(rt, alloc, lines.as_slice(), 0, names),
+    match script_for(alloc, ready, asked, &mut said, &mut steps) {
+        Ok(script) => written(rt, alloc, script.as_slice(), 0, names),
         Err(failure) => end_by_failure(rt, alloc, failure, said.as_str(), names),
     }
-}
-
-// The end by a bad word.
-fn end_by_fault<R: Files>(rt: &R, alloc: Global, fault: WordFault<'_>) -> End {
-    let names = Names {
-        dump: "",
-        script: "",
-    };
-    let mut said = String::new(alloc);
-    let failure = match fault.say(&mut said) {
-        Ok(()) => Failure::BadWords,
-        Err(NoMemory) => Failure::NoMemory,
-    };
-    end_by_failure(rt, alloc, failure, said.as_str(), names)
 }
 
 // The run of matched words.
@@ -65,7 +98,7 @@ fn matched_run<R: Files + Print>(rt: &R, alloc: Global, matches: &ArgMatches<'_>
 }
 
 fn run<R: Files + Print + Eprint>(rt: &R, alloc: Global, words: &[Text]) -> Result<End, NoMemory> {
-    let command = command(alloc)?;
+    let command = command(alloc, VERSION)?;
     match command.try_get_matches_from(words) {
         Ok(matches) => Ok(matched_run(rt, alloc, &matches)),
         Err(error) => Ok(end_by_words(rt, &error)),

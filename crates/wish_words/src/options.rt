@@ -148,14 +148,14 @@ fn with_rest<'a>(alloc: Global, command: Command<'a>) -> Result<Command<'a>, All
     with_ends(alloc, command)
 }
 
-/// The command of the program.
+/// The command of the program, of this version.
 ///
 /// # Errors
 ///
 /// `AllocError` where memory could not be had.
-pub fn command<'a>(alloc: Global) -> Result<Command<'a>, AllocError> {
+pub fn command<'a>(alloc: Global, version: &'a str) -> Result<Command<'a>, AllocError> {
     let command = Command::new(alloc, "factoplan_table")
-        .version("0.6.0")
+        .version(version)
         .about(
             "Prints the lines of a script for `factoplan run` that make a table of each GOOD at RATE a second",
         )

@@ -1,0 +1,67 @@
+-- The lines of a script with others behind it.
+use Rattle.std.proofs.Common.{◌≡◌, ◌++◌, ◌∷◌, [], ℕ, Bool, true, false, not, List, length, ap, sym, refl, ◌∙◌, map, arith, rules}
+use Rattle.std.specs.Prelude.{◌==◌, if◌then◌else◌, Option, Some, None, slice_get, ◌-◌}
+use Rattle.std.proofs.lemmas.List.{map-append}
+use Rattle.script_lines.specs.Lines.{cut_lines, lines_of, onto_first, without_return}
+use Rattle.wish_answers.specs.Leading.{ends_within, joined}
+
+-- ---- the end of a text
+abbrev is_open : Option ℕ → Bool
+is_open None = false
+is_open (Some byte) = not (byte == 10)
+
+pub ends_within_last : (text : List ℕ) → ends_within text ≡ is_open (slice_get text (length text - 1))
+ends_within_last [] = refl
+ends_within_last (byte ∷ []) = refl
+ends_within_last (byte ∷ next ∷ rest) = ends_within_last (next ∷ rest)
+
+ends_newline : (text : List ℕ) → ends_within (text ++ 10 ∷ []) ≡ false
+ends_newline [] = refl
+ends_newline (byte ∷ []) = refl
+ends_newline (byte ∷ next ∷ rest) = ends_newline (next ∷ rest)
+
+-- ---- the lines
+cut_byte : (byte : ℕ) (lines more : List (List ℕ)) → ((lines ≡ []) → (byte == 10) ≡ true)
+    → (if byte == 10 then [] ∷ (lines ++ more) else onto_first byte (lines ++ more)) ≡ (if byte == 10 then [] ∷ lines else onto_first byte lines) ++ more
+cut_byte byte lines more none = by_test (byte == 10) lines none
+  where
+    by_test : (test : Bool) (lines : List (List ℕ)) → ((lines ≡ []) → test ≡ true)
+        → (if test then [] ∷ (lines ++ more) else onto_first byte (lines ++ more)) ≡ (if test then [] ∷ lines else onto_first byte lines) ++ more
+    by_test true lines none = refl
+    by_test false [] none = cc (none refl)
+    by_test false (line ∷ lines) none = refl
+
+some_lines : (byte : ℕ) (rest : List ℕ) → cut_lines (byte ∷ rest) ≡ [] → (t : Bool) → t ≡ true
+some_lines byte rest none t = by_test (byte == 10) (cut_lines rest) none
+  where
+    by_test : (test : Bool) (lines : List (List ℕ)) → (if test then [] ∷ lines else onto_first byte lines) ≡ [] → t ≡ true
+    by_test true lines none = cc
+    by_test false [] none = cc
+    by_test false (line ∷ lines) none = cc
+
+one_newline : (b : Bool) → not b ≡ false → b ≡ true
+one_newline true is = refl
+one_newline false is = cc
+
+cut_append : (text more : List ℕ) → ends_within text ≡ false → cut_lines (text ++ more) ≡ cut_lines text ++ cut_lines more
+cut_append [] more ends = refl
+cut_append (byte ∷ []) more ends = cut_byte byte [] (cut_lines more) (λ none. one_newline (byte == 10) ends)
+cut_append (byte ∷ next ∷ rest) more ends =
+    ap (λ l. if byte == 10 then [] ∷ l else onto_first byte l) (cut_append (next ∷ rest) more ends)
+    ∙ cut_byte byte (cut_lines (next ∷ rest)) (cut_lines more) (λ none. some_lines next rest none (byte == 10))
+
+one_open : (b : Bool) → not b ≡ true → b ≡ false
+one_open true is = cc
+one_open false is = refl
+
+cut_newline : (text : List ℕ) → ends_within text ≡ true → cut_lines (text ++ 10 ∷ []) ≡ cut_lines text
+cut_newline [] ends = cc
+cut_newline (byte ∷ []) ends = rw (one_open (byte == 10) ends) refl
+cut_newline (byte ∷ next ∷ rest) ends = ap (λ l. if byte == 10 then [] ∷ l else onto_first byte l) (cut_newline (next ∷ rest) ends)
+
+pub lines_of_joined : (script lines : List ℕ) → lines_of (joined script lines) ≡ lines_of script ++ lines_of lines
+lines_of_joined script lines = ap (λ l. map without_return l) (by_test (ends_within script) refl) ∙ map-append without_return (cut_lines script) (cut_lines lines)
+  where
+    by_test : (test : Bool) → ends_within script ≡ test → cut_lines ((if test then script ++ 10 ∷ [] else script) ++ lines) ≡ cut_lines script ++ cut_lines lines
+    by_test true is = cut_append (script ++ 10 ∷ []) lines (ends_newline script) ∙ ap (λ l. l ++ cut_lines lines) (cut_newline script is)
+    by_test false is = cut_append script lines is

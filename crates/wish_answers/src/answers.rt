@@ -1,0 +1,120 @@
+//! The lines that meet a wish, carried out before they are told.
+ghost use Rattle.std.specs.Prelude.{◌≡◌, ◌≤◌, ◌+◌, true, false, IfOk, length, string_bytes};
+ghost use Rattle.state_changes.specs.States.{State};
+ghost use Rattle.planner_core.specs.Lines.{IsSessionOf};
+ghost use Rattle.script_lines.specs.Lines.{lines_of};
+ghost use Rattle.wish_answers.specs.Leading.{Continues};
+
+use crate::failures::Failure;
+use crate::finding::{Found, found_lines};
+use crate::reached::reached_nodes;
+use crate::stepping::{Progress, step_lines};
+use fractions::Ratio;
+use plan_base::Steps;
+use planner_core::Planner;
+use script_lines::line_count;
+use script_runner::LINE_LIMIT;
+use std::alloc::Global;
+use wish_words::Asked;
+
+/// The lines that meet a wish, and how far the planner has come behind them.
+#[derive(Drop)]
+pub struct Answer {
+    pub lines: String,
+    pub done: Progress,
+}
+
+/// Whether a script would have too many lines with these behind those that were before.
+pub fn has_too_many(before: Progress, lines: &[u8]) -> bool
+    ensures { result ≡ false → before.count + length (lines_of lines.now) ≤ 100_000 }
+{
+    let room = LINE_LIMIT.saturating_sub(before.count as usize);
+    before.count as usize > LINE_LIMIT || line_count(lines) > room
+}
+
+// The lines for a wish, as they are found in the state of a planner.
+fn found_in<L>(
+    alloc: Global,
+    planner: &mut Planner,
+    asked: &Asked<'_>,
+    belt: Option<Ratio>,
+    command: &str,
+    said: &mut String,
+    steps: &mut Steps<L>,
+) -> Result<Found, Failure>
+    requires { (base : State) × IsSessionOf base planner.old }
+    ensures { planner.new ≡ planner.old }
+{
+    let reached = reached_nodes(alloc, planner, said, steps)?;
+    found_lines(
+        alloc,
+        planner.game(),
+        reached.as_slice(),
+        planner.tables(),
+        asked,
+        belt,
+        command,
+        said,
+    )
+}
+
+// Carries the lines out behind those that were before.
+fn carry_out<L>(
+    alloc: Global,
+    planner: &mut Planner,
+    lines: &str,
+    before: Progress,
+    said: &mut String,
+    steps: &mut Steps<L>,
+) -> Result<Progress, Failure>
+    requires session { (base : State) × IsSessionOf base planner.old }
+    ensures continues { IfOk result (λ done. Continues planner.old lines.now before planner.new done) }
+    ensures planned { IfOk result (λ done. done.planned ≡ true) }
+    ensures few { IfOk result (λ done. done.count ≤ 100_000) }
+    ensures counted { IfOk result (λ done. done.count ≡ before.count + length (lines_of lines.now)) }
+    ensures history { (base : State) → IsSessionOf base planner.old → IsSessionOf base planner.new }
+{
+    let lines = lines.as_bytes();
+    if has_too_many(before, lines) {
+        return Err(Failure::TooLong);
+    }
+    let Some(done) = step_lines(alloc, planner, lines, before, "output", said, steps)? else {
+        return Err(Failure::Refused);
+    };
+    if done.planned {
+        Ok(done)
+    } else {
+        said.push_str("the table has no plan behind its lines")?;
+        Err(Failure::Unmet)
+    }
+}
+
+/// The lines for the wish that the words ask for, which are carried out behind those that were before: none is refused, and the last is
+/// answered by a plan. A good without a rate is wished for at the rate of a belt. The words of a command stand in the comments before those
+/// that ask for more rows.
+///
+/// # Errors
+///
+/// Why there are none. What is to be said of it is written to `said`. Some lines may have been carried out then.
+pub fn answered_lines<L>(
+    alloc: Global,
+    planner: &mut Planner,
+    before: Progress,
+    asked: &Asked<'_>,
+    belt: Option<Ratio>,
+    command: &str,
+    said: &mut String,
+    steps: &mut Steps<L>,
+) -> Result<Answer, Failure>
+    requires session { (base : State) × IsSessionOf base planner.old }
+    ensures continues { IfOk result (λ answer. Continues planner.old (string_bytes answer.lines) before planner.new answer.done) }
+    ensures planned { IfOk result (λ answer. answer.done.planned ≡ true) }
+    ensures few { IfOk result (λ answer. answer.done.count ≤ 100_000) }
+    ensures counted { IfOk result (λ answer. answer.done.count ≡ before.count + length (lines_of (string_bytes answer.lines))) }
+    ensures history { (base : State) → IsSessionOf base planner.old → IsSessionOf base planner.new }
+{
+    let found = found_in(alloc, planner, asked, belt, command, said, steps)?;
+    let done = carry_out(alloc, planner, found.text.as_str(), before, said, steps)?;
+    let Found { text, .. } = found;
+    Ok(Answer { lines: text, done })
+}

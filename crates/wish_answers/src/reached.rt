@@ -1,0 +1,92 @@
+//! What a planner reaches.
+ghost use Rattle.state_changes.specs.States.{State};
+ghost use Rattle.planner_core.specs.Lines.{IsSessionOf};
+
+use crate::failures::Failure;
+use plan_base::{Kind, NoMemory, NodeId, Steps};
+use plan_report::Reply;
+use planner_core::Planner;
+use script_reader::Command;
+use std::alloc::Global;
+
+static KINDS: [Kind; 7] = [
+    Kind::Special,
+    Kind::Item,
+    Kind::Fluid,
+    Kind::Recipe,
+    Kind::Source,
+    Kind::Machine,
+    Kind::Tech,
+];
+
+fn mark_nodes(nodes: &[(NodeId, u32)], marks: &mut [bool]) {
+    for pair in nodes {
+        if let Some(mark) = marks.get_mut(pair.0.0 as usize) {
+            *mark = true;
+        }
+    }
+}
+
+// Marks the nodes of a list. Answers whether the reply is one.
+fn mark_list(reply: &Reply, marks: &mut [bool]) -> bool {
+    match reply {
+        Reply::List { nodes, .. } => {
+            mark_nodes(nodes.as_slice(), marks);
+            true
+        }
+        _ => false,
+    }
+}
+
+// Marks the reached nodes of a kind. Answers whether they are told.
+fn mark_reached<L>(
+    planner: &mut Planner,
+    kind: Kind,
+    marks: &mut [bool],
+    steps: &mut Steps<L>,
+) -> Result<bool, NoMemory>
+    requires { (base : State) × IsSessionOf base planner.old }
+    ensures { (base : State) → IsSessionOf base planner.old → IsSessionOf base planner.new }
+{
+    let reply = planner.step(0, Command::List(kind), steps)?;
+    Ok(mark_list(&reply, marks))
+}
+
+// Marks the reached nodes of all kinds. Answers whether they are told.
+fn mark_kinds<L>(
+    planner: &mut Planner,
+    marks: &mut [bool],
+    steps: &mut Steps<L>,
+) -> Result<bool, NoMemory>
+    requires { (base : State) × IsSessionOf base planner.old }
+    ensures { (base : State) → IsSessionOf base planner.old → IsSessionOf base planner.new }
+{
+    let mut told = true;
+    for kind in KINDS.iter() {
+        told &= mark_reached(planner, *kind, marks, steps)?;
+    }
+    Ok(told)
+}
+
+/// Marks for each node whether it is reached.
+///
+/// # Errors
+///
+/// `Refused` where a batch is open, which is said, or `NoMemory`.
+pub fn reached_nodes<L>(
+    alloc: Global,
+    planner: &mut Planner,
+    said: &mut String,
+    steps: &mut Steps<L>,
+) -> Result<Vec<bool>, Failure>
+    requires { (base : State) × IsSessionOf base planner.old }
+    ensures { (base : State) → IsSessionOf base planner.old → IsSessionOf base planner.new }
+{
+    let mut marks = vec![in alloc; false; planner.game().shape().len() as usize]?;
+    if mark_kinds(planner, marks.as_mut_slice(), steps)? {
+        Ok(marks)
+    } else {
+        said.push_str("the script leaves a batch open")?;
+        Err(Failure::Refused)
+    }
+}
