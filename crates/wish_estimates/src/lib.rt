@@ -1,25 +1,20 @@
-//! What a unit of each reached good takes, as an estimate, and the ways to it.
+//! What a unit of each reached good takes, as an estimate over the whole game, and the ways to it. It only decides which rows a table
+//! for a wish has, so nothing is claimed of it but that it is safe and ends.
 #![tactic(auto)]
 
-ghost use Rattle.game_types.specs.Sound.{IsSound};
+mod crafters;
+mod estimates;
+mod machines;
+mod network;
+mod numbers;
+mod prices;
+mod reasons;
+mod recipes;
+mod variants;
 
-use game_types::Game;
-use plan_base::{GoodId, Items, NoMemory};
-use std::alloc::Global;
-
-/// The variants of a fluid of several temperatures that something which is reached gives, in the order of goods.
-///
-/// # Errors
-///
-/// `NoMemory` where memory could not be had.
-pub fn given_variants(
-    alloc: Global,
-    game: &Game,
-    reached: &[bool],
-    base: GoodId,
-) -> Result<Items<GoodId>, NoMemory>
-    requires { IsSound game.now }
-{
-    let _given = (alloc, game, reached, base);
-    Err(NoMemory)
-}
+pub use estimates::Estimates;
+pub use network::{Give, Network, Take, Way};
+pub use numbers::{NONE, float_of, rounded};
+pub use prices::{free_price, pump_price, source_price};
+pub use reasons::why_unmade;
+pub use variants::given_variants;

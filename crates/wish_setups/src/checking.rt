@@ -8,7 +8,7 @@ ghost use Rattle.table_rows.specs.Setups.{IsFitting};
 ghost use Rattle.wish_setups.specs.Answers.{IsAnswer, all_supplied, brings, column_supplied, gives, is_activity_reached, is_row_reached, is_supplied, part_supplied, row_column};
 
 use crate::reach::{is_marked, is_reached};
-use crate::setups::is_fitting;
+use crate::solving::are_fitting;
 use fractions::{Ratio, is_positive};
 use game_types::{Activity, Game};
 use plan_base::{GoodId, Items, Kind, NoMemory};
@@ -43,20 +43,6 @@ fn are_reached(game: &Game, reached: &[bool], rows: &[TableRow]) -> bool
     ensures { result ≡ list_all (is_row_reached game.now reached.now) rows.now }
 {
     rows.iter().all(|row| is_row_reached(game, reached, row))
-}
-
-fn is_row_fitting(game: &Game, row: &TableRow) -> bool
-    requires { IsSound game.now }
-    ensures { OnTrue result (IsFitting game.now row.now.setup) }
-{
-    is_fitting(game, &row.setup)
-}
-
-fn are_fitting(game: &Game, rows: &[TableRow]) -> bool
-    requires { IsSound game.now }
-    ensures { OnTrue result (All (λ row. IsFitting game.now row.setup) rows.now) }
-{
-    rows.iter().all(|row| is_row_fitting(game, row))
 }
 
 // What one craft a second of a row adds to each good, and nothing where that is too wide.

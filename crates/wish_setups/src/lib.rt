@@ -6,6 +6,7 @@ mod checking;
 mod choosing;
 mod reach;
 mod setups;
+mod solving;
 mod undoing;
 mod wish;
 
@@ -15,6 +16,7 @@ pub use reach::{
     gives, is_good_marked, is_good_reached, is_marked, is_reached, mark, mark_good, mined_goods,
     reached_fuels,
 };
-pub use setups::{column_in, is_fitting};
+pub use setups::{column_in, expected_units, figures_of, is_fitting};
+pub use solving::{BUDGET, Solved, solved};
 pub use undoing::is_undoing;
 pub use wish::{Cheapest, Met, Reason, Unmade, Wish, WishBeacon, WishFault};

@@ -6,7 +6,8 @@ ghost use Rattle.table_rows.specs.Setups.{IsFitting};
 
 use crate::{Wish, WishBeacon};
 use fractions::Ratio;
-use game_types::{Activity, BeaconGroup, Game, MachineKind, Setup};
+use game_types::{Activity, BeaconGroup, Effects, Game, MachineKind, Product, Rates, Setup};
+use machine_rates::yield_of;
 use plan_base::{EntityId, GoodId, Items, NoMemory};
 use power_rows::{Input, input_of};
 use std::alloc::Global;
@@ -302,4 +303,25 @@ pub fn dressed(alloc: Global, game: &Game, wish: &Wish, bare: &Bare<'_>) -> Resu
     let module = first_taken(alloc, game, bare, wish.modules.as_slice())?;
     let beacon = taken_beacon(alloc, game, bare, module, wish.beacon)?;
     setup_with(alloc, game, bare, module, beacon)
+}
+
+/// What one craft a second takes, and the power of the beacons of each machine, where the set-up can stand in a table.
+pub fn figures_of(game: &Game, setup: &Setup) -> Option<(Effects, Rates, Ratio)>
+    requires { IsSound game.now }
+{
+    if !is_fitting(game, setup) {
+        return None;
+    }
+    match row_rates(game, setup) {
+        Ok(rates) => Some(rates),
+        Err(_) => None,
+    }
+}
+
+/// What a product is expected to give, without productivity.
+pub fn expected_units(product: &Product) -> Ratio {
+    match yield_of(product, &Ratio::zero()) {
+        Ok(amount) => amount,
+        Err(_) => Ratio::one(),
+    }
 }

@@ -2,7 +2,12 @@
 //! What is further away is imported at an estimate. It is solved before it is answered.
 #![tactic(auto)]
 
+mod building;
 mod meeting;
+mod orders;
+mod power;
+mod pricing;
+mod trying;
 
 pub use meeting::{more_rows, wish_table};
 pub use wish_estimates::given_variants;

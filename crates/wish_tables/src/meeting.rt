@@ -1,11 +1,228 @@
-//! The table of a wish.
+//! The table of a wish: tables are tried until one has a plan.
+ghost use Rattle.std.specs.Prelude.{IfOk};
 ghost use Rattle.game_types.specs.Sound.{IsSound};
 ghost use Rattle.production_table.specs.Tables.{IsSoundTable};
 
+use crate::orders::{ORDERS, ordered};
+use crate::trying::{Outcome, Trial, try_order};
+use fractions::Ratio;
 use game_types::Game;
-use production_table::Table;
+use plan_base::{GoodId, Items, NoMemory};
+use production_table::{LIMIT, Table, TableFault, TableRow};
 use std::alloc::Global;
-use wish_setups::{Met, Wish, WishFault};
+use wish_estimates::{Estimates, why_unmade};
+use wish_setups::{Met, State, Wish, WishFault, column_in, mined_goods, price_in, reached_fuels};
+use wish_walk::{Ground, Walk, walk_further, walk_on};
+
+// How the tables of a size ended.
+#[derive(Drop)]
+enum Tried {
+    Met(Met),
+    // None has a plan, and why.
+    Failed(WishFault),
+}
+
+// The orders of a walk's rows are tried until one is settled.
+fn try_orders(alloc: Global, trial: &Trial<'_>, walk: &Walk) -> Result<Outcome, WishFault>
+    requires game { IsSound trial.now.ground.game.now }
+    requires start { IsSoundTable trial.now.start.now }
+{
+    for order in 0..ORDERS {
+        let places = ordered(alloc, walk, order)?;
+        match try_order(alloc, trial, walk, places.as_slice())? {
+            Outcome::Unsolved => {}
+            outcome => return Ok(outcome),
+        }
+    }
+    Ok(Outcome::Unsolved)
+}
+
+// A good that the table that stands has isn't looked for.
+fn mark_had(walk: &mut Walk, pairs: &[(GoodId, Ratio)]) {
+    for (good, amount) in pairs {
+        if !amount.is_neg() {
+            walk.has(*good);
+        }
+    }
+}
+
+fn mark_row(
+    alloc: Global,
+    ground: &Ground<'_>,
+    walk: &mut Walk,
+    power: bool,
+    row: &TableRow,
+) -> Result<(), NoMemory>
+    requires { IsSound ground.now.game.now }
+{
+    if let Some(column) = column_in(alloc, ground.game, power, &row.setup)? {
+        mark_had(walk, column.as_slice());
+    }
+    Ok(())
+}
+
+// What the table that stands gives or brings isn't looked for.
+fn mark_start(alloc: Global, trial: &Trial<'_>, walk: &mut Walk) -> Result<(), NoMemory>
+    requires { IsSound trial.now.ground.game.now }
+{
+    mark_had(walk, trial.start.imports.as_slice());
+    for row in trial.start.rows.as_slice() {
+        mark_row(alloc, &trial.ground, walk, trial.start.power, row)?;
+    }
+    Ok(())
+}
+
+// A walk of so many rows, with further ways or without.
+fn walk_of(alloc: Global, trial: &Trial<'_>, most: usize, further: bool) -> Result<Walk, NoMemory>
+    requires { IsSound trial.now.ground.game.now }
+{
+    let mut walk = Walk::new(alloc, &trial.ground, most)?;
+    mark_start(alloc, trial, &mut walk)?;
+    for (good, _) in trial.ground.wish.wants.as_slice() {
+        walk.want(*good)?;
+    }
+    walk_on(alloc, &trial.ground, &mut walk)?;
+    if further {
+        walk_further(alloc, &trial.ground, &mut walk)?;
+    }
+    Ok(walk)
+}
+
+// How a walk's tables end: met, or without a plan, or unsolved.
+fn tried(outcome: Outcome) -> Tried {
+    match outcome {
+        Outcome::Met(met) => Tried::Met(met),
+        Outcome::NoPlan(goods) => Tried::Failed(WishFault::NoPlan(goods)),
+        Outcome::Unsolved => Tried::Failed(WishFault::Unsolved),
+    }
+}
+
+// Tables of at most so many rows are tried.
+fn try_size(
+    alloc: Global,
+    trial: &Trial<'_>,
+    most: usize,
+    further: bool,
+) -> Result<Tried, WishFault>
+    requires game { IsSound trial.now.ground.game.now }
+    requires start { IsSoundTable trial.now.start.now }
+{
+    let walk = walk_of(alloc, trial, most, further)?;
+    match try_orders(alloc, trial, &walk) {
+        Ok(outcome) => Ok(tried(outcome)),
+        Err(WishFault::NoMemory) => Err(WishFault::NoMemory),
+        Err(fault) => Ok(Tried::Failed(fault)),
+    }
+}
+
+// Tables are tried with further ways and without, and then with half the rows, and so on.
+fn try_sizes(alloc: Global, trial: &Trial<'_>) -> Result<Met, WishFault>
+    requires game { IsSound trial.now.ground.game.now }
+    requires start { IsSoundTable trial.now.start.now }
+{
+    let mut last = WishFault::Unsolved;
+    let mut most = (trial.ground.wish.rows as usize).min(LIMIT);
+    for _ in 0..10 {
+        match try_size(alloc, trial, most, true)? {
+            Tried::Met(met) => return Ok(met),
+            Tried::Failed(fault) => last = fault,
+        }
+        match try_size(alloc, trial, most, false)? {
+            Tried::Met(met) => return Ok(met),
+            Tried::Failed(fault) => last = fault,
+        }
+        most = most / 2;
+        if most == 0 {
+            break;
+        }
+    }
+    Err(last)
+}
+
+// Each wished good can be made.
+fn check_made(alloc: Global, ground: &Ground<'_>) -> Result<(), WishFault>
+    requires { IsSound ground.now.game.now }
+{
+    for (good, _) in ground.wish.wants.as_slice() {
+        if !ground.estimates.is_known(*good) {
+            let unmade = why_unmade(
+                alloc,
+                ground.game,
+                ground.state,
+                ground.wish,
+                ground.estimates,
+                *good,
+            )?;
+            return Err(WishFault::Unmade(unmade));
+        }
+    }
+    Ok(())
+}
+
+fn push_known(estimates: &Estimates, fuels: &[GoodId], known: &mut Vec<GoodId>) -> Result<(), NoMemory> {
+    for fuel in fuels {
+        if estimates.is_known(*fuel) {
+            known.push(*fuel)?;
+        }
+    }
+    Ok(())
+}
+
+// Tries tables over the estimates of a wish.
+fn try_from(
+    alloc: Global,
+    game: &Game,
+    state: State<'_>,
+    wish: &Wish,
+    start: &Table,
+    wants: bool,
+) -> Result<Met, WishFault>
+    requires game { IsSound game.now }
+    requires start { IsSoundTable start.now }
+{
+    let estimates = Estimates::of(alloc, game, state, wish)?;
+    let mut fuels = Vec::new(alloc);
+    push_known(&estimates, state.fuels, &mut fuels)?;
+    let state = State {
+        reached: state.reached,
+        mined: state.mined,
+        fuels: fuels.as_slice(),
+    };
+    let ground = Ground {
+        game,
+        state,
+        wish,
+        estimates: &estimates,
+    };
+    check_made(alloc, &ground)?;
+    let trial = Trial {
+        ground,
+        start,
+        wants,
+    };
+    try_sizes(alloc, &trial)
+}
+
+fn meet(
+    alloc: Global,
+    game: &Game,
+    reached: &[bool],
+    wish: &Wish,
+    start: &Table,
+    wants: bool,
+) -> Result<Met, WishFault>
+    requires game { IsSound game.now }
+    requires start { IsSoundTable start.now }
+{
+    let mined = mined_goods(alloc, game, reached)?;
+    let fuels = reached_fuels(alloc, game, reached)?;
+    let state = State {
+        reached,
+        mined: mined.as_slice(),
+        fuels: fuels.as_slice(),
+    };
+    try_from(alloc, game, state, wish, start, wants)
+}
 
 /// The table of a name for a wish.
 ///
@@ -21,8 +238,24 @@ pub fn wish_table(
 ) -> Result<Met, WishFault>
     requires { IsSound game.now }
 {
-    let _given = (alloc, game, reached, name, wish);
-    Err(WishFault::NoMemory)
+    let mut start = Table::make(alloc, name)?;
+    start.set_power(wish.power);
+    meet(alloc, game, reached, wish, &start, true)
+}
+
+// An import of a good ends, where there is one.
+fn end_import(alloc: Global, table: &mut Table, good: GoodId) -> Result<(), WishFault>
+    requires { IsSoundTable table.old }
+    ensures { IsSoundTable table.new }
+{
+    if price_in(table.imports.as_slice(), good).is_none() {
+        return Ok(());
+    }
+    match table.set_import(alloc, good, None) {
+        Ok(_) => Ok(()),
+        Err(TableFault::NoMemory) => Err(WishFault::NoMemory),
+        Err(_) => Err(WishFault::Full),
+    }
 }
 
 /// A table that stands, with more rows: those that give the first good of the wish, whose import ends.
@@ -40,6 +273,9 @@ pub fn more_rows(
     requires game { IsSound game.now }
     requires table { IsSoundTable table.now }
 {
-    let _given = (alloc, game, reached, table, wish);
-    Err(WishFault::NoMemory)
+    let mut start = table.copy(alloc)?;
+    for (good, _) in wish.wants.as_slice() {
+        end_import(alloc, &mut start, *good)?;
+    }
+    meet(alloc, game, reached, wish, &start, false)
 }
