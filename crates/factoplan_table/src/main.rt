@@ -9,7 +9,7 @@ mod saying;
 use crate::saying::{end_by_failure, end_by_fault};
 use clap::ArgMatches;
 use plan_base::{NoMemory, Steps, Text};
-use planner_cli::Ready;
+use planner_cli::{Long, Ready, SCRIPT_LIMIT, Status};
 use program_runs::{End, Names, end_by, end_by_words, ended, loaded, program_words, written};
 use std::alloc::{AllocError, Global};
 use std::process::ExitCode;
@@ -84,6 +84,9 @@ fn wish_run<R: Files + Print>(rt: &R, alloc: Global, asked: &Asked<'_>) -> End {
     };
     let mut said = String::new(alloc);
     match script_for(alloc, ready, asked, &mut said, &mut steps) {
+        Ok(script) if script.len() > SCRIPT_LIMIT => {
+            end_by(rt, alloc, &Status::TooLong(Long::ScriptBytes), names)
+        }
         Ok(script) => written(rt, alloc, script.as_slice(), 0, names),
         Err(failure) => end_by_failure(rt, alloc, failure, said.as_str(), names),
     }

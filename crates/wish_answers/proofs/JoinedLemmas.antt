@@ -1,9 +1,12 @@
 -- The lines of a script with others behind it.
-use Rattle.std.proofs.Common.{◌≡◌, ◌++◌, ◌∷◌, [], ℕ, Bool, true, false, not, List, length, ap, sym, refl, ◌∙◌, map, arith, rules}
+use Rattle.std.proofs.Common.{◌≡◌, ◌≤◌, ◌+◌, ◌++◌, ◌∷◌, [], ℕ, Bool, true, false, not, List, length, ap, sym, subst, refl, ◌∙◌, map, arith}
 use Rattle.std.specs.Prelude.{◌==◌, if◌then◌else◌, Option, Some, None, slice_get, ◌-◌}
-use Rattle.std.proofs.lemmas.List.{map-append}
+use Rattle.std.proofs.lemmas.List.{map-append, length-append}
+use Rattle.planner_core.specs.Lines.{Planned}
 use Rattle.script_lines.specs.Lines.{cut_lines, lines_of, onto_first, without_return}
-use Rattle.wish_answers.specs.Leading.{ends_within, joined}
+use Rattle.wish_answers.specs.Leading.{Accepted, Continues, LeadsToPlan, ends_within, joined}
+use Rattle.wish_answers.specs.declared.stepping.Progress.{Progress}
+use Rattle.wish_answers.proofs.LeadingLemmas.{accepted_start}
 
 -- ---- the end of a text
 abbrev is_open : Option ℕ → Bool
@@ -65,3 +68,17 @@ lines_of_joined script lines = ap (λ l. map without_return l) (by_test (ends_wi
     by_test : (test : Bool) → ends_within script ≡ test → cut_lines ((if test then script ++ 10 ∷ [] else script) ++ lines) ≡ cut_lines script ++ cut_lines lines
     by_test true is = cut_append (script ++ 10 ∷ []) lines (ends_newline script) ∙ ap (λ l. l ++ cut_lines lines) (cut_newline script is)
     by_test false is = cut_append script lines is
+
+-- a script's lines and then others lead to a plan, and so does the whole
+pub leads_to_plan : (first middle last : Planned) (script lines whole : List ℕ) (start done final : Progress) → Continues first script start middle done → Continues middle lines done last final
+    → start.count ≡ 0 → start.planned ≡ false → done.count ≡ length (lines_of script) → final.count ≡ done.count + length (lines_of lines) → final.count ≤ 100_000 → final.planned ≡ true
+    → whole ≡ joined script lines → LeadsToPlan first whole last
+leads_to_plan first middle last script lines whole start done final one other count planned counted further few is_planned is =
+    let same : lines_of whole ≡ lines_of script ++ lines_of lines = ap lines_of is ∙ lines_of_joined script lines in
+    let long : length (lines_of whole) ≡ length (lines_of script ++ lines_of lines) = ap length same in
+    record {
+      few = omega (arith, long, length-append (lines_of script) (lines_of lines), counted, further, few);
+      done = final;
+      accepted = subst (λ l. Accepted first l final last) (sym same) (other first (lines_of script) (one first [] (accepted_start first start count planned)));
+      planned = is_planned;
+    }

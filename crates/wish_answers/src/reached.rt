@@ -1,6 +1,9 @@
 //! What a planner reaches.
+ghost use Rattle.std.specs.Prelude.{◌≡◌, ℕ, Bool, true, All, IfOk};
 ghost use Rattle.state_changes.specs.States.{State};
+ghost use Rattle.kept_worlds.specs.Worlds.{is_reached};
 ghost use Rattle.planner_core.specs.Lines.{IsSessionOf};
+ghost use Rattle.wish_answers.specs.Marks.{ListsOnly, MarksOnly};
 
 use crate::failures::Failure;
 use plan_base::{Kind, NoMemory, NodeId, Steps};
@@ -19,7 +22,9 @@ static KINDS: [Kind; 7] = [
     Kind::Tech,
 ];
 
-fn mark_nodes(nodes: &[(NodeId, u32)], marks: &mut [bool]) {
+fn mark_nodes(nodes: &[(NodeId, u32)], marks: &mut [bool])
+    ensures { (test : ℕ → Bool) → All (λ pair. test pair.0.0 ≡ true) nodes.now → MarksOnly test marks.old → MarksOnly test marks.new }
+{
     for pair in nodes {
         if let Some(mark) = marks.get_mut(pair.0.0 as usize) {
             *mark = true;
@@ -28,7 +33,9 @@ fn mark_nodes(nodes: &[(NodeId, u32)], marks: &mut [bool]) {
 }
 
 // Marks the nodes of a list. Answers whether the reply is one.
-fn mark_list(reply: &Reply, marks: &mut [bool]) -> bool {
+fn mark_list(reply: &Reply, marks: &mut [bool]) -> bool
+    ensures { (test : ℕ → Bool) → ListsOnly test reply.now → MarksOnly test marks.old → MarksOnly test marks.new }
+{
     match reply {
         Reply::List { nodes, .. } => {
             mark_nodes(nodes.as_slice(), marks);
@@ -46,7 +53,8 @@ fn mark_reached<L>(
     steps: &mut Steps<L>,
 ) -> Result<bool, NoMemory>
     requires { (base : State) × IsSessionOf base planner.old }
-    ensures { (base : State) → IsSessionOf base planner.old → IsSessionOf base planner.new }
+    ensures same { planner.new ≡ planner.old }
+    ensures marks { MarksOnly (is_reached planner.old.state.book) marks.old → MarksOnly (is_reached planner.old.state.book) marks.new }
 {
     let reply = planner.step(0, Command::List(kind), steps)?;
     Ok(mark_list(&reply, marks))
@@ -59,7 +67,8 @@ fn mark_kinds<L>(
     steps: &mut Steps<L>,
 ) -> Result<bool, NoMemory>
     requires { (base : State) × IsSessionOf base planner.old }
-    ensures { (base : State) → IsSessionOf base planner.old → IsSessionOf base planner.new }
+    ensures same { planner.new ≡ planner.old }
+    ensures marks { MarksOnly (is_reached planner.old.state.book) marks.old → MarksOnly (is_reached planner.old.state.book) marks.new }
 {
     let mut told = true;
     for kind in KINDS.iter() {
@@ -68,7 +77,7 @@ fn mark_kinds<L>(
     Ok(told)
 }
 
-/// Marks for each node whether it is reached.
+/// Marks for each node whether it is reached. No other is marked.
 ///
 /// # Errors
 ///
@@ -80,7 +89,8 @@ pub fn reached_nodes<L>(
     steps: &mut Steps<L>,
 ) -> Result<Vec<bool>, Failure>
     requires { (base : State) × IsSessionOf base planner.old }
-    ensures { (base : State) → IsSessionOf base planner.old → IsSessionOf base planner.new }
+    ensures same { planner.new ≡ planner.old }
+    ensures marks { IfOk result (λ marks. MarksOnly (is_reached planner.old.state.book) marks.items) }
 {
     let mut marks = vec![in alloc; false; planner.game().shape().len() as usize]?;
     if mark_kinds(planner, marks.as_mut_slice(), steps)? {

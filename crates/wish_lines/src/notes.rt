@@ -5,7 +5,6 @@ use crate::names::good_text;
 use fractions::Ratio;
 use game_types::Game;
 use plan_base::{GoodId, NoMemory};
-use plan_report::printed_word;
 use std::alloc::Global;
 
 /// What is told beside the lines of a table.
@@ -35,7 +34,8 @@ fn is_estimated(rim: &[(GoodId, Ratio)], good: GoodId, price: &Ratio) -> bool {
         .any(|pair| pair.0.0 == good.0 && pair.1 == *price)
 }
 
-/// Writes the comment before the line that imports a good: that its price is an estimate, where it is one, and how rows for it are had.
+/// Writes the comment before the line that imports a good into a table, whose name is given as it is printed: that its price is an
+/// estimate, where it is one, and how rows for it are had.
 pub fn push_import_note(
     alloc: Global,
     game: &Game,
@@ -50,7 +50,6 @@ pub fn push_import_note(
         return Ok(());
     }
     let good = good_text(alloc, game, import.0)?;
-    let table = printed_word(alloc, table)?;
     push(
         text,
         &[
@@ -66,7 +65,7 @@ pub fn push_import_note(
             " --rows-for ",
             good.as_str(),
             " --into ",
-            table.as_str(),
+            table,
             "\n",
         ],
     )

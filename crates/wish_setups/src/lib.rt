@@ -17,6 +17,6 @@ pub use reach::{
     reached_fuels,
 };
 pub use setups::{column_in, expected_units, figures_of, is_fitting};
-pub use solving::{BUDGET, Solved, solved};
+pub use solving::{BUDGET, Solved, solve_table};
 pub use undoing::is_undoing;
 pub use wish::{Cheapest, Met, Reason, Unmade, Wish, WishBeacon, WishFault};

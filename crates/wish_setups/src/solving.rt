@@ -43,7 +43,7 @@ pub struct Solved {
 /// # Errors
 ///
 /// `NoMemory` where memory could not be had.
-pub fn solved(alloc: Global, game: &Game, table: &Table) -> Result<Option<Solved>, NoMemory>
+pub fn solve_table(alloc: Global, game: &Game, table: &Table) -> Result<Option<Solved>, NoMemory>
     requires sound { IsSound game.now }
     requires table { IsSoundTable table.now }
 {

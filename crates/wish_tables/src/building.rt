@@ -119,7 +119,7 @@ fn add_row(
     if price.is_zero() {
         return Ok(());
     }
-    told(table.set_price(label.as_str(), &price))
+    told(table.set_price(alloc, label.as_str(), &price))
 }
 
 // The price at which a good comes in, where it does.

@@ -89,7 +89,7 @@ fn walk_of(alloc: Global, trial: &Trial<'_>, most: usize, further: bool) -> Resu
 }
 
 // How a walk's tables end: met, or without a plan, or unsolved.
-fn tried(outcome: Outcome) -> Tried {
+fn tried_by(outcome: Outcome) -> Tried {
     match outcome {
         Outcome::Met(met) => Tried::Met(met),
         Outcome::NoPlan(goods) => Tried::Failed(WishFault::NoPlan(goods)),
@@ -109,7 +109,7 @@ fn try_size(
 {
     let walk = walk_of(alloc, trial, most, further)?;
     match try_orders(alloc, trial, &walk) {
-        Ok(outcome) => Ok(tried(outcome)),
+        Ok(outcome) => Ok(tried_by(outcome)),
         Err(WishFault::NoMemory) => Err(WishFault::NoMemory),
         Err(fault) => Ok(Tried::Failed(fault)),
     }

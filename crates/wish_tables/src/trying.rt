@@ -11,7 +11,7 @@ use linear_table::{Linear, Plan, SolveAnswer};
 use plan_base::{GoodId, Items, NoMemory};
 use production_table::Table;
 use std::alloc::Global;
-use wish_setups::{Met, Solved, WishFault, is_good_marked, price_in, solved};
+use wish_setups::{Met, Solved, WishFault, is_good_marked, price_in, solve_table};
 use wish_walk::{Ground, Walk};
 
 /// The most times that a table gets more that comes in or goes out, or a larger reserve of power.
@@ -211,7 +211,7 @@ fn step(
     requires start { IsSoundTable trial.now.start.now }
 {
     let table = tried_table(alloc, trial, walk, order, extra)?;
-    let Some(Solved { linear, answer }) = solved(alloc, trial.ground.game, &table)? else {
+    let Some(Solved { linear, answer }) = solve_table(alloc, trial.ground.game, &table)? else {
         return Ok(Some(Outcome::Unsolved));
     };
     match answer {

@@ -1,13 +1,27 @@
 //! Rates as words.
+ghost use Rattle.std.specs.Prelude.{IfOk, Ok};
+ghost use Rattle.std.specs.Bool.{OnTrue};
+ghost use Rattle.fractions.specs.Print.{printed};
+ghost use Rattle.fractions.specs.Reading.{ReadsRatio};
+
 use crate::faults::{Wanted, WordFault};
 use fractions::{Ratio, Wide, read_ratio};
+use plan_base::NoMemory;
+use std::alloc::Global;
 
-// The parts of a fraction that a script takes are below this.
-const PARTS: u128 = 1_000_000_000_000_000_000;
-
-/// Whether a script takes the fraction as it is printed: both of its parts are below 10^18.
-pub fn is_writable(number: &Ratio) -> bool {
-    number.numerator().unsigned_abs() < PARTS && number.denominator().unsigned_abs() < PARTS
+/// Whether a script takes a fraction as it is printed, and as no other.
+///
+/// # Errors
+///
+/// `NoMemory` where memory could not be had.
+pub fn is_writable(alloc: Global, number: &Ratio) -> Result<bool, NoMemory>
+    ensures { IfOk result (λ yes. OnTrue yes (ReadsRatio (printed number.now) (Ok number.now))) }
+{
+    let text = number.print(alloc)?;
+    match read_ratio(text.as_str().as_bytes()) {
+        Ok(read) => Ok(read == *number),
+        Err(_) => Ok(false),
+    }
 }
 
 // A rate without its unit of time, and the seconds of that. Seconds are meant where none is named.
@@ -51,11 +65,7 @@ fn rate_in(word: &str) -> Option<Ratio> {
     let (digits, times) = scaled(amount);
     let number = read_ratio(digits.as_bytes()).ok()?;
     let rate = per_second(&number, times, seconds).ok()?;
-    if rate.is_positive() && is_writable(&rate) {
-        Some(rate)
-    } else {
-        None
-    }
+    if rate.is_positive() { Some(rate) } else { None }
 }
 
 /// The units a second that a word tells: a number or a fraction above 0; with `k`, `M` or `G` a thousand, a million or a thousand
@@ -63,10 +73,14 @@ fn rate_in(word: &str) -> Option<Ratio> {
 ///
 /// # Errors
 ///
-/// `Bad` where it tells none, or a script would not take the number as it is printed.
-pub fn read_rate(word: &str) -> Result<Ratio, WordFault<'_>> {
-    match rate_in(word) {
-        Some(rate) => Ok(rate),
-        None => Err(WordFault::Bad(word, Wanted::Rate)),
+/// `Bad` where it tells none, or a script would not take the number as it is printed, or `NoMemory`.
+pub fn read_rate<'a>(alloc: Global, word: &'a str) -> Result<Ratio, WordFault<'a>> {
+    let Some(rate) = rate_in(word) else {
+        return Err(WordFault::Bad(word, Wanted::Rate));
+    };
+    if is_writable(alloc, &rate)? {
+        Ok(rate)
+    } else {
+        Err(WordFault::Bad(word, Wanted::Rate))
     }
 }

@@ -4,6 +4,7 @@ use crate::faults::{Wanted, WordFault};
 use crate::rates::{is_writable, read_rate};
 use clap::ArgMatches;
 use fractions::{Ratio, read_ratio};
+use plan_base::NoMemory;
 use production_table::LIMIT;
 use script_reader::count_at;
 use std::alloc::{AllocFailed, Global};
@@ -18,6 +19,12 @@ impl<'a, T: Drop> From<AllocFailed<T>> for WordFault<'a> {
     }
 }
 
+impl<'a> From<NoMemory> for WordFault<'a> {
+    fn from(_: NoMemory) -> WordFault<'a> {
+        WordFault::NoMemory
+    }
+}
+
 // Whether a word among the wishes is a rate: it begins as a number does.
 fn is_rate(word: &str) -> bool {
     match word.as_bytes() {
@@ -27,7 +34,11 @@ fn is_rate(word: &str) -> bool {
 }
 
 // Takes one word among the wishes: a good, or the rate of the good before it.
-fn take_wish<'a>(word: &'a str, wishes: &mut Vec<AskedWish<'a>>) -> Result<(), WordFault<'a>> {
+fn take_wish<'a>(
+    alloc: Global,
+    word: &'a str,
+    wishes: &mut Vec<AskedWish<'a>>,
+) -> Result<(), WordFault<'a>> {
     if !is_rate(word) {
         wishes.push(AskedWish {
             good: word,
@@ -35,7 +46,7 @@ fn take_wish<'a>(word: &'a str, wishes: &mut Vec<AskedWish<'a>>) -> Result<(), W
         })?;
         return Ok(());
     }
-    let rate = read_rate(word)?;
+    let rate = read_rate(alloc, word)?;
     match wishes.pop() {
         Some(wish) if wish.rate.is_none() => {
             wishes.push(AskedWish {
@@ -55,7 +66,7 @@ fn read_wishes<'a>(
     let mut wishes = Vec::new(alloc);
     if let Some(words) = words {
         for word in words {
-            take_wish(*word, &mut wishes)?;
+            take_wish(alloc, *word, &mut wishes)?;
         }
     }
     Ok(wishes)
@@ -81,18 +92,22 @@ fn words_of<'a>(alloc: Global, words: Option<&[&'a str]>) -> Result<Vec<&'a str>
     Ok(all)
 }
 
-fn price(word: &str) -> Result<Ratio, WordFault<'_>> {
-    match read_ratio(word.as_bytes()) {
-        Ok(price) if !price.is_neg() && is_writable(&price) => Ok(price),
-        _ => Err(WordFault::Bad(word, Wanted::Price)),
+fn price<'a>(alloc: Global, word: &'a str) -> Result<Ratio, WordFault<'a>> {
+    let Ok(price) = read_ratio(word.as_bytes()) else {
+        return Err(WordFault::Bad(word, Wanted::Price));
+    };
+    if !price.is_neg() && is_writable(alloc, &price)? {
+        Ok(price)
+    } else {
+        Err(WordFault::Bad(word, Wanted::Price))
     }
 }
 
-fn read_import(word: &str) -> Result<AskedImport<'_>, WordFault<'_>> {
+fn read_import<'a>(alloc: Global, word: &'a str) -> Result<AskedImport<'a>, WordFault<'a>> {
     match word.rsplit_once('=') {
         Some((good, number)) => Ok(AskedImport {
             good,
-            price: price(number)?,
+            price: price(alloc, number)?,
         }),
         None => Err(WordFault::Bad(word, Wanted::Import)),
     }
@@ -105,7 +120,7 @@ fn read_imports<'a>(
     let mut imports = Vec::new(alloc);
     if let Some(words) = words {
         for word in words {
-            imports.push(read_import(*word)?)?;
+            imports.push(read_import(alloc, *word)?)?;
         }
     }
     Ok(imports)
