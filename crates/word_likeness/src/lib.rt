@@ -2,7 +2,7 @@
 //! blank and underscore.
 #![tactic(auto)]
 
-ghost use Rattle.std.specs.Prelude.{◌≡◌, ℕ, ◌≤◌, ◌<◌, ◌*◌, length, map, nat_lt, IfOk};
+ghost use Rattle.std.specs.Prelude.{◌≡◌, ◌≤◌, ◌<◌, ◌/◌, ◌↔◌, length, map, nat_lt, IfOk};
 ghost use Rattle.std.specs.Bool.{IsTrue};
 ghost use Rattle.std.specs.List.{IsFirstBest};
 ghost use Rattle.word_likeness.specs.Likeness.{IsNearest, edits, plain, plain_byte};
