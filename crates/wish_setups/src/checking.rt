@@ -1,20 +1,25 @@
-//! Whether a table is one for a wish.
-ghost use Rattle.std.specs.Prelude.{◌≡◌, ◌∷◌, ◌||◌, ◌&&◌, ◌==◌, ◌<◌, [], All, IfOk, length, map, not};
-ghost use Rattle.std.specs.Bool.{OnTrue};
+//! Whether a table meets a wish.
+ghost use Rattle.std.specs.Prelude.{◌≡◌, ◌∷◌, ◌||◌, ◌&&◌, ◌==◌, ◌<◌, [], All, IfOk, length, map, not, slice_get};
+ghost use Rattle.std.specs.Bool.{OnFalse, OnTrue};
 ghost use Rattle.std.specs.List.{list_all, list_any};
 ghost use Rattle.game_types.specs.Sound.{IsSound};
 ghost use Rattle.production_table.specs.Tables.{IsSoundTable};
 ghost use Rattle.table_rows.specs.Setups.{IsFitting};
-ghost use Rattle.wish_setups.specs.Answers.{IsAnswer, all_supplied, brings, column_supplied, gives, is_activity_reached, is_row_reached, is_supplied, part_supplied, row_column};
+ghost use Rattle.wish_setups.specs.Answers.{IsMet, Columns, all_supplied, brings, column_supplied, columns_of, electric_good, gives, has_pair, is_activity_reached, is_at_rim, is_due, is_given_part, is_less, is_mined, is_mined_below, is_pair, is_paid, is_row_reached, is_supplied, is_taken, is_want, is_wanted, is_wished, is_wish_supplied, keeps_form, keeps_rows, keeps_wants, mines, part_supplied, priced_column, same_switch};
 
-use crate::reach::{is_marked, is_reached};
-use crate::solving::are_fitting;
-use fractions::{Ratio, is_positive};
+use crate::reach::{is_good_reached, is_marked, is_mined, is_reached};
+use crate::solving::{are_fitting, is_solvable};
+use crate::{Met, Wish};
+use fractions::{Ratio, is_negative, is_positive};
 use game_types::{Activity, Game};
 use plan_base::{GoodId, Items, Kind, NoMemory};
 use production_table::{Table, TableRow};
 use std::alloc::Global;
+use std::cmp::Ordering;
 use table_rows::{RowFault, column_of};
+
+// A row's price, and what one craft a second of it adds to each good.
+type Priced = (Ratio, Items<(GoodId, Ratio)>);
 
 fn is_activity_reached(game: &Game, reached: &[bool], activity: Activity) -> bool
     requires { IsSound game.now }
@@ -45,97 +50,93 @@ fn are_reached(game: &Game, reached: &[bool], rows: &[TableRow]) -> bool
     rows.iter().all(|row| is_row_reached(game, reached, row))
 }
 
-// What one craft a second of a row adds to each good, and nothing where that is too wide.
-fn row_column(
+// A row's price and its column, an empty one where that is too wide.
+fn priced_column(
     alloc: Global,
     game: &Game,
     power: bool,
     row: &TableRow,
-) -> Result<Items<(GoodId, Ratio)>, NoMemory>
+) -> Result<Priced, NoMemory>
     requires sound { IsSound game.now }
     requires fits { IsFitting game.now row.now.setup }
-    ensures { IfOk result (λ column. column ≡ row_column game.now power row.now) }
+    ensures { IfOk result (λ column. column ≡ priced_column game.now power row.now) }
 {
     match column_of(alloc, game, power, &row.setup) {
-        Ok(column) => Ok(Items::from_vec(column)),
-        Err(RowFault::Wide(_)) => Ok(Items::from_vec(Vec::new(alloc))),
+        Ok(column) => Ok((row.price, Items::from_vec(column))),
+        Err(RowFault::Wide(_)) => Ok((row.price, Items::from_vec(Vec::new(alloc)))),
         Err(RowFault::NoMemory) => Err(NoMemory),
     }
 }
 
-fn row_columns(
+fn priced_columns(
     alloc: Global,
     game: &Game,
     power: bool,
     rows: &[TableRow],
-) -> Result<Items<Items<(GoodId, Ratio)>>, NoMemory>
+) -> Result<Items<Priced>, NoMemory>
     requires sound { IsSound game.now }
     requires fits { All (λ row. IsFitting game.now row.setup) rows.now }
-    ensures { IfOk result (λ columns. columns ≡ map (row_column game.now power) rows.now) }
+    ensures { IfOk result (λ columns. columns ≡ map (priced_column game.now power) rows.now) }
 {
     let mut columns = Vec::new(alloc);
     for row in rows {
-        let column = row_column(alloc, game, power, row)?;
+        let column = priced_column(alloc, game, power, row)?;
         columns.push(column)?;
     }
     Ok(Items::from_vec(columns))
 }
 
-fn gives(good: GoodId, column: &Items<(GoodId, Ratio)>) -> bool
-    ensures { result ≡ gives good column.now }
+fn is_given_part(good: GoodId, part: &(GoodId, Ratio)) -> bool
+    ensures { result ≡ is_given_part good part.now }
 {
-    column
-        .as_slice()
-        .iter()
-        .any(|part| part.0.0 == good.0 && is_positive(&part.1))
+    part.0.0 == good.0 && is_positive(&part.1)
 }
 
-fn is_given(columns: &[Items<(GoodId, Ratio)>], good: GoodId) -> bool
+fn gives(good: GoodId, column: &Priced) -> bool
+    ensures { result ≡ gives good column.now }
+{
+    column.1.as_slice().iter().any(|part| is_given_part(good, part))
+}
+
+fn is_given(columns: &[Priced], good: GoodId) -> bool
     ensures { result ≡ list_any (gives good) columns.now }
 {
     columns.iter().any(|column| gives(good, column))
 }
 
-fn brings(good: GoodId, imports: &[(GoodId, Ratio)]) -> bool
-    ensures { result ≡ brings good imports.now }
+fn brings(good: GoodId, pairs: &[(GoodId, Ratio)]) -> bool
+    ensures { result ≡ brings good pairs.now }
 {
-    imports.iter().any(|pair| pair.0.0 == good.0)
+    pairs.iter().any(|pair| pair.0.0 == good.0)
 }
 
-fn is_supplied(
-    columns: &[Items<(GoodId, Ratio)>],
-    imports: &[(GoodId, Ratio)],
-    good: GoodId,
-) -> bool
+fn is_supplied(columns: &[Priced], imports: &[(GoodId, Ratio)], good: GoodId) -> bool
     ensures { result ≡ is_supplied columns.now imports.now good }
 {
     brings(good, imports) || is_given(columns, good)
 }
 
 fn part_supplied(
-    columns: &[Items<(GoodId, Ratio)>],
+    columns: &[Priced],
     imports: &[(GoodId, Ratio)],
     part: &(GoodId, Ratio),
 ) -> bool
     ensures { result ≡ part_supplied columns.now imports.now part.now }
 {
-    !is_positive(&part.1.neg()) || is_supplied(columns, imports, part.0)
+    !is_negative(&part.1) || is_supplied(columns, imports, part.0)
 }
 
-fn column_supplied(
-    columns: &[Items<(GoodId, Ratio)>],
-    imports: &[(GoodId, Ratio)],
-    column: &Items<(GoodId, Ratio)>,
-) -> bool
+fn column_supplied(columns: &[Priced], imports: &[(GoodId, Ratio)], column: &Priced) -> bool
     ensures { result ≡ column_supplied columns.now imports.now column.now }
 {
     column
+        .1
         .as_slice()
         .iter()
         .all(|part| part_supplied(columns, imports, part))
 }
 
-fn all_supplied(columns: &[Items<(GoodId, Ratio)>], imports: &[(GoodId, Ratio)]) -> bool
+fn all_supplied(columns: &[Priced], imports: &[(GoodId, Ratio)]) -> bool
     ensures { result ≡ all_supplied columns.now imports.now }
 {
     columns
@@ -143,41 +144,267 @@ fn all_supplied(columns: &[Items<(GoodId, Ratio)>], imports: &[(GoodId, Ratio)])
         .all(|column| column_supplied(columns, imports, column))
 }
 
-// Whether so much of one good is wanted and nothing else.
-fn is_wanted(wants: &[(GoodId, Ratio)], good: GoodId, rate: &Ratio) -> bool
-    ensures { OnTrue result (wants.now ≡ (good, rate.now) ∷ []) }
+fn is_taken(power: u32, part: &(GoodId, Ratio)) -> bool
+    ensures { result ≡ is_taken power part.now }
 {
-    match wants {
-        [want] => want.0.0 == good.0 && want.1 == *rate,
-        _ => false,
+    !(part.0.0 == power) && is_negative(&part.1)
+}
+
+fn takes_some(power: u32, parts: &[(GoodId, Ratio)]) -> bool
+    ensures { result ≡ list_any (is_taken power) parts.now }
+{
+    parts.iter().any(|part| is_taken(power, part))
+}
+
+// Whether a row that takes nothing but electricity costs something.
+fn is_paid(power: u32, column: &Priced) -> bool
+    ensures { result ≡ is_paid power column.now }
+{
+    is_positive(&column.0) || takes_some(power, column.1.as_slice())
+}
+
+fn are_paid(power: u32, columns: &[Priced]) -> bool
+    ensures { result ≡ list_all (is_paid power) columns.now }
+{
+    columns.iter().all(|column| is_paid(power, column))
+}
+
+fn is_pair(pair: &(GoodId, Ratio), other: &(GoodId, Ratio)) -> bool
+    ensures { result ≡ is_pair pair.now other.now }
+{
+    other.0.0 == pair.0.0 && other.1 == pair.1
+}
+
+fn has_pair(pair: &(GoodId, Ratio), pairs: &[(GoodId, Ratio)]) -> bool
+    ensures { result ≡ has_pair pair.now pairs.now }
+{
+    pairs.iter().any(|other| is_pair(pair, other))
+}
+
+// Whether an import is one of the rim.
+fn is_at_rim(
+    game: &Game,
+    reached: &[bool],
+    wish: &Wish,
+    rim: &[(GoodId, Ratio)],
+    pair: &(GoodId, Ratio),
+) -> bool
+    requires { IsSound game.now }
+    ensures { result ≡ is_at_rim game.now reached.now wish.now rim.now pair.now }
+{
+    has_pair(pair, rim)
+        && is_good_reached(game, reached, pair.0)
+        && !brings(pair.0, wish.wants.as_slice())
+}
+
+// Whether an import was asked for, or costs something and is of what a source gives or of the rim.
+fn is_due(
+    game: &Game,
+    reached: &[bool],
+    wish: &Wish,
+    rim: &[(GoodId, Ratio)],
+    pair: &(GoodId, Ratio),
+) -> bool
+    requires { IsSound game.now }
+    ensures { result ≡ is_due game.now reached.now wish.now rim.now pair.now }
+{
+    has_pair(pair, wish.imports.as_slice())
+        || (is_positive(&pair.1)
+            && (is_mined(game, reached, pair.0) || is_at_rim(game, reached, wish, rim, pair)))
+}
+
+fn are_due(
+    game: &Game,
+    reached: &[bool],
+    wish: &Wish,
+    rim: &[(GoodId, Ratio)],
+    imports: &[(GoodId, Ratio)],
+) -> bool
+    requires { IsSound game.now }
+    ensures { result ≡ list_all (is_due game.now reached.now wish.now rim.now) imports.now }
+{
+    imports
+        .iter()
+        .all(|pair| is_due(game, reached, wish, rim, pair))
+}
+
+fn is_less(one: &Ratio, other: &Ratio) -> bool
+    ensures { result ≡ is_less one.now other.now }
+{
+    match one.cmp(other) {
+        Ordering::Less => true,
+        Ordering::Equal => false,
+        Ordering::Greater => false,
     }
 }
 
-/// Whether a table is one for so much of a good a second.
+// Whether a want is the wish's, or of electricity in a table that makes its own no less.
+fn is_want(electric: u32, power: bool, wish: &(GoodId, Ratio), want: &(GoodId, Ratio)) -> bool
+    ensures { result ≡ is_want electric power wish.now want.now }
+{
+    want.0.0 == wish.0.0
+        && (want.1 == wish.1
+            || (power && want.0.0 == electric && !is_less(&want.1, &wish.1)))
+}
+
+fn is_wanted(
+    electric: u32,
+    power: bool,
+    wants: &[(GoodId, Ratio)],
+    wish: &(GoodId, Ratio),
+) -> bool
+    ensures { result ≡ is_wanted electric power wants.now wish.now }
+{
+    wants.iter().any(|want| is_want(electric, power, wish, want))
+}
+
+fn are_wanted(
+    electric: u32,
+    power: bool,
+    wants: &[(GoodId, Ratio)],
+    wishes: &[(GoodId, Ratio)],
+) -> bool
+    ensures { result ≡ list_all (is_wanted electric power wants.now) wishes.now }
+{
+    wishes.iter().all(|wish| is_wanted(electric, power, wants, wish))
+}
+
+fn is_wished(
+    electric: u32,
+    power: bool,
+    wishes: &[(GoodId, Ratio)],
+    want: &(GoodId, Ratio),
+) -> bool
+    ensures { result ≡ is_wished electric power wishes.now want.now }
+{
+    brings(want.0, wishes) || (power && want.0.0 == electric)
+}
+
+fn are_wished(
+    electric: u32,
+    power: bool,
+    wishes: &[(GoodId, Ratio)],
+    wants: &[(GoodId, Ratio)],
+) -> bool
+    ensures { result ≡ list_all (is_wished electric power wishes.now) wants.now }
+{
+    wants.iter().all(|want| is_wished(electric, power, wishes, want))
+}
+
+// Whether a row gives a wished good, or an import of it was asked for, or it is imported and a source gives it.
+fn is_wish_supplied(
+    game: &Game,
+    reached: &[bool],
+    wish: &Wish,
+    table: &Table,
+    columns: &[Priced],
+    want: &(GoodId, Ratio),
+) -> bool
+    requires { IsSound game.now }
+    ensures { result ≡ is_wish_supplied game.now reached.now wish.now table.now columns.now want.now }
+{
+    is_given(columns, want.0)
+        || brings(want.0, wish.imports.as_slice())
+        || (is_mined(game, reached, want.0) && brings(want.0, table.imports.as_slice()))
+}
+
+fn are_supplied(
+    game: &Game,
+    reached: &[bool],
+    wish: &Wish,
+    table: &Table,
+    columns: &[Priced],
+) -> bool
+    requires { IsSound game.now }
+    ensures { result ≡ list_all (is_wish_supplied game.now reached.now wish.now table.now columns.now) wish.now.wants }
+{
+    wish.wants
+        .as_slice()
+        .iter()
+        .all(|want| is_wish_supplied(game, reached, wish, table, columns, want))
+}
+
+fn same_switch(one: bool, other: bool) -> bool
+    ensures { result ≡ same_switch one other }
+{
+    if one { other } else { !other }
+}
+
+// Whether the name and the power are those that were asked for.
+fn keeps_form(name: &str, wish: &Wish, table: &Table) -> bool
+    ensures { result ≡ keeps_form name.now wish.now table.now }
+{
+    table.name.as_str() == name && same_switch(table.power, wish.power)
+}
+
+// Whether each wished good is wanted and supplied, and nothing else wanted.
+fn keeps_wants(
+    game: &Game,
+    reached: &[bool],
+    wish: &Wish,
+    table: &Table,
+    columns: &[Priced],
+) -> bool
+    requires { IsSound game.now }
+    ensures { result ≡ keeps_wants game.now reached.now wish.now table.now columns.now }
+{
+    let electric = game.electricity().0;
+    let wants = table.wants.as_slice();
+    let wishes = wish.wants.as_slice();
+    are_wanted(electric, wish.power, wants, wishes)
+        && are_wished(electric, wish.power, wishes, wants)
+        && are_supplied(game, reached, wish, table, columns)
+}
+
+// Whether rows are of what is reached, and nothing comes in but what is due and paid for.
+fn keeps_rows(
+    game: &Game,
+    reached: &[bool],
+    wish: &Wish,
+    rim: &[(GoodId, Ratio)],
+    table: &Table,
+    columns: &[Priced],
+) -> bool
+    requires { IsSound game.now }
+    ensures { result ≡ keeps_rows game.now reached.now wish.now rim.now table.now columns.now }
+{
+    are_reached(game, reached, table.rows.as_slice())
+        && are_due(game, reached, wish, rim, table.imports.as_slice())
+        && are_paid(game.electricity().0, columns)
+        && all_supplied(columns, table.imports.as_slice())
+}
+
+/// Whether a table meets a wish.
 ///
 /// # Errors
 ///
 /// `NoMemory` where memory could not be had.
-pub fn is_answer(
+pub fn is_met(
     alloc: Global,
     game: &Game,
     reached: &[bool],
-    good: GoodId,
-    rate: &Ratio,
-    table: &Table,
+    name: &str,
+    wish: &Wish,
+    met: &Met,
 ) -> Result<bool, NoMemory>
     requires sound { IsSound game.now }
-    requires table { IsSoundTable table.now }
-    ensures { IfOk result (λ yes. OnTrue yes (IsAnswer game.now reached.now good rate.now table.now)) }
+    requires table { IsSoundTable met.now.table }
+    ensures yes { IfOk result (λ yes. OnTrue yes (IsMet game.now reached.now name.now wish.now met.now)) }
+    ensures not { IfOk result (λ yes. OnFalse yes (¬ IsMet game.now reached.now name.now wish.now met.now)) }
 {
-    let rows = table.rows.as_slice();
-    if !are_fitting(game, rows) {
+    let table = &met.table;
+    if !are_fitting(game, table.rows.as_slice()) {
         return Ok(false);
     }
-    let columns = row_columns(alloc, game, table.power, rows)?;
-    Ok(
-        are_reached(game, reached, rows)
-            && all_supplied(columns.as_slice(), table.imports.as_slice())
-            && is_wanted(table.wants.as_slice(), good, rate),
-    )
+    if !keeps_form(name, wish, table) {
+        return Ok(false);
+    }
+    let columns = priced_columns(alloc, game, table.power, table.rows.as_slice())?;
+    if !keeps_wants(game, reached, wish, table, columns.as_slice()) {
+        return Ok(false);
+    }
+    if !keeps_rows(game, reached, wish, met.rim.as_slice(), table, columns.as_slice()) {
+        return Ok(false);
+    }
+    is_solvable(alloc, game, table)
 }

@@ -1,6 +1,8 @@
 //! What the solver says of a table.
-ghost use Rattle.std.specs.Prelude.{All};
-ghost use Rattle.std.specs.Bool.{OnTrue};
+ghost use Rattle.std.specs.Prelude.{◌≡◌, All, IfOk};
+ghost use Rattle.std.specs.Bool.{OnFalse, OnTrue};
+ghost use Rattle.wish_setups.specs.Answers.{HasPlan, IsSolvable};
+ghost use Rattle.linear_table.specs.Plans.{IsWellFormed};
 ghost use Rattle.game_types.specs.Sound.{IsSound};
 ghost use Rattle.production_table.specs.Tables.{IsSoundTable};
 ghost use Rattle.table_rows.specs.Setups.{IsFitting};
@@ -16,19 +18,20 @@ use std::alloc::Global;
 /// The most exchanges of columns, as many as a script's `solve` makes where it names no number.
 pub const BUDGET: u32 = 20_000;
 
-fn is_row_fitting(game: &Game, row: &TableRow) -> bool
-    requires { IsSound game.now }
-    ensures { OnTrue result (IsFitting game.now row.now.setup) }
-{
-    is_fitting(game, &row.setup)
-}
-
 /// Whether each row can stand in a table.
 pub fn are_fitting(game: &Game, rows: &[TableRow]) -> bool
     requires { IsSound game.now }
-    ensures { OnTrue result (All (λ row. IsFitting game.now row.setup) rows.now) }
+    ensures yes { OnTrue result (All (λ row. IsFitting game.now row.setup) rows.now) }
+    ensures not { OnFalse result (¬ All (λ row. IsFitting game.now row.setup) rows.now) }
 {
-    rows.iter().all(|row| is_row_fitting(game, row))
+    let mut rest = rows;
+    while let [row, others @ ..] = rest {
+        if !is_fitting(game, &row.setup) {
+            return false;
+        }
+        rest = others;
+    }
+    true
 }
 
 /// The linear form of a table, and what the solver says of it.
@@ -57,4 +60,37 @@ pub fn solve_table(alloc: Global, game: &Game, table: &Table) -> Result<Option<S
     };
     let answer = solve(alloc, &linear, BUDGET)?;
     Ok(Some(Solved { linear, answer }))
+}
+
+// Whether the solver answers a plan of a linear form.
+fn has_plan(alloc: Global, linear: &Linear) -> Result<bool, NoMemory>
+    requires { IsWellFormed linear.now }
+    ensures yes { IfOk result (λ yes. OnTrue yes (HasPlan linear.now)) }
+    ensures not { IfOk result (λ yes. OnFalse yes (¬ HasPlan linear.now)) }
+{
+    match solve(alloc, linear, BUDGET)? {
+        SolveAnswer::Planned(_) => Ok(true),
+        SolveAnswer::Infeasible(_) => Ok(false),
+        SolveAnswer::TooWide { .. } => Ok(false),
+        SolveAnswer::OutOfBudget { .. } => Ok(false),
+    }
+}
+
+/// Whether a table has a plan that the solver answers.
+///
+/// # Errors
+///
+/// `NoMemory` where memory could not be had.
+pub fn is_solvable(alloc: Global, game: &Game, table: &Table) -> Result<bool, NoMemory>
+    requires sound { IsSound game.now }
+    requires table { IsSoundTable table.now }
+    requires rows { All (λ row. IsFitting game.now row.setup) table.now.rows }
+    ensures yes { IfOk result (λ yes. OnTrue yes (IsSolvable game.now table.now)) }
+    ensures not { IfOk result (λ yes. OnFalse yes (¬ IsSolvable game.now table.now)) }
+{
+    match table.to_linear(alloc, game) {
+        Ok(linear) => has_plan(alloc, &linear),
+        Err(TableFault::NoMemory) => Err(NoMemory),
+        Err(_) => Ok(false),
+    }
 }

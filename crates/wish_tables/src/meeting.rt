@@ -2,6 +2,8 @@
 ghost use Rattle.std.specs.Prelude.{IfOk};
 ghost use Rattle.game_types.specs.Sound.{IsSound};
 ghost use Rattle.production_table.specs.Tables.{IsSoundTable};
+ghost use Rattle.wish_setups.specs.Answers.{IsMet};
+ghost use Rattle.wish_tables.specs.Outcomes.{HasSoundTable, TriedSoundTable};
 
 use crate::orders::{ORDERS, ordered};
 use crate::trying::{Outcome, Trial, try_order};
@@ -11,7 +13,7 @@ use plan_base::{GoodId, Items, NoMemory};
 use production_table::{LIMIT, Table, TableFault, TableRow};
 use std::alloc::Global;
 use wish_estimates::{Estimates, why_unmade};
-use wish_setups::{Met, State, Wish, WishFault, column_in, mined_goods, price_in, reached_fuels};
+use wish_setups::{Met, State, Wish, WishFault, column_in, is_met, mined_goods, price_in, reached_fuels};
 use wish_walk::{Ground, Walk, walk_further, walk_on};
 
 // How the tables of a size ended.
@@ -26,6 +28,7 @@ enum Tried {
 fn try_orders(alloc: Global, trial: &Trial<'_>, walk: &Walk) -> Result<Outcome, WishFault>
     requires game { IsSound trial.now.ground.game.now }
     requires start { IsSoundTable trial.now.start.now }
+    ensures { IfOk result HasSoundTable }
 {
     for order in 0..ORDERS {
         let places = ordered(alloc, walk, order)?;
@@ -89,7 +92,10 @@ fn walk_of(alloc: Global, trial: &Trial<'_>, most: usize, further: bool) -> Resu
 }
 
 // How a walk's tables end: met, or without a plan, or unsolved.
-fn tried_by(outcome: Outcome) -> Tried {
+fn tried_by(outcome: Outcome) -> Tried
+    requires { HasSoundTable outcome }
+    ensures { TriedSoundTable result }
+{
     match outcome {
         Outcome::Met(met) => Tried::Met(met),
         Outcome::NoPlan(goods) => Tried::Failed(WishFault::NoPlan(goods)),
@@ -106,6 +112,7 @@ fn try_size(
 ) -> Result<Tried, WishFault>
     requires game { IsSound trial.now.ground.game.now }
     requires start { IsSoundTable trial.now.start.now }
+    ensures { IfOk result TriedSoundTable }
 {
     let walk = walk_of(alloc, trial, most, further)?;
     match try_orders(alloc, trial, &walk) {
@@ -119,6 +126,7 @@ fn try_size(
 fn try_sizes(alloc: Global, trial: &Trial<'_>) -> Result<Met, WishFault>
     requires game { IsSound trial.now.ground.game.now }
     requires start { IsSoundTable trial.now.start.now }
+    ensures { IfOk result (λ met. IsSoundTable met.table) }
 {
     let mut last = WishFault::Unsolved;
     let mut most = (trial.ground.wish.rows as usize).min(LIMIT);
@@ -179,6 +187,7 @@ fn try_from(
 ) -> Result<Met, WishFault>
     requires game { IsSound game.now }
     requires start { IsSoundTable start.now }
+    ensures { IfOk result (λ met. IsSoundTable met.table) }
 {
     let estimates = Estimates::of(alloc, game, state, wish)?;
     let mut fuels = Vec::new(alloc);
@@ -213,6 +222,7 @@ fn meet(
 ) -> Result<Met, WishFault>
     requires game { IsSound game.now }
     requires start { IsSoundTable start.now }
+    ensures { IfOk result (λ met. IsSoundTable met.table) }
 {
     let mined = mined_goods(alloc, game, reached)?;
     let fuels = reached_fuels(alloc, game, reached)?;
@@ -237,10 +247,16 @@ pub fn wish_table(
     wish: &Wish,
 ) -> Result<Met, WishFault>
     requires { IsSound game.now }
+    ensures { IfOk result (IsMet game.now reached.now name.now wish.now) }
 {
     let mut start = Table::make(alloc, name)?;
     start.set_power(wish.power);
-    meet(alloc, game, reached, wish, &start, true)
+    let met = meet(alloc, game, reached, wish, &start, true)?;
+    if is_met(alloc, game, reached, name, wish, &met)? {
+        Ok(met)
+    } else {
+        Err(WishFault::Unsolved)
+    }
 }
 
 // An import of a good ends, where there is one.

@@ -1,5 +1,6 @@
 //! A table that is tried for a wish: it is made, solved, and mended where it has no plan.
-ghost use Rattle.std.specs.Prelude.{IfOk};
+ghost use Rattle.std.specs.Prelude.{IfOk, IfSome};
+ghost use Rattle.wish_tables.specs.Outcomes.{HasSoundTable};
 ghost use Rattle.game_types.specs.Sound.{IsSound};
 ghost use Rattle.production_table.specs.Tables.{IsSoundTable};
 
@@ -174,7 +175,9 @@ fn met_by(
     plan: &Plan,
     extra: &mut Extra,
 ) -> Result<Option<Met>, NoMemory>
-    requires { IsSound trial.now.ground.game.now }
+    requires game { IsSound trial.now.ground.game.now }
+    requires table { IsSoundTable table }
+    ensures { IfOk result (λ found. IfSome found (λ met. IsSoundTable met.table)) }
 {
     if !trial.start.power {
         let rim = rim_of(alloc, trial, walk, extra, &table)?;
@@ -209,6 +212,7 @@ fn step(
 ) -> Result<Option<Outcome>, WishFault>
     requires game { IsSound trial.now.ground.game.now }
     requires start { IsSoundTable trial.now.start.now }
+    ensures { IfOk result (λ found. IfSome found HasSoundTable) }
 {
     let table = tried_table(alloc, trial, walk, order, extra)?;
     let Some(Solved { linear, answer }) = solve_table(alloc, trial.ground.game, &table)? else {
@@ -243,6 +247,7 @@ pub fn try_order(
 ) -> Result<Outcome, WishFault>
     requires game { IsSound trial.now.ground.game.now }
     requires start { IsSoundTable trial.now.start.now }
+    ensures { IfOk result HasSoundTable }
 {
     let mut extra = Extra::none(alloc);
     for _ in 0..MENDS {
