@@ -1,13 +1,15 @@
 //! The lines that meet a wish, carried out before they are told.
-ghost use Rattle.std.specs.Prelude.{◌≡◌, ◌≤◌, ◌+◌, true, false, IfOk, length, string_bytes};
+ghost use Rattle.std.specs.Prelude.{◌≡◌, ◌≤◌, ◌+◌, true, false, IfOk, None, OnOk, length, string_bytes};
 ghost use Rattle.state_changes.specs.States.{State};
 ghost use Rattle.planner_core.specs.Lines.{IsSessionOf};
 ghost use Rattle.script_lines.specs.Lines.{lines_of};
 ghost use Rattle.wish_answers.specs.Leading.{Continues};
+ghost use Rattle.wish_answers.specs.Meeting.{HasMet, MeetsWish};
 
 use crate::failures::Failure;
 use crate::finding::{Found, found_lines};
 use crate::reached::reached_nodes;
+use crate::standing::check_standing;
 use crate::stepping::{Progress, step_lines};
 use fractions::Ratio;
 use plan_base::Steps;
@@ -15,6 +17,7 @@ use planner_core::Planner;
 use script_lines::line_count;
 use script_runner::LINE_LIMIT;
 use std::alloc::Global;
+use wish_setups::{Met, Wish};
 use wish_words::Asked;
 
 /// The lines that meet a wish, and how far the planner has come behind them.
@@ -33,29 +36,49 @@ pub fn has_too_many(before: Progress, lines: &[u8]) -> bool
 }
 
 // The lines for a wish, as they are found in the state of a planner.
-fn found_in<L>(
+fn found_in(
     alloc: Global,
-    planner: &mut Planner,
+    planner: &Planner,
+    reached: &[bool],
     asked: &Asked<'_>,
     belt: Option<Ratio>,
     command: &str,
     said: &mut String,
-    steps: &mut Steps<L>,
 ) -> Result<Found, Failure>
-    requires { (base : State) × IsSessionOf base planner.old }
-    ensures { planner.new ≡ planner.old }
+    ensures { IfOk result (λ found. found.wish.power ≡ asked.now.power) }
 {
-    let reached = reached_nodes(alloc, planner, said, steps)?;
     found_lines(
         alloc,
         planner.game(),
-        reached.as_slice(),
+        reached,
         planner.tables(),
         asked,
         belt,
         command,
         said,
     )
+}
+
+// Whether the new table that was asked for meets the wish, where more rows were not.
+fn check_found(
+    alloc: Global,
+    planner: &Planner,
+    reached: &[bool],
+    asked: &Asked<'_>,
+    wish: &Wish,
+    met: Met,
+    said: &mut String,
+) -> Result<(), Failure>
+    ensures { OnOk result (asked.now.more ≡ None → HasMet planner.now reached.now asked.now.table.now wish.now) }
+{
+    if asked.more.is_some() {
+        return Ok(());
+    }
+    let checked = check_standing(alloc, planner, reached, asked.table, wish, met);
+    if let Err(Failure::Unmet) = checked {
+        said.push_str("the table that the lines make doesn't meet the wish")?;
+    }
+    checked
 }
 
 // Carries the lines out behind those that were before.
@@ -111,10 +134,21 @@ pub fn answered_lines<L>(
     ensures planned { IfOk result (λ answer. answer.done.planned ≡ true) }
     ensures few { IfOk result (λ answer. answer.done.count ≤ 100_000) }
     ensures counted { IfOk result (λ answer. answer.done.count ≡ before.count + length (lines_of (string_bytes answer.lines))) }
+    ensures met { IfOk result (λ answer. asked.now.more ≡ None → MeetsWish planner.old planner.new asked.now.table.now asked.now.power) }
     ensures history { (base : State) → IsSessionOf base planner.old → IsSessionOf base planner.new }
 {
-    let found = found_in(alloc, planner, asked, belt, command, said, steps)?;
-    let done = carry_out(alloc, planner, found.text.as_str(), before, said, steps)?;
-    let Found { text, .. } = found;
+    let reached = reached_nodes(alloc, planner, said, steps)?;
+    let found = found_in(
+        alloc,
+        planner,
+        reached.as_slice(),
+        asked,
+        belt,
+        command,
+        said,
+    )?;
+    let Found { text, wish, met } = found;
+    let done = carry_out(alloc, planner, text.as_str(), before, said, steps)?;
+    check_found(alloc, planner, reached.as_slice(), asked, &wish, met, said)?;
     Ok(Answer { lines: text, done })
 }

@@ -1,4 +1,5 @@
 //! The lines for a wish, as they are found.
+ghost use Rattle.std.specs.Prelude.{◌≡◌, IfOk};
 ghost use Rattle.game_types.specs.Sound.{IsSound};
 ghost use Rattle.planner_tables.specs.Effects.{AreSoundTables};
 ghost use Rattle.production_table.specs.Tables.{IsSoundTable};
@@ -85,6 +86,7 @@ fn new_lines(
     said: &mut String,
 ) -> Result<Found, Failure>
     requires { IsSound game.now }
+    ensures { IfOk result (λ found. found.wish ≡ wish) }
 {
     let met = match wish_table(alloc, game, reached, name, &wish) {
         Ok(met) => met,
@@ -106,6 +108,7 @@ fn lines_into(
 ) -> Result<Found, Failure>
     requires game { IsSound game.now }
     requires table { IsSoundTable table.now }
+    ensures { IfOk result (λ found. found.wish ≡ wish) }
 {
     let met = match more_rows(alloc, game, reached, table, &wish) {
         Ok(met) => met,
@@ -128,6 +131,7 @@ fn more_lines(
 ) -> Result<Found, Failure>
     requires game { IsSound game.now }
     requires tables { AreSoundTables game.now tables.now }
+    ensures { IfOk result (λ found. found.wish ≡ wish) }
 {
     for table in tables {
         if table.name.as_str() == name {
@@ -151,6 +155,7 @@ fn lines_for(
 ) -> Result<Found, Failure>
     requires game { IsSound game.now }
     requires tables { AreSoundTables game.now tables.now }
+    ensures { IfOk result (λ found. found.wish ≡ wish) }
 {
     match asked.more {
         Some(AskedMore { good: _, table }) => {
@@ -181,6 +186,7 @@ pub fn found_lines(
 ) -> Result<Found, Failure>
     requires game { IsSound game.now }
     requires tables { AreSoundTables game.now tables.now }
+    ensures { IfOk result (λ found. found.wish.power ≡ asked.now.power) }
 {
     match wish_of(alloc, game, reached, asked, belt) {
         Ok(wish) => lines_for(alloc, game, reached, tables, asked, wish, command, said),

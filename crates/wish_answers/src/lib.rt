@@ -7,6 +7,7 @@ mod failures;
 mod finding;
 mod reached;
 mod scripts;
+mod standing;
 mod stepping;
 
 pub use answers::{Answer, answered_lines};

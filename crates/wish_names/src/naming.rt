@@ -1,4 +1,5 @@
 //! The wish that words ask for, by what they name in a game.
+ghost use Rattle.std.specs.Prelude.{◌≡◌, IfOk};
 ghost use Rattle.game_types.specs.Sound.{IsSound};
 
 use crate::objects::{NameFault, beacon, good, item, machines, module, modules, recipes};
@@ -6,8 +7,8 @@ use fractions::Ratio;
 use game_types::Game;
 use plan_base::{GoodId, Items};
 use std::alloc::Global;
-use wish_setups::{Wish, WishBeacon};
-use wish_words::{Asked, AskedBeacon, AskedImport, AskedWish};
+use wish_setups::{Cheapest, Wish, WishBeacon};
+use wish_words::{Asked, AskedBeacon, AskedImport, AskedWish, Least};
 
 // A good with its number behind others, where it isn't among them.
 fn add<'a>(
@@ -117,6 +118,15 @@ fn surrounding<'a>(
     }))
 }
 
+fn cheapest(asked: Least) -> Cheapest {
+    match asked {
+        Least::Cost => Cheapest::Cost,
+        Least::Power => Cheapest::Power,
+        Least::Pollution => Cheapest::Pollution,
+        Least::Machines => Cheapest::Machines,
+    }
+}
+
 /// The wish that the words ask for in a state that reaches these nodes. A good without a rate is wished for at the rate of a belt.
 ///
 /// # Errors
@@ -130,6 +140,7 @@ pub fn wish_of<'a>(
     belt: Option<Ratio>,
 ) -> Result<Wish, NameFault<'a>>
     requires { IsSound game.now }
+    ensures asked { IfOk result (λ wish. (wish.rows ≡ asked.now.choice.rows) × (wish.dig ≡ asked.now.dig) × (wish.power ≡ asked.now.power)) }
 {
     let wants = all_wants(alloc, game, reached, asked, belt)?;
     let by = machines(alloc, game, asked.by.as_slice())?;
@@ -137,8 +148,8 @@ pub fn wish_of<'a>(
     let beacon = surrounding(alloc, game, asked.setup.beacon)?;
     let fuel = fuel(alloc, game, asked.setup.fuel)?;
     let imports = imports(alloc, game, reached, asked.imports.as_slice())?;
-    let without = recipes(alloc, game, asked.without.as_slice())?;
-    let only = recipes(alloc, game, asked.only.as_slice())?;
+    let without = recipes(alloc, game, asked.choice.without.as_slice())?;
+    let only = recipes(alloc, game, asked.choice.only.as_slice())?;
     Ok(Wish {
         wants,
         by,
@@ -148,8 +159,8 @@ pub fn wish_of<'a>(
         imports,
         without,
         only,
-        rows: asked.rows,
-        cheapest: asked.cheapest,
+        rows: asked.choice.rows,
+        cheapest: cheapest(asked.choice.cheapest),
         dig: asked.dig,
         power: asked.power,
     })

@@ -1,6 +1,5 @@
 //! What the words ask for.
 use fractions::Ratio;
-use wish_setups::Cheapest;
 
 /// A good that is wished for, as it is named, and the units a second; a belt full of it where no rate is named.
 #[derive(Clone, Copy)]
@@ -34,6 +33,28 @@ pub struct AskedSetup<'a> {
     pub fuel: Option<&'a str>,
 }
 
+/// What a plan is to take least of.
+#[derive(Clone, Copy, Debug, PartialEq, Eq)]
+pub enum Least {
+    /// What comes from outside, at its prices.
+    Cost,
+    Power,
+    Pollution,
+    Machines,
+}
+
+/// Which recipes are rows.
+#[derive(Drop)]
+pub struct AskedChoice<'a> {
+    /// The recipes that are no rows.
+    pub without: Vec<&'a str>,
+    /// The recipes besides which no others make what they give.
+    pub only: Vec<&'a str>,
+    /// The most rows.
+    pub rows: u32,
+    pub cheapest: Least,
+}
+
 /// More rows for a table that stands: those that make a good.
 #[derive(Clone, Copy)]
 pub struct AskedMore<'a> {
@@ -56,13 +77,7 @@ pub struct Asked<'a> {
     pub by: Vec<&'a str>,
     pub setup: AskedSetup<'a>,
     pub imports: Vec<AskedImport<'a>>,
-    /// The recipes that are no rows.
-    pub without: Vec<&'a str>,
-    /// The recipes besides which no others make what they give.
-    pub only: Vec<&'a str>,
-    /// The most rows.
-    pub rows: u32,
-    pub cheapest: Cheapest,
+    pub choice: AskedChoice<'a>,
     pub dig: bool,
     pub power: bool,
 }

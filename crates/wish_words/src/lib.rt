@@ -8,7 +8,9 @@ mod options;
 mod rates;
 mod words;
 
-pub use asked::{Asked, AskedBeacon, AskedImport, AskedMore, AskedSetup, AskedWish};
+pub use asked::{
+    Asked, AskedBeacon, AskedChoice, AskedImport, AskedMore, AskedSetup, AskedWish, Least,
+};
 pub use faults::{Wanted, WordFault};
 pub use options::{command, question};
 pub use rates::{is_writable, read_rate};

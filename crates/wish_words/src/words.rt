@@ -1,5 +1,7 @@
 //! How the words are read.
-use crate::asked::{Asked, AskedBeacon, AskedImport, AskedMore, AskedSetup, AskedWish};
+use crate::asked::{
+    Asked, AskedBeacon, AskedChoice, AskedImport, AskedMore, AskedSetup, AskedWish, Least,
+};
 use crate::faults::{Wanted, WordFault};
 use crate::rates::{is_writable, read_rate};
 use clap::ArgMatches;
@@ -8,7 +10,6 @@ use plan_base::NoMemory;
 use production_table::LIMIT;
 use script_reader::count_at;
 use std::alloc::{AllocFailed, Global};
-use wish_setups::Cheapest;
 
 /// The most rows where the words name no number of them.
 const ROWS: u32 = 40;
@@ -143,16 +144,16 @@ fn rows(word: Option<&str>) -> Result<u32, WordFault<'_>> {
     }
 }
 
-fn cheapest(word: Option<&str>) -> Result<Cheapest, WordFault<'_>> {
+fn cheapest(word: Option<&str>) -> Result<Least, WordFault<'_>> {
     let Some(word) = word else {
-        return Ok(Cheapest::Cost);
+        return Ok(Least::Cost);
     };
     if word == "power" {
-        Ok(Cheapest::Power)
+        Ok(Least::Power)
     } else if word == "pollution" {
-        Ok(Cheapest::Pollution)
+        Ok(Least::Pollution)
     } else if word == "machines" {
-        Ok(Cheapest::Machines)
+        Ok(Least::Machines)
     } else {
         Err(WordFault::Bad(word, Wanted::Cheapest))
     }
@@ -177,6 +178,19 @@ fn setup<'a>(alloc: Global, matches: &ArgMatches<'a>) -> Result<AskedSetup<'a>, 
         modules,
         beacon,
         fuel: matches.get_str("fuel"),
+    })
+}
+
+fn choice<'a>(alloc: Global, matches: &ArgMatches<'a>) -> Result<AskedChoice<'a>, WordFault<'a>> {
+    let rows = rows(matches.get_str("rows"))?;
+    let cheapest = cheapest(matches.get_str("cheapest"))?;
+    let without = words_of(alloc, matches.get_strs("without"))?;
+    let only = words_of(alloc, matches.get_strs("only"))?;
+    Ok(AskedChoice {
+        without,
+        only,
+        rows,
+        cheapest,
     })
 }
 
@@ -216,13 +230,10 @@ pub fn read_asked<'a>(alloc: Global, matches: &ArgMatches<'a>) -> Result<Asked<'
     let more = more(matches);
     let belt = matches.get_str("belt");
     check_wishes(wishes.as_slice(), more, belt)?;
-    let rows = rows(matches.get_str("rows"))?;
-    let cheapest = cheapest(matches.get_str("cheapest"))?;
     let imports = read_imports(alloc, matches.get_strs("import"))?;
-    let setup = setup(alloc, matches)?;
     let by = words_of(alloc, matches.get_strs("by"))?;
-    let without = words_of(alloc, matches.get_strs("without"))?;
-    let only = words_of(alloc, matches.get_strs("only"))?;
+    let setup = setup(alloc, matches)?;
+    let choice = choice(alloc, matches)?;
     Ok(Asked {
         dump: matches.get_str("dump").unwrap_or(""),
         script: matches.get_str("script"),
@@ -233,10 +244,7 @@ pub fn read_asked<'a>(alloc: Global, matches: &ArgMatches<'a>) -> Result<Asked<'
         by,
         setup,
         imports,
-        without,
-        only,
-        rows,
-        cheapest,
+        choice,
         dig: matches.get_flag("dig"),
         power: matches.get_flag("power"),
     })
