@@ -3,14 +3,15 @@ ghost use Rattle.std.specs.Prelude.{◌≡◌, ◌≤◌, ◌+◌, true, false, 
 ghost use Rattle.state_changes.specs.States.{State};
 ghost use Rattle.planner_core.specs.Lines.{IsSessionOf};
 ghost use Rattle.script_lines.specs.Lines.{lines_of};
-ghost use Rattle.wish_answers.specs.Leading.{Continues};
+ghost use Rattle.kept_worlds.specs.Worlds.{is_reached};
+ghost use Rattle.carried_lines.specs.Leading.{Continues};
+ghost use Rattle.carried_lines.specs.Marks.{MarksOnly};
 ghost use Rattle.wish_answers.specs.Meeting.{HasMet, MeetsWish};
 
 use crate::failures::Failure;
 use crate::finding::{Found, found_lines};
-use crate::reached::reached_nodes;
 use crate::standing::check_standing;
-use crate::stepping::{Progress, step_lines};
+use carried_lines::{Progress, reached_nodes, step_lines};
 use fractions::Ratio;
 use plan_base::Steps;
 use planner_core::Planner;
@@ -33,6 +34,30 @@ pub fn has_too_many(before: Progress, lines: &[u8]) -> bool
 {
     let room = LINE_LIMIT.saturating_sub(before.count as usize);
     before.count as usize > LINE_LIMIT || line_count(lines) > room
+}
+
+/// Marks for each node whether a planner reaches it. No other is marked.
+///
+/// # Errors
+///
+/// `Refused` where a batch is open, which is said, or `NoMemory`.
+pub fn reached_in<L>(
+    alloc: Global,
+    planner: &mut Planner,
+    said: &mut String,
+    steps: &mut Steps<L>,
+) -> Result<Vec<bool>, Failure>
+    requires { (base : State) × IsSessionOf base planner.old }
+    ensures same { planner.new ≡ planner.old }
+    ensures only { IfOk result (λ marks. MarksOnly (is_reached planner.old.state.book) marks.items) }
+{
+    match reached_nodes(alloc, planner, steps)? {
+        Some(marks) => Ok(marks),
+        None => {
+            said.push_str("a batch is open behind the script")?;
+            Err(Failure::Refused)
+        }
+    }
 }
 
 // The lines for a wish, as they are found in the state of a planner.
@@ -137,7 +162,7 @@ pub fn answered_lines<L>(
     ensures met { IfOk result (λ answer. asked.now.more ≡ None → MeetsWish planner.old planner.new asked.now.table.now asked.now.power) }
     ensures history { (base : State) → IsSessionOf base planner.old → IsSessionOf base planner.new }
 {
-    let reached = reached_nodes(alloc, planner, said, steps)?;
+    let reached = reached_in(alloc, planner, said, steps)?;
     let found = found_in(
         alloc,
         planner,

@@ -5,14 +5,11 @@
 mod answers;
 mod failures;
 mod finding;
-mod reached;
 mod scripts;
 mod standing;
-mod stepping;
 
-pub use answers::{Answer, answered_lines};
+pub use answers::{Answer, answered_lines, reached_in};
+pub use carried_lines::Progress;
 pub use failures::Failure;
 pub use finding::{Found, found_lines};
-pub use reached::reached_nodes;
 pub use scripts::whole_script;
-pub use stepping::{Progress, step_lines};

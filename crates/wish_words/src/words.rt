@@ -34,6 +34,28 @@ fn is_rate(word: &str) -> bool {
     }
 }
 
+fn add_wish<'a>(
+    good: &'a str,
+    rate: Option<Ratio>,
+    wishes: &mut Vec<AskedWish<'a>>,
+) -> Result<(), WordFault<'a>> {
+    match wishes.push(AskedWish { good, rate }) {
+        Ok(()) => Ok(()),
+        Err(_) => Err(WordFault::NoMemory),
+    }
+}
+
+// The good behind which no rate stood yet, where the last wish is one.
+fn last_without_rate<'a>(wishes: &mut Vec<AskedWish<'a>>) -> Option<&'a str> {
+    match wishes.pop() {
+        Some(wish) => match wish.rate {
+            None => Some(wish.good),
+            Some(_) => None,
+        },
+        None => None,
+    }
+}
+
 // Takes one word among the wishes: a good, or the rate of the good before it.
 fn take_wish<'a>(
     alloc: Global,
@@ -41,22 +63,12 @@ fn take_wish<'a>(
     wishes: &mut Vec<AskedWish<'a>>,
 ) -> Result<(), WordFault<'a>> {
     if !is_rate(word) {
-        wishes.push(AskedWish {
-            good: word,
-            rate: None,
-        })?;
-        return Ok(());
+        return add_wish(word, None, wishes);
     }
     let rate = read_rate(alloc, word)?;
-    match wishes.pop() {
-        Some(wish) if wish.rate.is_none() => {
-            wishes.push(AskedWish {
-                good: wish.good,
-                rate: Some(rate),
-            })?;
-            Ok(())
-        }
-        _ => Err(WordFault::NoGood(word)),
+    match last_without_rate(wishes) {
+        Some(good) => add_wish(good, Some(rate), wishes),
+        None => Err(WordFault::NoGood(word)),
     }
 }
 
@@ -114,6 +126,20 @@ fn read_import<'a>(alloc: Global, word: &'a str) -> Result<AskedImport<'a>, Word
     }
 }
 
+fn add_import<'a>(
+    alloc: Global,
+    word: &'a str,
+    imports: &mut Vec<AskedImport<'a>>,
+) -> Result<(), WordFault<'a>> {
+    match read_import(alloc, word) {
+        Ok(import) => match imports.push(import) {
+            Ok(()) => Ok(()),
+            Err(_) => Err(WordFault::NoMemory),
+        },
+        Err(fault) => Err(fault),
+    }
+}
+
 fn read_imports<'a>(
     alloc: Global,
     words: Option<&[&'a str]>,
@@ -121,7 +147,7 @@ fn read_imports<'a>(
     let mut imports = Vec::new(alloc);
     if let Some(words) = words {
         for word in words {
-            imports.push(read_import(alloc, *word)?)?;
+            add_import(alloc, *word, &mut imports)?;
         }
     }
     Ok(imports)

@@ -7,7 +7,7 @@ use Rattle.planner_core.specs.Lines.{Planned}
 use Rattle.script_lines.specs.Lines.{lines_of}
 use Rattle.script_runner.specs.Answers.{Answered, IsAnswered, is_refusal, solved_in}
 use Rattle.script_runner.specs.Sessions.{IsSession, some_refused}
-use Rattle.wish_answers.specs.declared.stepping.Progress.{Progress}
+use Rattle.carried_lines.specs.declared.stepping.Progress.{Progress}
 
 -- whether the solver's answer is a plan
 abbrev pub is_plan : Option SolveAnswer → Bool

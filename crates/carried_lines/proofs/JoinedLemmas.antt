@@ -4,9 +4,9 @@ use Rattle.std.specs.Prelude.{◌==◌, if◌then◌else◌, Option, Some, None,
 use Rattle.std.proofs.lemmas.List.{map-append, length-append}
 use Rattle.planner_core.specs.Lines.{Planned}
 use Rattle.script_lines.specs.Lines.{cut_lines, lines_of, onto_first, without_return}
-use Rattle.wish_answers.specs.Leading.{Accepted, Continues, LeadsToPlan, ends_within, joined}
-use Rattle.wish_answers.specs.declared.stepping.Progress.{Progress}
-use Rattle.wish_answers.proofs.LeadingLemmas.{accepted_start}
+use Rattle.carried_lines.specs.Leading.{Accepted, Continues, LeadsToPlan, ends_within, joined}
+use Rattle.carried_lines.specs.declared.stepping.Progress.{Progress}
+use Rattle.carried_lines.proofs.LeadingLemmas.{accepted_start}
 
 -- ---- the end of a text
 abbrev is_open : Option ℕ → Bool

@@ -10,8 +10,8 @@ use Rattle.script_runner.specs.Answers.{Answered, IsReply, Reading, is_refusal, 
 use Rattle.script_runner.specs.Sessions.{IsSession}
 use Rattle.script_runner.proofs.SessionLemmas.{refused_more, session_first, session_more}
 use Rattle.state_changes.specs.States.{State}
-use Rattle.wish_answers.specs.Leading.{Accepted, AnswersSo, Continues, TellsReply, ends_planned, is_plan}
-use Rattle.wish_answers.specs.declared.stepping.Progress.{Progress}
+use Rattle.carried_lines.specs.Leading.{Accepted, AnswersSo, Continues, TellsReply, ends_planned, is_plan}
+use Rattle.carried_lines.specs.declared.stepping.Progress.{Progress}
 
 pub tells_reply : (number : ℕ) (line : List ℕ) (reading : Reading) (before after : Planned) (reply : Reply) → command_of_line line reading → IsReply number before reading after reply
     → ((base : State) → IsSessionOf base before → IsSessionOf base after) → TellsReply number line before after reply

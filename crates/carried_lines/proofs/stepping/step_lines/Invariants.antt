@@ -1,8 +1,8 @@
 use Rattle.std.proofs.Common.{length}
 use Rattle.state_changes.specs.States.{State}
 use Rattle.planner_core.specs.Lines.{IsSessionOf}
-use Rattle.wish_answers.proofs.LeadingLemmas.{SoFar}
-use Rattle.wish_answers.proofs.stepping.step_lines.Given as goal
+use Rattle.carried_lines.proofs.LeadingLemmas.{SoFar}
+use Rattle.carried_lines.proofs.stepping.step_lines.Given as goal
 
 abbrev pub invariant-loop-rest : goal.invariant-loop-rest
 invariant-loop-rest g l = record {

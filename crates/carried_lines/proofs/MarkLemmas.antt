@@ -15,7 +15,7 @@ use Rattle.plan_base.specs.declared.shape.Kind.{Kind}
 use Rattle.plan_report.specs.declared.reply.Reply.{Reply}
 use Rattle.script_reader.specs.declared.command.Command.TheVariants as command
 use Rattle.planner_core.specs.Lines.{Held, IsStep, IsStepIn, Planned}
-use Rattle.wish_answers.specs.Marks.{ListsOnly, MarksOnly}
+use Rattle.carried_lines.specs.Marks.{ListsOnly, MarksOnly}
 
 pub marks_set : (test : ℕ → Bool) (marks : List Bool) (place : ℕ) → test place ≡ true → MarksOnly test marks → MarksOnly test (set marks place true)
 marks_set test marks place passes only node is = by_test (node == place) refl

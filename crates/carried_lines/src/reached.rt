@@ -1,11 +1,10 @@
 //! What a planner reaches.
-ghost use Rattle.std.specs.Prelude.{◌≡◌, ℕ, Bool, true, All, IfOk};
+ghost use Rattle.std.specs.Prelude.{◌≡◌, ℕ, Bool, true, All, IfOk, IfSome};
 ghost use Rattle.state_changes.specs.States.{State};
 ghost use Rattle.kept_worlds.specs.Worlds.{is_reached};
 ghost use Rattle.planner_core.specs.Lines.{IsSessionOf};
-ghost use Rattle.wish_answers.specs.Marks.{ListsOnly, MarksOnly};
+ghost use Rattle.carried_lines.specs.Marks.{ListsOnly, MarksOnly};
 
-use crate::failures::Failure;
 use plan_base::{Kind, NoMemory, NodeId, Steps};
 use plan_report::Reply;
 use planner_core::Planner;
@@ -22,13 +21,20 @@ static KINDS: [Kind; 7] = [
     Kind::Tech,
 ];
 
+// Marks a place, where it is there.
+fn mark(marks: &mut [bool], place: usize)
+    ensures { (test : ℕ → Bool) → test place ≡ true → MarksOnly test marks.old → MarksOnly test marks.new }
+{
+    if place < marks.len() {
+        marks[place] = true;
+    }
+}
+
 fn mark_nodes(nodes: &[(NodeId, u32)], marks: &mut [bool])
     ensures { (test : ℕ → Bool) → All (λ pair. test pair.0.0 ≡ true) nodes.now → MarksOnly test marks.old → MarksOnly test marks.new }
 {
     for pair in nodes {
-        if let Some(mark) = marks.get_mut(pair.0.0 as usize) {
-            *mark = true;
-        }
+        mark(marks, pair.0.0 as usize);
     }
 }
 
@@ -77,26 +83,24 @@ fn mark_kinds<L>(
     Ok(told)
 }
 
-/// Marks for each node whether it is reached. No other is marked.
+/// Marks for each node whether it is reached. No other is marked. None where a batch is open, in which nothing is told.
 ///
 /// # Errors
 ///
-/// `Refused` where a batch is open, which is said, or `NoMemory`.
+/// `NoMemory` where memory could not be had.
 pub fn reached_nodes<L>(
     alloc: Global,
     planner: &mut Planner,
-    said: &mut String,
     steps: &mut Steps<L>,
-) -> Result<Vec<bool>, Failure>
+) -> Result<Option<Vec<bool>>, NoMemory>
     requires { (base : State) × IsSessionOf base planner.old }
     ensures same { planner.new ≡ planner.old }
-    ensures marks { IfOk result (λ marks. MarksOnly (is_reached planner.old.state.book) marks.items) }
+    ensures only { IfOk result (λ told. IfSome told (λ marks. MarksOnly (is_reached planner.old.state.book) marks.items)) }
 {
     let mut marks = vec![in alloc; false; planner.game().shape().len() as usize]?;
     if mark_kinds(planner, marks.as_mut_slice(), steps)? {
-        Ok(marks)
+        Ok(Some(marks))
     } else {
-        said.push_str("the script leaves a batch open")?;
-        Err(Failure::Refused)
+        Ok(None)
     }
 }

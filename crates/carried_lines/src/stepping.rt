@@ -5,7 +5,7 @@ ghost use Rattle.state_changes.specs.States.{State};
 ghost use Rattle.planner_core.specs.Lines.{IsSessionOf};
 ghost use Rattle.script_lines.specs.Lines.{lines_of};
 ghost use Rattle.script_runner.specs.Answers.{is_refusal_reply, solved_in};
-ghost use Rattle.wish_answers.specs.Leading.{is_plan, AnswersSo, Continues, TellsReply};
+ghost use Rattle.carried_lines.specs.Leading.{is_plan, AnswersSo, Continues, TellsReply};
 
 use game_types::Game;
 use linear_table::SolveAnswer;
