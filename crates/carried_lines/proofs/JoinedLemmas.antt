@@ -1,7 +1,8 @@
 -- The lines of a script with others behind it.
-use Rattle.std.proofs.Common.{◌≡◌, ◌≤◌, ◌+◌, ◌++◌, ◌∷◌, [], ℕ, Bool, true, false, not, List, length, ap, sym, subst, refl, ◌∙◌, map, arith}
+use Rattle.std.proofs.Common.{◌≡◌, ◌≤◌, ◌+◌, ◌++◌, ◌∷◌, [], ℕ, suc, Bool, true, false, not, List, length, ap, sym, subst, refl, ◌∙◌, map, arith}
 use Rattle.std.specs.Prelude.{◌==◌, if◌then◌else◌, Option, Some, None, slice_get, ◌-◌}
 use Rattle.std.proofs.lemmas.List.{map-append, length-append}
+use native.Mathlib.Numerals.{unary_clauses}
 use Rattle.planner_core.specs.Lines.{Planned}
 use Rattle.script_lines.specs.Lines.{cut_lines, lines_of, onto_first, without_return}
 use Rattle.carried_lines.specs.Leading.{Accepted, Continues, LeadsToPlan, ends_within, joined}
@@ -13,10 +14,13 @@ abbrev is_open : Option ℕ → Bool
 is_open None = false
 is_open (Some byte) = not (byte == 10)
 
+get_behind : (byte : ℕ) (rest : List ℕ) (n : ℕ) → slice_get (byte ∷ rest) (suc (suc n) - 1) ≡ slice_get rest (suc n - 1)
+get_behind byte rest n = simp unary_clauses refl
+
 pub ends_within_last : (text : List ℕ) → ends_within text ≡ is_open (slice_get text (length text - 1))
 ends_within_last [] = refl
 ends_within_last (byte ∷ []) = refl
-ends_within_last (byte ∷ next ∷ rest) = ends_within_last (next ∷ rest)
+ends_within_last (byte ∷ next ∷ rest) = ends_within_last (next ∷ rest) ∙ ap is_open (sym (get_behind byte (next ∷ rest) (length rest)))
 
 ends_newline : (text : List ℕ) → ends_within (text ++ 10 ∷ []) ≡ false
 ends_newline [] = refl

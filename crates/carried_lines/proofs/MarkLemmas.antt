@@ -13,6 +13,7 @@ use Rattle.kept_worlds.specs.Worlds.{is_reached, rank_of}
 use Rattle.planner_replies.specs.Replies.{reached_from}
 use Rattle.plan_base.specs.declared.shape.Kind.{Kind}
 use Rattle.plan_report.specs.declared.reply.Reply.{Reply}
+use Rattle.plan_report.specs.declared.reply.Reply.TheVariants as replies
 use Rattle.script_reader.specs.declared.command.Command.TheVariants as command
 use Rattle.planner_core.specs.Lines.{Held, IsStep, IsStepIn, Planned}
 use Rattle.carried_lines.specs.Marks.{ListsOnly, MarksOnly}
@@ -46,3 +47,6 @@ list_lists line p r kind reply is = by_batch p.batch is
     by_batch None is =
         subst (ListsOnly (is_reached p.state.book)) (sym is.1) (all_reached p.state.book (first_of (shape_of p.state.book.game) kind) (count_of (shape_of p.state.book.game) kind))
     by_batch (Some held) is = subst (ListsOnly (is_reached p.state.book)) (sym is.1) (λ x. refl)
+
+pub listed : (test : ℕ → Bool) (reply : Reply) (kind : Kind) (nodes : List (NodeId × ℕ)) → reply ≡ replies.List kind nodes → ListsOnly test reply → All (λ pair. test pair.0.0 ≡ true) nodes
+listed test reply kind nodes is lists = subst (ListsOnly test) is lists

@@ -6,7 +6,7 @@ use Rattle.carried_lines.proofs.stepping.step_lines.Given as goal
 
 abbrev pub invariant-loop-rest : goal.invariant-loop-rest
 invariant-loop-rest g l = record {
-  so_far : SoFar l.initial.planner l.lines l.rest l.before l.planner l.done;
+  so_far : SoFar l.initial.planner l.lines l.rest l.fn.before l.planner l.done;
   history : (base : State) → IsSessionOf base l.initial.planner → IsSessionOf base l.planner;
 }
 
