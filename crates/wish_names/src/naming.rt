@@ -24,11 +24,13 @@ fn add<'a>(
 }
 
 // The units a second that are wished for.
-fn rate_of<'a>(asked: &AskedWish<'a>, belt: Option<Ratio>) -> Result<Ratio, NameFault<'a>> {
-    match (asked.rate, belt) {
-        (Some(rate), _) => Ok(rate),
-        (None, Some(rate)) => Ok(rate),
-        (None, None) => Err(NameFault::NoRate(asked.good)),
+fn rate_of<'a>(asked: &AskedWish<'a>, belt: &Option<Ratio>) -> Result<Ratio, NameFault<'a>> {
+    if let Some(rate) = asked.rate {
+        return Ok(rate);
+    }
+    match belt {
+        Some(rate) => Ok(*rate),
+        None => Err(NameFault::NoRate(asked.good)),
     }
 }
 
@@ -38,7 +40,7 @@ fn wants<'a>(
     game: &Game,
     reached: &[bool],
     asked: &[AskedWish<'a>],
-    belt: Option<Ratio>,
+    belt: &Option<Ratio>,
 ) -> Result<Vec<(GoodId, Ratio)>, NameFault<'a>>
     requires { IsSound game.now }
 {
@@ -57,7 +59,7 @@ fn all_wants<'a>(
     game: &Game,
     reached: &[bool],
     asked: &Asked<'a>,
-    belt: Option<Ratio>,
+    belt: &Option<Ratio>,
 ) -> Result<Items<(GoodId, Ratio)>, NameFault<'a>>
     requires { IsSound game.now }
 {
@@ -142,7 +144,7 @@ pub fn wish_of<'a>(
     requires { IsSound game.now }
     ensures asked { IfOk result (λ wish. (wish.rows ≡ asked.now.choice.rows) × (wish.dig ≡ asked.now.dig) × (wish.power ≡ asked.now.power)) }
 {
-    let wants = all_wants(alloc, game, reached, asked, belt)?;
+    let wants = all_wants(alloc, game, reached, asked, &belt)?;
     let by = machines(alloc, game, asked.by.as_slice())?;
     let modules = modules(alloc, game, asked.setup.modules.as_slice())?;
     let beacon = surrounding(alloc, game, asked.setup.beacon)?;
