@@ -27,11 +27,15 @@ pub struct Crafters {
     burning: Vec<bool>,
 }
 
+fn mark_category(burning: &mut [bool], category: u32) {
+    mark(burning, category as usize);
+}
+
 fn mark_fuel(game: &Game, good: GoodId, burning: &mut [bool]) {
     if let Some(item) = game.items.as_slice().get(good.0 as usize) {
         if let Some(fuel) = item.fuel {
             if is_positive(&fuel.value) {
-                mark(burning, fuel.category as usize);
+                mark_category(burning, fuel.category);
             }
         }
     }

@@ -1,7 +1,4 @@
 //! Fractions as floating numbers, and floating numbers as short fractions.
-ghost use Rattle.std.specs.Prelude.{pos};
-ghost use Rattle.std.specs.Int.{◌<ℤ◌};
-
 use fractions::Ratio;
 use std::num::{nearest_u64_to_f64, saturating_f64_to_u64};
 

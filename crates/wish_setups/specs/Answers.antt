@@ -1,5 +1,5 @@
 -- What a table that meets a wish is. That these are its properties is this project's own.
-use Rattle.std.specs.Prelude.{◌≡◌, ℕ, suc, pos, ◌*ℤ◌, int_lt, ◌+◌, ◌==◌, ◌&&◌, ◌||◌, Bool, true, false, not, nat_lt, List, [], ◌∷◌, map, length, Option, Some, None, Result, Ok, Err, All, slice_get, slice_index_or, if◌then◌else◌}
+use Rattle.std.specs.Prelude.{◌≡◌, ℕ, zero, suc, pos, ◌*ℤ◌, int_lt, ◌+◌, ◌==◌, ◌&&◌, ◌||◌, Bool, true, false, not, nat_lt, List, [], map, length, Option, Some, None, Result, Ok, Err, All, slice_get, slice_index_or, if◌then◌else◌}
 use Rattle.std.specs.List.{list_all, list_any}
 use Rattle.std.specs.Str.{bytes_eq}
 use Rattle.fractions.specs.Compare.{are_same}
@@ -15,7 +15,6 @@ use Rattle.game_types.specs.declared.recipes.Product.{Product}
 use Rattle.game_types.specs.declared.recipes.Source.{Source}
 use Rattle.game_types.specs.declared.setups.Activity.{Activity}
 use Rattle.game_types.specs.declared.setups.Activity.TheVariants.{Craft, Mine, Pump, Generate, Boil, Research}
-use Rattle.game_types.specs.declared.setups.Setup.{Setup}
 use Rattle.game_types.specs.Goods.{electricity, solid_and_fluid}
 use Rattle.game_types.specs.Nodes.{shape_of}
 use Rattle.linear_table.specs.declared.Linear.{Linear}
@@ -64,7 +63,7 @@ abbrev pub mines : Game → List Bool → GoodId → ℕ → Bool
 mines g reached good place = is_reached g reached SourceKind place && source_gives good (slice_get g.sources place)
 
 abbrev pub is_mined_below : Game → List Bool → GoodId → ℕ → Bool
-is_mined_below g reached good 0 = false
+is_mined_below g reached good zero = false
 is_mined_below g reached good (suc place) = is_mined_below g reached good place || mines g reached good place
 
 abbrev pub is_mined : Game → List Bool → GoodId → Bool
@@ -193,12 +192,14 @@ keeps_rows g reached wish rim t columns =
     && list_all (is_paid (electric_good g)) columns
     && all_supplied columns t.imports
 
+abbrev pub keeps_table : Game → List Bool → Wish → Met → Columns → Bool
+keeps_table g reached wish met columns = keeps_wants g reached wish met.table columns && keeps_rows g reached wish met.rim met.table columns
+
 -- A table that meets a wish: a sound table of the name, whose rows can stand in it and are of what is reached; so much of each wished
 -- good is wanted, and supplied; what comes in is due and paid for; and a script's `solve` answers a plan.
 pub record IsMet (g : Game) (marks : List Bool) (name : List ℕ) (wish : Wish) (met : Met) : Type 0 where
   pub sound : IsSoundTable met.table
   pub fits : All (λ row. IsFitting g row.setup) met.table.rows
   pub form : keeps_form name wish met.table ≡ true
-  pub wants : keeps_wants g marks wish met.table (columns_of g met.table) ≡ true
-  pub rows : keeps_rows g marks wish met.rim met.table (columns_of g met.table) ≡ true
+  pub parts : keeps_table g marks wish met (columns_of g met.table) ≡ true
   pub solvable : IsSolvable g met.table

@@ -1,11 +1,11 @@
 //! Whether a table meets a wish.
-ghost use Rattle.std.specs.Prelude.{◌≡◌, ◌∷◌, ◌||◌, ◌&&◌, ◌==◌, ◌<◌, [], All, IfOk, length, map, not, slice_get};
-ghost use Rattle.std.specs.Bool.{OnFalse, OnTrue};
+ghost use Rattle.std.specs.Prelude.{◌≡◌, ◌∷◌, ◌||◌, ◌&&◌, ◌==◌, ◌<◌, [], All, IfOk, length, map, not};
+ghost use Rattle.std.specs.Bool.{OnTrue};
 ghost use Rattle.std.specs.List.{list_all, list_any};
 ghost use Rattle.game_types.specs.Sound.{IsSound};
 ghost use Rattle.production_table.specs.Tables.{IsSoundTable};
 ghost use Rattle.table_rows.specs.Setups.{IsFitting};
-ghost use Rattle.wish_setups.specs.Answers.{IsMet, Columns, all_supplied, brings, column_supplied, columns_of, electric_good, gives, has_pair, is_activity_reached, is_at_rim, is_due, is_given_part, is_less, is_mined, is_mined_below, is_pair, is_paid, is_row_reached, is_supplied, is_taken, is_want, is_wanted, is_wished, is_wish_supplied, keeps_form, keeps_rows, keeps_wants, mines, part_supplied, priced_column, same_switch};
+ghost use Rattle.wish_setups.specs.Answers.{IsMet, Columns, all_supplied, brings, column_supplied, columns_of, electric_good, gives, has_pair, is_activity_reached, is_at_rim, is_due, is_given_part, is_less, is_mined, is_mined_below, is_pair, is_paid, is_row_reached, is_supplied, is_taken, is_want, is_wanted, is_wished, is_wish_supplied, keeps_form, keeps_rows, keeps_table, keeps_wants, mines, part_supplied, priced_column, same_switch};
 
 use crate::reach::{is_good_reached, is_marked, is_mined, is_reached};
 use crate::solving::{are_fitting, is_solvable};
@@ -95,7 +95,11 @@ fn is_given_part(good: GoodId, part: &(GoodId, Ratio)) -> bool
 fn gives(good: GoodId, column: &Priced) -> bool
     ensures { result ≡ gives good column.now }
 {
-    column.1.as_slice().iter().any(|part| is_given_part(good, part))
+    column
+        .1
+        .as_slice()
+        .iter()
+        .any(|part| is_given_part(good, part))
 }
 
 fn is_given(columns: &[Priced], good: GoodId) -> bool
@@ -116,11 +120,7 @@ fn is_supplied(columns: &[Priced], imports: &[(GoodId, Ratio)], good: GoodId) ->
     brings(good, imports) || is_given(columns, good)
 }
 
-fn part_supplied(
-    columns: &[Priced],
-    imports: &[(GoodId, Ratio)],
-    part: &(GoodId, Ratio),
-) -> bool
+fn part_supplied(columns: &[Priced], imports: &[(GoodId, Ratio)], part: &(GoodId, Ratio)) -> bool
     ensures { result ≡ part_supplied columns.now imports.now part.now }
 {
     !is_negative(&part.1) || is_supplied(columns, imports, part.0)
@@ -243,19 +243,15 @@ fn is_want(electric: u32, power: bool, wish: &(GoodId, Ratio), want: &(GoodId, R
     ensures { result ≡ is_want electric power wish.now want.now }
 {
     want.0.0 == wish.0.0
-        && (want.1 == wish.1
-            || (power && want.0.0 == electric && !is_less(&want.1, &wish.1)))
+        && (want.1 == wish.1 || (power && want.0.0 == electric && !is_less(&want.1, &wish.1)))
 }
 
-fn is_wanted(
-    electric: u32,
-    power: bool,
-    wants: &[(GoodId, Ratio)],
-    wish: &(GoodId, Ratio),
-) -> bool
+fn is_wanted(electric: u32, power: bool, wants: &[(GoodId, Ratio)], wish: &(GoodId, Ratio)) -> bool
     ensures { result ≡ is_wanted electric power wants.now wish.now }
 {
-    wants.iter().any(|want| is_want(electric, power, wish, want))
+    wants
+        .iter()
+        .any(|want| is_want(electric, power, wish, want))
 }
 
 fn are_wanted(
@@ -266,15 +262,12 @@ fn are_wanted(
 ) -> bool
     ensures { result ≡ list_all (is_wanted electric power wants.now) wishes.now }
 {
-    wishes.iter().all(|wish| is_wanted(electric, power, wants, wish))
+    wishes
+        .iter()
+        .all(|wish| is_wanted(electric, power, wants, wish))
 }
 
-fn is_wished(
-    electric: u32,
-    power: bool,
-    wishes: &[(GoodId, Ratio)],
-    want: &(GoodId, Ratio),
-) -> bool
+fn is_wished(electric: u32, power: bool, wishes: &[(GoodId, Ratio)], want: &(GoodId, Ratio)) -> bool
     ensures { result ≡ is_wished electric power wishes.now want.now }
 {
     brings(want.0, wishes) || (power && want.0.0 == electric)
@@ -288,7 +281,9 @@ fn are_wished(
 ) -> bool
     ensures { result ≡ list_all (is_wished electric power wishes.now) wants.now }
 {
-    wants.iter().all(|want| is_wished(electric, power, wishes, want))
+    wants
+        .iter()
+        .all(|want| is_wished(electric, power, wishes, want))
 }
 
 // Whether a row gives a wished good, or an import of it was asked for, or it is imported and a source gives it.
@@ -318,10 +313,9 @@ fn are_supplied(
     requires { IsSound game.now }
     ensures { result ≡ list_all (is_wish_supplied game.now reached.now wish.now table.now columns.now) wish.now.wants }
 {
-    wish.wants
-        .as_slice()
-        .iter()
-        .all(|want| is_wish_supplied(game, reached, wish, table, columns, want))
+    wish.wants.as_slice().iter().all(|want| is_wish_supplied(
+        game, reached, wish, table, columns, want,
+    ))
 }
 
 fn same_switch(one: bool, other: bool) -> bool
@@ -374,6 +368,48 @@ fn keeps_rows(
         && all_supplied(columns, table.imports.as_slice())
 }
 
+// Whether the rows, the wants and what comes in are the wish's.
+fn keeps_parts(game: &Game, reached: &[bool], wish: &Wish, met: &Met, columns: &[Priced]) -> bool
+    requires { IsSound game.now }
+    ensures { result ≡ keeps_table game.now reached.now wish.now met.now columns.now }
+{
+    keeps_wants(game, reached, wish, &met.table, columns)
+        && keeps_rows(game, reached, wish, met.rim.as_slice(), &met.table, columns)
+}
+
+// The prices and columns of a table's rows.
+fn columns_of(alloc: Global, game: &Game, table: &Table) -> Result<Items<Priced>, NoMemory>
+    requires sound { IsSound game.now }
+    requires fits { All (λ row. IsFitting game.now row.setup) table.now.rows }
+    ensures { IfOk result (λ columns. columns ≡ columns_of game.now table.now) }
+{
+    priced_columns(alloc, game, table.power, table.rows.as_slice())
+}
+
+fn keeps_table(
+    alloc: Global,
+    game: &Game,
+    reached: &[bool],
+    wish: &Wish,
+    met: &Met,
+) -> Result<bool, NoMemory>
+    requires sound { IsSound game.now }
+    requires fits { All (λ row. IsFitting game.now row.setup) met.now.table.rows }
+    ensures { IfOk result (λ yes. yes ≡ keeps_table game.now reached.now wish.now met.now (columns_of game.now met.now.table)) }
+{
+    let columns = columns_of(alloc, game, &met.table)?;
+    Ok(keeps_parts(game, reached, wish, met, columns.as_slice()))
+}
+
+// Whether each row of a table can stand in it.
+fn fits(game: &Game, table: &Table) -> bool
+    requires { IsSound game.now }
+    ensures { OnTrue result (All (λ row. IsFitting game.now row.setup) table.now.rows) }
+{
+    are_fitting(game, table.rows.as_slice())
+}
+
+#[tactic(auto, using(crate::proofs::MetLemmas::met_where))]
 /// Whether a table meets a wish.
 ///
 /// # Errors
@@ -389,22 +425,16 @@ pub fn is_met(
 ) -> Result<bool, NoMemory>
     requires sound { IsSound game.now }
     requires table { IsSoundTable met.now.table }
-    ensures yes { IfOk result (λ yes. OnTrue yes (IsMet game.now reached.now name.now wish.now met.now)) }
-    ensures not { IfOk result (λ yes. OnFalse yes (¬ IsMet game.now reached.now name.now wish.now met.now)) }
+    ensures { IfOk result (λ yes. OnTrue yes (IsMet game.now reached.now name.now wish.now met.now)) }
 {
-    let table = &met.table;
-    if !are_fitting(game, table.rows.as_slice()) {
+    if !fits(game, &met.table) {
         return Ok(false);
     }
-    if !keeps_form(name, wish, table) {
+    if !keeps_form(name, wish, &met.table) {
         return Ok(false);
     }
-    let columns = priced_columns(alloc, game, table.power, table.rows.as_slice())?;
-    if !keeps_wants(game, reached, wish, table, columns.as_slice()) {
+    if !keeps_table(alloc, game, reached, wish, met)? {
         return Ok(false);
     }
-    if !keeps_rows(game, reached, wish, met.rim.as_slice(), table, columns.as_slice()) {
-        return Ok(false);
-    }
-    is_solvable(alloc, game, table)
+    is_solvable(alloc, game, &met.table)
 }

@@ -191,13 +191,7 @@ fn better(best: Option<Candidate>, other: Candidate) -> Option<Candidate> {
 // How far two temperatures lie apart.
 fn distance(one: &Ratio, other: &Ratio) -> Ratio {
     match one.sub(other) {
-        Ok(apart) => {
-            if apart.is_neg() {
-                apart.neg()
-            } else {
-                apart
-            }
-        }
+        Ok(apart) => { if apart.is_neg() { apart.neg() } else { apart } }
         Err(_) => Ratio::zero(),
     }
 }
@@ -219,7 +213,10 @@ fn unused_by(game: &Game, kind: &MachineKind, fluid: GoodId) -> Ratio {
 
 // What the machine of a set-up leaves unused.
 fn unused_of(game: &Game, bare: &Bare<'_>) -> Ratio {
-    match (game.machines.as_slice().get(bare.machine.0 as usize), bare.at.first()) {
+    match (
+        game.machines.as_slice().get(bare.machine.0 as usize),
+        bare.at.first(),
+    ) {
         (Some(machine), Some(fluid)) => unused_by(game, &machine.kind, *fluid),
         _ => Ratio::zero(),
     }

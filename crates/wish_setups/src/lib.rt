@@ -13,8 +13,8 @@ mod wish;
 pub use checking::is_met;
 pub use choosing::{State, best_setup, is_import, price_in};
 pub use reach::{
-    gives, is_good_marked, is_good_reached, is_marked, is_mined, is_reached, mark, mark_good, mined_goods,
-    reached_fuels,
+    gives, is_good_marked, is_good_reached, is_marked, is_mined, is_reached, mark, mark_good,
+    mined_goods, reached_fuels,
 };
 pub use setups::{column_in, expected_units, figures_of, is_fitting};
 pub use solving::{BUDGET, Solved, is_solvable, solve_table};

@@ -1,12 +1,12 @@
 //! What is reached, and what of it is taken as it is.
-ghost use Rattle.std.specs.Prelude.{◌≡◌, ◌<◌, false, length, option_map, slice_get, slice_index_or};
+ghost use Rattle.std.specs.Prelude.{◌≡◌, ◌<◌, false, length, slice_get, slice_index_or};
 ghost use Rattle.std.specs.List.{list_any};
 ghost use Rattle.plan_base.specs.Shape.{count_of};
 ghost use Rattle.game_types.specs.Sound.{IsSound};
 ghost use Rattle.wish_setups.specs.Answers.{is_expected, is_good_reached, is_mined, is_reached, is_some_of, mines, source_gives};
 
 use fractions::is_positive;
-use game_types::{Game, Product, Source};
+use game_types::{Game, Product};
 use plan_base::{GoodId, Kind, NoMemory, Shape};
 use std::alloc::Global;
 
@@ -93,11 +93,11 @@ pub fn gives(products: &[Product], good: GoodId) -> bool
     products.iter().any(|product| is_some_of(good, product))
 }
 
-// Whether a source gives a good, where there is one.
-fn source_gives(good: GoodId, source: Option<&Source>) -> bool
-    ensures { result ≡ source_gives good (option_map (λ source. source.now) source) }
+// Whether the source at a place gives a good, where there is one.
+fn source_gives(game: &Game, good: GoodId, place: u32) -> bool
+    ensures { result ≡ source_gives good (slice_get game.now.sources place) }
 {
-    match source {
+    match game.sources.as_slice().get(place as usize) {
         Some(source) => gives(source.products.as_slice(), good),
         None => false,
     }
@@ -108,8 +108,7 @@ fn mines(game: &Game, reached: &[bool], good: GoodId, place: u32) -> bool
     requires { IsSound game.now }
     ensures { result ≡ mines game.now reached.now good place }
 {
-    is_reached(game, reached, Kind::Source, place)
-        && source_gives(good, game.sources.as_slice().get(place as usize))
+    is_reached(game, reached, Kind::Source, place) && source_gives(game, good, place)
 }
 
 /// Whether a reached source gives a good.

@@ -1,6 +1,6 @@
 //! Set-ups: which of them can stand in a table, and how fast they are.
 ghost use Rattle.std.specs.Prelude.{◌≡◌, All, IfSome};
-ghost use Rattle.std.specs.Bool.{OnFalse, OnTrue};
+ghost use Rattle.std.specs.Bool.{OnTrue};
 ghost use Rattle.game_types.specs.Sound.{IsBeacon, IsFluid, IsGood, IsItem, IsModule, IsSound, IsSoundActivity, IsSoundGroup, IsSoundSetup};
 ghost use Rattle.table_rows.specs.Setups.{IsFitting};
 
@@ -23,16 +23,14 @@ pub struct Bare<'a> {
 }
 
 fn is_item(game: &Game, good: GoodId) -> bool
-    ensures yes { OnTrue result (IsItem game.now good.0) }
-    ensures not { OnFalse result (¬ IsItem game.now good.0) }
+    ensures { OnTrue result (IsItem game.now good.0) }
 {
     (good.0 as usize) < game.items.len()
 }
 
 fn is_good(game: &Game, good: GoodId) -> bool
     requires { IsSound game.now }
-    ensures yes { OnTrue result (IsGood game.now good.0) }
-    ensures not { OnFalse result (¬ IsGood game.now good.0) }
+    ensures { OnTrue result (IsGood game.now good.0) }
 {
     let shape = game.shape();
     good.0 < shape.items + shape.fluids
@@ -40,15 +38,13 @@ fn is_good(game: &Game, good: GoodId) -> bool
 
 fn is_fluid(game: &Game, good: GoodId) -> bool
     requires { IsSound game.now }
-    ensures yes { OnTrue result (IsFluid game.now good.0) }
-    ensures not { OnFalse result (¬ IsFluid game.now good.0) }
+    ensures { OnTrue result (IsFluid game.now good.0) }
 {
     game.shape().items <= good.0 && is_good(game, good)
 }
 
 fn is_module(game: &Game, good: GoodId) -> bool
-    ensures yes { OnTrue result (IsModule game.now good) }
-    ensures not { OnFalse result (¬ IsModule game.now good) }
+    ensures { OnTrue result (IsModule game.now good) }
 {
     match game.items.as_slice().get(good.0 as usize) {
         Some(item) => item.module.is_some(),
@@ -57,8 +53,7 @@ fn is_module(game: &Game, good: GoodId) -> bool
 }
 
 fn is_beacon(game: &Game, machine: EntityId) -> bool
-    ensures yes { OnTrue result (IsBeacon game.now machine) }
-    ensures not { OnFalse result (¬ IsBeacon game.now machine) }
+    ensures { OnTrue result (IsBeacon game.now machine) }
 {
     match game.machines.as_slice().get(machine.0 as usize) {
         Some(machine) => match machine.kind {
@@ -70,30 +65,20 @@ fn is_beacon(game: &Game, machine: EntityId) -> bool
 }
 
 fn are_modules(game: &Game, modules: &[(GoodId, u32)]) -> bool
-    ensures yes { OnTrue result (All (λ m. IsModule game.now m.0) modules.now) }
-    ensures not { OnFalse result (¬ All (λ m. IsModule game.now m.0) modules.now) }
+    ensures { OnTrue result (All (λ m. IsModule game.now m.0) modules.now) }
 {
-    let mut rest = modules;
-    while let [module, others @ ..] = rest {
-        if !is_module(game, module.0) {
-            return false;
-        }
-        rest = others;
-    }
-    true
+    modules.iter().all(|module| is_module(game, module.0))
 }
 
 fn is_group(game: &Game, group: &BeaconGroup) -> bool
-    ensures yes { OnTrue result (IsSoundGroup game.now group.now) }
-    ensures not { OnFalse result (¬ IsSoundGroup game.now group.now) }
+    ensures { OnTrue result (IsSoundGroup game.now group.now) }
 {
     is_beacon(game, group.beacon) && are_modules(game, group.modules.as_slice())
 }
 
 fn is_activity(game: &Game, activity: Activity) -> bool
     requires { IsSound game.now }
-    ensures yes { OnTrue result (IsSoundActivity game.now activity) }
-    ensures not { OnFalse result (¬ IsSoundActivity game.now activity) }
+    ensures { OnTrue result (IsSoundActivity game.now activity) }
 {
     match activity {
         Activity::Craft(recipe) => (recipe.0 as usize) < game.recipes.len(),
@@ -106,8 +91,7 @@ fn is_activity(game: &Game, activity: Activity) -> bool
 }
 
 fn is_fuel(game: &Game, fuel: Option<GoodId>) -> bool
-    ensures yes { OnTrue result (IfSome fuel (λ good. IsItem game.now good.0)) }
-    ensures not { OnFalse result (¬ IfSome fuel (λ good. IsItem game.now good.0)) }
+    ensures { OnTrue result (IfSome fuel (λ good. IsItem game.now good.0)) }
 {
     match fuel {
         Some(good) => is_item(game, good),
@@ -116,39 +100,22 @@ fn is_fuel(game: &Game, fuel: Option<GoodId>) -> bool
 }
 
 fn are_groups(game: &Game, groups: &[BeaconGroup]) -> bool
-    ensures yes { OnTrue result (All (IsSoundGroup game.now) groups.now) }
-    ensures not { OnFalse result (¬ All (IsSoundGroup game.now) groups.now) }
+    ensures { OnTrue result (All (IsSoundGroup game.now) groups.now) }
 {
-    let mut rest = groups;
-    while let [group, others @ ..] = rest {
-        if !is_group(game, group) {
-            return false;
-        }
-        rest = others;
-    }
-    true
+    groups.iter().all(|group| is_group(game, group))
 }
 
 fn are_fluids(game: &Game, goods: &[GoodId]) -> bool
     requires { IsSound game.now }
-    ensures yes { OnTrue result (All (λ good. IsFluid game.now good.0) goods.now) }
-    ensures not { OnFalse result (¬ All (λ good. IsFluid game.now good.0) goods.now) }
+    ensures { OnTrue result (All (λ good. IsFluid game.now good.0) goods.now) }
 {
-    let mut rest = goods;
-    while let [good, others @ ..] = rest {
-        if !is_fluid(game, *good) {
-            return false;
-        }
-        rest = others;
-    }
-    true
+    goods.iter().all(|good| is_fluid(game, *good))
 }
 
 // Whether all that a set-up names is there.
 fn is_sound(game: &Game, setup: &Setup) -> bool
     requires { IsSound game.now }
-    ensures yes { OnTrue result (IsSoundSetup game.now setup.now) }
-    ensures not { OnFalse result (¬ IsSoundSetup game.now setup.now) }
+    ensures { OnTrue result (IsSoundSetup game.now setup.now) }
 {
     is_activity(game, setup.activity)
         && (setup.machine.0 as usize) < game.machines.len()
@@ -161,8 +128,7 @@ fn is_sound(game: &Game, setup: &Setup) -> bool
 /// Whether a set-up can stand in a table.
 pub fn is_fitting(game: &Game, setup: &Setup) -> bool
     requires { IsSound game.now }
-    ensures yes { OnTrue result (IsFitting game.now setup.now) }
-    ensures not { OnFalse result (¬ IsFitting game.now setup.now) }
+    ensures { OnTrue result (IsFitting game.now setup.now) }
 {
     is_sound(game, setup) && check_setup(game, setup).is_ok()
 }

@@ -18,20 +18,19 @@ use std::alloc::Global;
 /// The most exchanges of columns, as many as a script's `solve` makes where it names no number.
 pub const BUDGET: u32 = 20_000;
 
+fn is_row_fitting(game: &Game, row: &TableRow) -> bool
+    requires { IsSound game.now }
+    ensures { OnTrue result (IsFitting game.now row.now.setup) }
+{
+    is_fitting(game, &row.setup)
+}
+
 /// Whether each row can stand in a table.
 pub fn are_fitting(game: &Game, rows: &[TableRow]) -> bool
     requires { IsSound game.now }
-    ensures yes { OnTrue result (All (λ row. IsFitting game.now row.setup) rows.now) }
-    ensures not { OnFalse result (¬ All (λ row. IsFitting game.now row.setup) rows.now) }
+    ensures { OnTrue result (All (λ row. IsFitting game.now row.setup) rows.now) }
 {
-    let mut rest = rows;
-    while let [row, others @ ..] = rest {
-        if !is_fitting(game, &row.setup) {
-            return false;
-        }
-        rest = others;
-    }
-    true
+    rows.iter().all(|row| is_row_fitting(game, row))
 }
 
 /// The linear form of a table, and what the solver says of it.
@@ -63,6 +62,7 @@ pub fn solve_table(alloc: Global, game: &Game, table: &Table) -> Result<Option<S
 }
 
 // Whether the solver answers a plan of a linear form.
+#[tactic(auto, using(crate::proofs::SolverLemmas::planned, crate::proofs::SolverLemmas::infeasible, crate::proofs::SolverLemmas::too_wide, crate::proofs::SolverLemmas::out_of_budget))]
 fn has_plan(alloc: Global, linear: &Linear) -> Result<bool, NoMemory>
     requires { IsWellFormed linear.now }
     ensures yes { IfOk result (λ yes. OnTrue yes (HasPlan linear.now)) }
@@ -81,6 +81,7 @@ fn has_plan(alloc: Global, linear: &Linear) -> Result<bool, NoMemory>
 /// # Errors
 ///
 /// `NoMemory` where memory could not be had.
+#[tactic(auto, using(crate::proofs::SolverLemmas::solvable, crate::proofs::SolverLemmas::unsolvable, crate::proofs::SolverLemmas::formless))]
 pub fn is_solvable(alloc: Global, game: &Game, table: &Table) -> Result<bool, NoMemory>
     requires sound { IsSound game.now }
     requires table { IsSoundTable table.now }
