@@ -91,7 +91,7 @@ fn check_found(
     reached: &[bool],
     asked: &Asked<'_>,
     wish: &Wish,
-    met: Met,
+    met: &mut Met,
     said: &mut String,
 ) -> Result<(), Failure>
     ensures { OnOk result (asked.now.more ≡ None → HasMet planner.now reached.now asked.now.table.now wish.now) }
@@ -172,8 +172,20 @@ pub fn answered_lines<L>(
         command,
         said,
     )?;
-    let Found { text, wish, met } = found;
+    let Found {
+        text,
+        wish,
+        mut met,
+    } = found;
     let done = carry_out(alloc, planner, text.as_str(), before, said, steps)?;
-    check_found(alloc, planner, reached.as_slice(), asked, &wish, met, said)?;
+    check_found(
+        alloc,
+        planner,
+        reached.as_slice(),
+        asked,
+        &wish,
+        &mut met,
+        said,
+    )?;
     Ok(Answer { lines: text, done })
 }

@@ -14,7 +14,7 @@ use production_table::Table;
 use std::alloc::Global;
 use wish_setups::{Met, Wish, is_met};
 
-// Whether a table meets a wish with the rim of what was found for it.
+// Whether a table meets a wish with the rim of what was found for it, in which it then stands.
 fn check_table(
     alloc: Global,
     game: &Game,
@@ -22,26 +22,14 @@ fn check_table(
     table: &Table,
     name: &str,
     wish: &Wish,
-    found: Met,
+    met: &mut Met,
 ) -> Result<(), Failure>
     requires sound { IsSound game.now }
     requires table { IsSoundTable table.now }
     ensures { OnOk result (TableMeets game.now reached.now name.now wish.now table.now) }
 {
-    let table = table.copy(alloc)?;
-    let Met {
-        table: _,
-        rim,
-        draw,
-        reserve,
-    } = found;
-    let met = Met {
-        table,
-        rim,
-        draw,
-        reserve,
-    };
-    if is_met(alloc, game, reached, name, wish, &met)? {
+    met.table = table.copy(alloc)?;
+    if is_met(alloc, game, reached, name, wish, met)? {
         Ok(())
     } else {
         Err(Failure::Unmet)
@@ -56,7 +44,7 @@ fn check_tables(
     tables: &[Table],
     name: &str,
     wish: &Wish,
-    found: Met,
+    met: &mut Met,
 ) -> Result<(), Failure>
     requires sound { IsSound game.now }
     requires tables { AreSoundTables game.now tables.now }
@@ -64,7 +52,7 @@ fn check_tables(
 {
     for table in tables {
         if table.name.as_str() == name {
-            return check_table(alloc, game, reached, table, name, wish, found);
+            return check_table(alloc, game, reached, table, name, wish, met);
         }
     }
     Err(Failure::Unmet)
@@ -81,7 +69,7 @@ pub fn check_standing(
     reached: &[bool],
     name: &str,
     wish: &Wish,
-    found: Met,
+    met: &mut Met,
 ) -> Result<(), Failure>
     ensures { OnOk result (HasMet planner.now reached.now name.now wish.now) }
 {
@@ -92,6 +80,6 @@ pub fn check_standing(
         planner.tables(),
         name,
         wish,
-        found,
+        met,
     )
 }
