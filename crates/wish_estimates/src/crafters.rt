@@ -66,7 +66,11 @@ fn crafter_of(machine: &Machine, speed: f64) -> Crafter {
     let electric = matches!(machine.energy, Energy::Electric);
     Crafter {
         speed,
-        power: if electric { float_of(&machine.usage) } else { 0.0 },
+        power: if electric {
+            float_of(&machine.usage)
+        } else {
+            0.0
+        },
         pollution: float_of(&machine.emissions),
     }
 }

@@ -48,7 +48,11 @@ fn push_setup(
     let takes = network.next_take();
     let gives = network.next_give();
     push_column(column.as_slice(), network)?;
-    let own = if takes_some(column.as_slice()) { 0.0 } else { own };
+    let own = if takes_some(column.as_slice()) {
+        0.0
+    } else {
+        own
+    };
     network.push_way(setup.activity, at, own, takes, gives)
 }
 
@@ -164,7 +168,16 @@ fn push_boiler(
         return Ok(());
     }
     mark_good(boiled, fluid);
-    push_best(alloc, game, state, wish, Activity::Boil(fluid), None, 1.0, network)
+    push_best(
+        alloc,
+        game,
+        state,
+        wish,
+        Activity::Boil(fluid),
+        None,
+        1.0,
+        network,
+    )
 }
 
 // The fluids that the machine at a place pumps or heats come in.
@@ -230,10 +243,28 @@ pub fn push_generators(
         let fluid = GoodId(number);
         if is_good_reached(game, state.reached, fluid) {
             let at = Some(fluid);
-            push_best(alloc, game, state, wish, Activity::Generate, at, free, network)?;
+            push_best(
+                alloc,
+                game,
+                state,
+                wish,
+                Activity::Generate,
+                at,
+                free,
+                network,
+            )?;
         }
     }
-    push_best(alloc, game, state, wish, Activity::Generate, None, free, network)
+    push_best(
+        alloc,
+        game,
+        state,
+        wish,
+        Activity::Generate,
+        None,
+        free,
+        network,
+    )
 }
 
 // The technology of which a good is a unit.

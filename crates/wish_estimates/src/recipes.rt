@@ -16,7 +16,11 @@ pub fn expected(product: &Product) -> f64 {
 // What one craft costs beside what it takes: a little time, or what the wish is to take least of.
 fn own_cost(wish: &Wish, recipe: &Recipe, crafter: &Crafter) -> f64 {
     let time = float_of(&recipe.time);
-    let machines = if crafter.speed > 0.0 { time / crafter.speed } else { time };
+    let machines = if crafter.speed > 0.0 {
+        time / crafter.speed
+    } else {
+        time
+    };
     let little = 0.02 + 0.05 * time;
     match wish.cheapest {
         Cheapest::Cost => little,

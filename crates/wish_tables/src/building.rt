@@ -246,11 +246,7 @@ fn add_rows(
     Ok(())
 }
 
-fn add_extra_surpluses(
-    alloc: Global,
-    goods: &[GoodId],
-    table: &mut Table,
-) -> Result<(), WishFault>
+fn add_extra_surpluses(alloc: Global, goods: &[GoodId], table: &mut Table) -> Result<(), WishFault>
     requires table { IsSoundTable table.old }
     ensures { IsSoundTable table.new }
 {

@@ -13,7 +13,9 @@ use plan_base::{GoodId, Items, NoMemory};
 use production_table::{LIMIT, Table, TableFault, TableRow};
 use std::alloc::Global;
 use wish_estimates::{Estimates, why_unmade};
-use wish_setups::{Met, State, Wish, WishFault, column_in, is_met, mined_goods, price_in, reached_fuels};
+use wish_setups::{
+    Met, State, Wish, WishFault, column_in, is_met, mined_goods, price_in, reached_fuels,
+};
 use wish_walk::{Ground, Walk, walk_further, walk_on};
 
 // How the tables of a size ended.
@@ -167,7 +169,11 @@ fn check_made(alloc: Global, ground: &Ground<'_>) -> Result<(), WishFault>
     Ok(())
 }
 
-fn push_known(estimates: &Estimates, fuels: &[GoodId], known: &mut Vec<GoodId>) -> Result<(), NoMemory> {
+fn push_known(
+    estimates: &Estimates,
+    fuels: &[GoodId],
+    known: &mut Vec<GoodId>,
+) -> Result<(), NoMemory> {
     for fuel in fuels {
         if estimates.is_known(*fuel) {
             known.push(*fuel)?;
@@ -176,62 +182,76 @@ fn push_known(estimates: &Estimates, fuels: &[GoodId], known: &mut Vec<GoodId>) 
     Ok(())
 }
 
-// Tries tables over the estimates of a wish.
-fn try_from(
-    alloc: Global,
-    game: &Game,
-    state: State<'_>,
-    wish: &Wish,
-    start: &Table,
+// What is tried for a wish, all of it lent for as long.
+#[derive(Clone, Copy)]
+struct Case<'a> {
+    game: &'a Game,
+    reached: &'a [bool],
+    wish: &'a Wish,
+    start: &'a Table,
     wants: bool,
+}
+
+// Tries tables over the estimates of a wish.
+fn try_from<'a>(
+    alloc: Global,
+    case: &'a Case<'a>,
+    mined: &'a [bool],
+    fuels: &'a [GoodId],
+    estimates: &'a Estimates,
 ) -> Result<Met, WishFault>
-    requires game { IsSound game.now }
-    requires start { IsSoundTable start.now }
+    requires game { IsSound case.now.game.now }
+    requires start { IsSoundTable case.now.start.now }
     ensures { IfOk result (λ met. IsSoundTable met.table) }
 {
-    let estimates = Estimates::of(alloc, game, state, wish)?;
-    let mut fuels = Vec::new(alloc);
-    push_known(&estimates, state.fuels, &mut fuels)?;
     let state = State {
-        reached: state.reached,
-        mined: state.mined,
-        fuels: fuels.as_slice(),
+        reached: case.reached,
+        mined,
+        fuels,
     };
     let ground = Ground {
-        game,
+        game: case.game,
         state,
-        wish,
-        estimates: &estimates,
+        wish: case.wish,
+        estimates,
     };
     check_made(alloc, &ground)?;
     let trial = Trial {
         ground,
-        start,
-        wants,
+        start: case.start,
+        wants: case.wants,
     };
     try_sizes(alloc, &trial)
 }
 
-fn meet(
+// The estimates of a wish.
+fn estimates_of(
     alloc: Global,
-    game: &Game,
-    reached: &[bool],
-    wish: &Wish,
-    start: &Table,
-    wants: bool,
-) -> Result<Met, WishFault>
-    requires game { IsSound game.now }
-    requires start { IsSoundTable start.now }
+    case: &Case<'_>,
+    mined: &[bool],
+    fuels: &[GoodId],
+) -> Result<Estimates, NoMemory>
+    requires { IsSound case.now.game.now }
+{
+    let state = State {
+        reached: case.reached,
+        mined,
+        fuels,
+    };
+    Estimates::of(alloc, case.game, state, case.wish)
+}
+
+fn meet(alloc: Global, case: &Case<'_>) -> Result<Met, WishFault>
+    requires game { IsSound case.now.game.now }
+    requires start { IsSoundTable case.now.start.now }
     ensures { IfOk result (λ met. IsSoundTable met.table) }
 {
-    let mined = mined_goods(alloc, game, reached)?;
-    let fuels = reached_fuels(alloc, game, reached)?;
-    let state = State {
-        reached,
-        mined: mined.as_slice(),
-        fuels: fuels.as_slice(),
-    };
-    try_from(alloc, game, state, wish, start, wants)
+    let mined = mined_goods(alloc, case.game, case.reached)?;
+    let fuels = reached_fuels(alloc, case.game, case.reached)?;
+    let estimates = estimates_of(alloc, case, mined.as_slice(), fuels.as_slice())?;
+    let mut known = Vec::new(alloc);
+    push_known(&estimates, fuels.as_slice(), &mut known)?;
+    try_from(alloc, case, mined.as_slice(), known.as_slice(), &estimates)
 }
 
 /// The table of a name for a wish.
@@ -251,7 +271,14 @@ pub fn wish_table(
 {
     let mut start = Table::make(alloc, name)?;
     start.set_power(wish.power);
-    let met = meet(alloc, game, reached, wish, &start, true)?;
+    let case = Case {
+        game,
+        reached,
+        wish,
+        start: &start,
+        wants: true,
+    };
+    let met = meet(alloc, &case)?;
     if is_met(alloc, game, reached, name, wish, &met)? {
         Ok(met)
     } else {
@@ -293,5 +320,12 @@ pub fn more_rows(
     for (good, _) in wish.wants.as_slice() {
         end_import(alloc, &mut start, *good)?;
     }
-    meet(alloc, game, reached, wish, &start, false)
+    let case = Case {
+        game,
+        reached,
+        wish,
+        start: &start,
+        wants: false,
+    };
+    meet(alloc, &case)
 }

@@ -41,9 +41,15 @@ fn key(walk: &Walk, order: usize, place: usize) -> u64 {
     match order {
         0 => place,
         1 => u64::MAX - place,
-        2 => 7u64.wrapping_sub(kind).wrapping_mul(0x1_0000_0000).wrapping_add(place),
+        2 => 7u64
+            .wrapping_sub(kind)
+            .wrapping_mul(0x1_0000_0000)
+            .wrapping_add(place),
         3 => parts.wrapping_mul(0x1_0000_0000).wrapping_add(place),
-        4 => 1000u64.wrapping_sub(parts).wrapping_mul(0x1_0000_0000).wrapping_add(place),
+        4 => 1000u64
+            .wrapping_sub(parts)
+            .wrapping_mul(0x1_0000_0000)
+            .wrapping_add(place),
         _ => mixed(place as usize, order as u64),
     }
 }

@@ -1,9 +1,9 @@
 //! What whole machines draw.
 ghost use Rattle.game_types.specs.Sound.{IsSound};
 
-use crate::pricing::{plus, times};
+use crate::pricing::{idle_draw, plus, times};
 use fractions::Ratio;
-use game_types::{Activity, Game};
+use game_types::{Effects, Game, Rates};
 use production_table::{Table, TableRow};
 use wish_setups::figures_of;
 
@@ -16,17 +16,9 @@ pub struct Draw {
     pub beyond: Ratio,
 }
 
-// What whole machines of a row draw at a rate, and how much of that is beyond what fractions of machines do.
-fn row_draw(game: &Game, row: &TableRow, rate: &Ratio) -> Draw
-    requires { IsSound game.now }
-{
-    let Some(figures) = figures_of(game, &row.setup) else {
-        return Draw {
-            whole: Ratio::zero(),
-            beyond: Ratio::zero(),
-        };
-    };
-    let idle = plus(figures.1.drain, &figures.2);
+// What whole machines draw at a rate, and how much of that is beyond what fractions of machines do.
+fn draw_at(figures: &(Effects, Rates, Ratio), rate: &Ratio) -> Draw {
+    let idle = idle_draw(figures);
     let machines = times(*rate, &figures.1.machines);
     let count = machines.ceil();
     let missing = plus(count, &machines.neg());
@@ -36,27 +28,32 @@ fn row_draw(game: &Game, row: &TableRow, rate: &Ratio) -> Draw
     }
 }
 
+fn no_draw() -> Draw {
+    Draw {
+        whole: Ratio::zero(),
+        beyond: Ratio::zero(),
+    }
+}
+
+// What whole machines of a row draw at a rate.
+fn row_draw(game: &Game, row: &TableRow, rate: &Ratio) -> Draw
+    requires { IsSound game.now }
+{
+    match figures_of(game, &row.setup) {
+        Some(figures) => draw_at(&figures, rate),
+        None => no_draw(),
+    }
+}
+
 /// What the rows of a table draw at these rates.
 pub fn draw_of(game: &Game, table: &Table, rates: &[Ratio]) -> Draw
     requires { IsSound game.now }
 {
-    let mut draw = Draw {
-        whole: Ratio::zero(),
-        beyond: Ratio::zero(),
-    };
+    let mut draw = no_draw();
     for (row, rate) in table.rows.as_slice().iter().zip(rates.iter()) {
         let own = row_draw(game, row, rate);
         draw.whole = plus(draw.whole, &own.whole);
         draw.beyond = plus(draw.beyond, &own.beyond);
     }
     draw
-}
-
-/// Whether a table has a row that makes electricity.
-pub fn makes_power(table: &Table) -> bool {
-    table
-        .rows
-        .as_slice()
-        .iter()
-        .any(|row| row.setup.activity == Activity::Generate)
 }

@@ -17,7 +17,11 @@ fn is_long(price: &Ratio) -> bool {
 
 /// A price, rounded to three digits where it is long.
 pub fn short(price: Ratio) -> Ratio {
-    if is_long(&price) { rounded(float_of(&price)) } else { price }
+    if is_long(&price) {
+        rounded(float_of(&price))
+    } else {
+        price
+    }
 }
 
 /// The sum, or the first where it is too wide.
@@ -41,7 +45,10 @@ fn price_of_products(game: &Game, wish: &Wish, products: &[Product]) -> Ratio {
     let mut price = Ratio::zero();
     for product in products {
         let units = expected_units(product);
-        price = plus(price, &times(source_price(game, wish, product.good), &units));
+        price = plus(
+            price,
+            &times(source_price(game, wish, product.good), &units),
+        );
     }
     price
 }
@@ -91,13 +98,20 @@ fn outside_price(game: &Game, wish: &Wish, setup: &Setup, column: &[(GoodId, Rat
     }
 }
 
+/// The watts that a machine and its beacons draw at all times.
+pub fn idle_draw(figures: &(Effects, Rates, Ratio)) -> Ratio {
+    plus(figures.1.drain, &figures.2)
+}
+
 // What a craft takes of machines, power or pollution.
 fn measure(wish: &Wish, figures: &(Effects, Rates, Ratio)) -> Ratio {
     match wish.cheapest {
         Cheapest::Cost => Ratio::zero(),
         Cheapest::Power => {
-            let idle = plus(figures.1.drain, &figures.2);
-            plus(figures.1.power, &times(figures.1.machines, &idle))
+            plus(
+                figures.1.power,
+                &times(figures.1.machines, &idle_draw(figures)),
+            )
         }
         Cheapest::Pollution => figures.1.pollution,
         Cheapest::Machines => figures.1.machines,

@@ -190,11 +190,7 @@ fn push_byproducts(
 }
 
 // The goods that rows give and nothing takes, but those that were seen before.
-fn byproducts(
-    alloc: Global,
-    walk: &Walk,
-    seen: &mut [bool],
-) -> Result<Vec<GoodId>, NoMemory> {
+fn byproducts(alloc: Global, walk: &Walk, seen: &mut [bool]) -> Result<Vec<GoodId>, NoMemory> {
     let mut goods = Vec::new(alloc);
     for row in walk.rows.as_slice() {
         push_byproducts(walk, row.column.as_slice(), seen, &mut goods)?;

@@ -127,11 +127,7 @@ impl Walk {
     }
 
     // What a column takes is needed.
-    fn need_column(
-        &mut self,
-        column: &[(GoodId, Ratio)],
-        is_first: bool,
-    ) -> Result<(), NoMemory> {
+    fn need_column(&mut self, column: &[(GoodId, Ratio)], is_first: bool) -> Result<(), NoMemory> {
         for part in column {
             if part.1.is_neg() {
                 self.need(part.0, is_first)?;
@@ -175,10 +171,8 @@ impl Walk {
 
     // Whether a row of a way is there that gives a good.
     fn has_row(&self, way: usize, good: GoodId) -> bool {
-        self.rows
-            .as_slice()
-            .iter()
-            .any(|row| row.way == way && part_of(row.column.as_slice(), good).is_positive())
+        self.rows.as_slice().iter().any(|row| row.way == way
+            && part_of(row.column.as_slice(), good).is_positive())
     }
 }
 
@@ -190,9 +184,7 @@ fn makes_power(activity: Activity) -> bool {
 // Whether a good comes from outside where it is needed.
 fn is_raw(ground: &Ground<'_>, walk: &Walk, good: GoodId) -> bool {
     is_import(ground.wish, good)
-        || (!ground.wish.dig
-            && !walk.is_wanted(good)
-            && is_good_marked(ground.state.mined, good))
+        || (!ground.wish.dig && !walk.is_wanted(good) && is_good_marked(ground.state.mined, good))
 }
 
 /// Whether a way may make a good: what is pumped is only pumped, and what a source gives is only mined where it isn't wished for.
@@ -202,9 +194,7 @@ pub fn may_make(ground: &Ground<'_>, walk: &Walk, way: usize, good: GoodId) -> b
     };
     match way.activity {
         Activity::Pump(_) => true,
-        Activity::Mine(_) => {
-            ground.wish.dig || walk.is_wanted(good)
-        }
+        Activity::Mine(_) => { ground.wish.dig || walk.is_wanted(good) }
         _ => {
             !ground.estimates.is_pumped(good)
                 && (walk.is_wanted(good) || !is_good_marked(ground.state.mined, good))
@@ -246,8 +236,7 @@ fn leave(ground: &Ground<'_>, walk: &mut Walk, good: GoodId) {
 
 // Whether there is room for a row that makes a good.
 fn has_room(walk: &Walk, good: GoodId) -> bool {
-    !walk.is_full()
-        || (walk.rows.len() < LIMIT && (good.0 == walk.power.0 || walk.is_wanted(good)))
+    !walk.is_full() || (walk.rows.len() < LIMIT && (good.0 == walk.power.0 || walk.is_wanted(good)))
 }
 
 // A needed good is looked at.
