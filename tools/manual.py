@@ -38,7 +38,7 @@ def day() -> str:
 
 def own_name(word: tree.Word) -> str:
     """The name of the program that has this word alone, as factoplan_table; empty where the launcher is the way to it."""
-    return f"factoplan_{word.name}" if not word.is_script and word.program != "factoplan" and word.program != "factoplan_data" else ""
+    return f"factoplan_{word.name}" if not word.is_script and word.program != "factoplan" else ""
 
 
 def roff(text: str) -> str:
@@ -51,9 +51,10 @@ def page_head(name: str, about: str) -> List[str]:
     return [f'.TH {name.upper()} 1 "{day()}" "factoplan {tree.version()}" "User commands"', ".SH NAME", f"{roff(name)} \\- {roff(about)}", ".SH SYNOPSIS"]
 
 
-def ends(more) -> List[str]:
+def ends(more, is_script=False) -> List[str]:
+    """The ways to end: those of all programs, of which a script of Python has two, and those that only this word has."""
     lines = [".SH EXIT STATUS"]
-    rows = {**dict(ENDS), **dict(more)}
+    rows = {**{number: when for number, when in ENDS if not is_script or number in "02"}, **dict(more)}
     for number in sorted(rows, key=int):
         lines += [".TP", f".B {number}", roff(rows[number])]
     return lines
@@ -68,7 +69,7 @@ def word_page(word: tree.Word) -> str:
         lines += [f"The program {roff(own)} does the same."]
     if "DUMP" in word.behind:
         lines += [".PP", ".I DUMP", "is the file data\\-raw\\-dump.json that", ".B factorio \\-\\-dump\\-data", "writes."]
-    if "SCRIPT" in word.behind:
+    if re.search(r"\bSCRIPT\b", word.behind):
         lines += [".I SCRIPT", "has one command a line."]
     if "DUMP" in word.behind and not word.is_script:
         lines += ["A file may be", ".IR /dev/stdin ."]
@@ -76,7 +77,7 @@ def word_page(word: tree.Word) -> str:
         lines.append(".SH OPTIONS")
         for option, does in word.options:
             lines += [".TP", f".B {roff(option)}", roff(does)]
-    lines += ends(word.exits)
+    lines += ends(word.exits, word.is_script)
     if word.page:
         lines += [".SH FILES", f".I /usr/share/doc/factoplan/docs/{roff(word.page)}"]
     lines += [".SH SEE ALSO", ".BR factoplan (1)"]

@@ -221,8 +221,8 @@ pub fn rows_within<L>(
 ) -> Result<(Vec<Row>, Index), RowsFault>
     requires { IsSoundBook book.now }
     ensures rows { MatchResult result
-        (λ made. (made.0.items ≡ rows_of book.now.game) × (member_count (rows_of book.now.game) ≤ MEMBER_LIMIT))
-        (λ fault. fault ≡ RowsFault.TooMany → MEMBER_LIMIT < member_count (rows_of book.now.game)) }
+        (λ made. (made.0.items ≡ rows_of book.now.game) × (member_count (rows_of book.now.game) ≤ 4_194_304))
+        (λ fault. fault ≡ RowsFault.TooMany → 4_194_304 < member_count (rows_of book.now.game)) }
     ensures index { IfOk result (λ made. IsIndex book.now.game made.1) }
     ensures graph { IfOk result (λ made. (length made.0.items ≡ node_count (shape_of book.now.game)) × AreMembersBelow (length made.0.items) made.0.items) }
     ensures steps { IfOk result (λ _. steps.new ≡ min (steps.old + node_count (shape_of book.now.game)) (2 ^ 64 - 1)) }

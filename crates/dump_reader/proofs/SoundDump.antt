@@ -1,7 +1,7 @@
 -- What the first pass over a dump leaves is sound: each prototype keeps it so, and it begins with the special nodes alone.
 use Rattle.std.specs.Prelude.{◌≡◌, ℕ, Bool, true, false, List, [], ◌∷◌, Option, None, Some, IfOk, Result, Ok, Err, if◌then◌else◌}
 use Rattle.std.specs.Str.{is_utf8}
-use Rattle.std.proofs.Common.{subst}
+use Rattle.std.proofs.Common.{◌∙◌, ap, subst, sym}
 use Rattle.json_text.specs.Kept.{Kept}
 use Rattle.prototype_fields.specs.Objects.{Member, as_object, value_at}
 use Rattle.prototype_fields.specs.Values.{Reading, object_element}
@@ -73,3 +73,9 @@ pub draft_sound : (top : Kept) (draft : Draft) → raw_game top ≡ Ok (draft_se
 draft_sound top draft is =
     let h = raw_sound top in
     subst (λ (r : Result RawGame DumpFault). IfOk r IsSoundDraft) is h.holds
+
+-- ---- the first fault of a dump's object
+pub first_fault : (tree : Kept) (members : List Member) (read : List Section) (first : RawGame) (fault : DumpFault) → Some members ≡ as_object tree → read ≡ sections → first ≡ empty_game
+    → each_after (section_of members) read first ≡ Err fault → raw_game tree ≡ Err fault
+unfolding raw_game
+first_fault tree members read first fault is all empty told = ap game_in (sym is) ∙ (ap (each_after (section_of members) sections) (sym empty) ∙ (ap (λ (each : List Section). each_after (section_of members) each first) (sym all) ∙ told))

@@ -3,67 +3,172 @@
 
 mod telling;
 
-use crate::telling::said;
+use crate::telling::{said, unread};
+use linear_table::SolveAnswer;
 use plan_base::{NoMemory, Steps, Text};
 use plan_io::{HostSink, HostStore};
-use planner_cli::{Status, run};
+use planner_cli::{Outcome, Status, run};
+use program_runs::{VERSION, program_words};
 use run_progress::{Watch, WatchedSink, WatchedStore};
+use script_hints::{Ended, KeptStore, is_script_to_keep, said_of_lines};
 use std::alloc::Global;
 use std::io::IsTerminal;
 use std::process::ExitCode;
-use std::rt::{Env, Files};
+use std::rt::Files;
 use std::time::Clock;
-use std::{env, io};
 
 // Marks the counter of the program.
 #[derive(Drop)]
 struct Program;
 
-// The program's words, or none at all where one is not UTF-8.
-fn program_words<R: Env + AllocGlobal>(rt: &R, alloc: Global) -> Result<Vec<Text>, NoMemory> {
-    let mut words = Vec::new(alloc);
-    match env::args(rt) {
-        Ok(arguments) => {
-            for argument in arguments {
-                words.push(Text::copy(alloc, argument.as_str())?)?;
-            }
-        }
-        Err(error) => {
-            if error.kind() == io::ErrorKind::OutOfMemory {
-                return Err(NoMemory);
-            }
-        }
-    }
-    Ok(words)
+/// What `factoplan --help` tells.
+const HELP: &str = "Reads a dump of Factorio 1.1 and a script, and answers each line of the script.
+
+Usage: factoplan run DUMP SCRIPT
+       factoplan prove DUMP SCRIPT
+       factoplan check DUMP SCRIPT --cert FILE
+       factoplan sample NUMBER SIZE
+
+Modes:
+  run     writes the reply to each line
+  prove   writes the certificate of what the solver answers
+  check   writes what the certificate of a file proves of each line
+  sample  writes the report of a dump and a script that are drawn from a number
+
+DUMP is the file data-raw-dump.json that factorio --dump-data writes; SCRIPT is a file with a command a line, and may be /dev/stdin.
+
+Options:
+  --cert FILE    the certificate that is checked
+  -h, --help     prints this
+  -V, --version  prints the version
+
+Exit status: 0 done, 1 a line was refused or a table is not proved, 2 wrong words, 3 bad dump, 4 a read fault, 5 a write fault, 6 no memory, 7 too long,
+9 bad certificate
+";
+
+// How a run ended, what is to be said of a file that could not be read, and what a second look at its lines takes.
+#[derive(Drop)]
+struct Run {
+    status: Status,
+    unread: Option<Text>,
+    answers: Vec<SolveAnswer>,
+    script: Option<Vec<u8>>,
 }
 
-// How the run that the words ask for ended. Its progress is told on standard error where that is shown.
-fn ended<R: Files + Print + Eprint + Clock>(
+// The run that the words ask for. Its progress is told on standard error where that is shown.
+fn ran<R: Files + Print + Eprint + Clock>(
     rt: &R,
     alloc: Global,
     words: &[Text],
     is_shown: bool,
-) -> Status {
-    let mut store = WatchedStore::make(HostStore::make(rt), Watch::start(rt, is_shown));
+) -> Run {
+    let store = WatchedStore::make(HostStore::make(alloc, rt), Watch::start(rt, is_shown));
+    let mut store = KeptStore::make(alloc, store, is_script_to_keep(rt, alloc, words));
     let mut out = WatchedSink::make(HostSink::make(rt), Watch::start(rt, is_shown));
     let mut steps = Steps::new(Program);
-    let status = run(alloc, words, &mut store, &mut out, &mut steps).status;
+    let Outcome {
+        status,
+        answers,
+        ..
+    } = run(alloc, words, &mut store, &mut out, &mut steps);
+    let (store, script) = store.into_parts();
     store.clear();
     out.clear();
-    status
+    Run {
+        status,
+        unread: unread(alloc, store.store().fault()),
+        answers,
+        script,
+    }
+}
+
+// Says on standard error how a run ended, and what is to be said of its lines. Where nothing can be said, the status still tells.
+fn tell<R: Files + Eprint + AllocGlobal>(rt: &R, alloc: Global, words: &[Text], ended: Run) {
+    let Run {
+        status,
+        unread,
+        answers,
+        script,
+    } = ended;
+    if let Some(said) = said(rt, alloc, &status, words, unread) {
+        let _ = rt.eprint(said.as_str());
+    }
+    let script = script.as_deref();
+    let lines = Ended {
+        status: &status,
+        answers: &answers,
+        script,
+    };
+    if let Some(said) = said_of_lines(rt, alloc, words, &lines) {
+        let _ = rt.eprint(said.as_str());
+    }
+}
+
+// What words ask for beside a run.
+#[derive(Clone, Copy)]
+enum Notice {
+    Help,
+    Version,
+}
+
+// The help or the version, where the one word behind the program's name asks for it.
+fn notice_in(words: &[Text]) -> Option<Notice> {
+    if words.len() != 2 {
+        return None;
+    }
+    match words.get(1)?.as_str() {
+        "--help" | "-h" => Some(Notice::Help),
+        "--version" | "-V" => Some(Notice::Version),
+        _ => None,
+    }
+}
+
+// Prints the help or the version.
+fn told<R: Print>(rt: &R, notice: Notice) -> ExitCode {
+    let done = match notice {
+        Notice::Help => rt.print(HELP),
+        Notice::Version => println!(rt; "factoplan {VERSION}"),
+    };
+    match done {
+        Ok(()) => ExitCode::SUCCESS,
+        Err(_) => ExitCode::from(Status::WriteFault.exit()),
+    }
+}
+
+// The end of the run that the words ask for, of which is told what is to be said.
+fn end_of<R: Files + Print + Eprint + Clock + AllocGlobal>(
+    rt: &R,
+    alloc: Global,
+    words: &[Text],
+    is_shown: bool,
+) -> ExitCode {
+    let ended = ran(rt, alloc, words, is_shown);
+    let exit = ended.status.exit();
+    tell(rt, alloc, words, ended);
+    ExitCode::from(exit)
+}
+
+// The end of a program for whose words there is no memory.
+fn no_memory<R: Files + Eprint + AllocGlobal>(rt: &R, alloc: Global) -> ExitCode {
+    let ended = Run {
+        status: Status::NoMemory,
+        unread: None,
+        answers: Vec::new(alloc),
+        script: None,
+    };
+    tell(rt, alloc, &[], ended);
+    ExitCode::from(Status::NoMemory.exit())
 }
 
 fn main(rt: HostRuntime) -> ExitCode {
     let alloc = rt.alloc();
     // A terminal that has the report itself shows how far the run is.
     let is_shown = rt.stderr().is_terminal() && !rt.stdout().is_terminal();
-    let (status, words) = match program_words(&rt, alloc) {
-        Ok(words) => (ended(&rt, alloc, &words, is_shown), words),
-        Err(NoMemory) => (Status::NoMemory, Vec::new(alloc)),
-    };
-    if let Some(said) = said(&rt, alloc, &status, &words) {
-        // Where nothing can be said, the status still tells.
-        let _ = rt.eprint(said.as_str());
+    match program_words(&rt, alloc) {
+        Ok(words) => match notice_in(&words) {
+            Some(notice) => told(&rt, notice),
+            None => end_of(&rt, alloc, &words, is_shown),
+        },
+        Err(NoMemory) => no_memory(&rt, alloc),
     }
-    ExitCode::from(status.exit())
 }

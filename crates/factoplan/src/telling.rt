@@ -3,12 +3,12 @@
 use cli_words::{PlainWords, plain_words};
 use craft_reader::DumpCode;
 use plan_base::Text;
+use plan_io::HostFault;
 use planner_cli::{DUMP_LIMIT, Status};
-use run_hints::{dump_name, hint, script_name, unread_hint};
+use run_hints::{dump_name, hint, unread_hint};
 use std::alloc::Global;
-use std::fs::File;
+use std::fs;
 use std::rt::Files;
-use std::{fs, io};
 
 // The bytes of a dump whose text is no JSON, to tell the line and the column. What isn't kept, as a pipe, isn't read again.
 fn faulty_dump<R: Files + AllocGlobal>(rt: &R, status: &Status, words: &[Text]) -> Option<Vec<u8>> {
@@ -27,49 +27,31 @@ fn faulty_dump<R: Files + AllocGlobal>(rt: &R, status: &Status, words: &[Text]) 
     }
 }
 
-// Why a file can't be read, where that can be told.
-fn read_error<R: Files>(rt: &R, name: &str) -> Option<io::Error> {
-    match File::open(rt, name) {
-        Ok(_) => {
-            let folder = fs::metadata(rt, name).ok()?.is_dir();
-            if folder {
-                Some(io::ErrorKind::IsADirectory.into())
-            } else {
-                None
-            }
-        }
-        Err(error) => Some(error),
-    }
+/// What is said of the first call of a store that failed, where the name of its file is known.
+pub fn unread(alloc: Global, fault: &Option<HostFault>) -> Option<Text> {
+    let fault = fault.as_ref()?;
+    let name = fault.name.as_ref()?;
+    let cause = &fault.cause;
+    let why = format!(in alloc; "{cause}").ok()?;
+    unread_hint(alloc, name.as_str(), why.as_str()).ok()
 }
 
-// What is said of a file that can't be read, or None where it can.
-fn unread<R: Files>(rt: &R, alloc: Global, name: Option<&str>) -> Option<Text> {
-    let name = name?;
-    let error = read_error(rt, name)?;
-    let why = format!(in alloc; "{error}").ok()?;
-    unread_hint(alloc, name, why.as_str()).ok()
-}
-
-/// What is said of a run that ended so, or None where memory could not be had.
+/// What is said of a run that ended so, by its words and by what is to be said of a file that could not be read. None where memory
+/// could not be had.
 pub fn said<R: Files + AllocGlobal>(
     rt: &R,
     alloc: Global,
     status: &Status,
     words: &[Text],
+    unread: Option<Text>,
 ) -> Option<Text> {
-    let PlainWords { words, cert } = plain_words(alloc, words).ok()?;
-    let cert = cert.as_ref().map(|name| name.as_str());
     if let Status::ReadFault = status {
-        if let Some(said) = unread(rt, alloc, dump_name(&words)) {
-            return Some(said);
-        }
-        if let Some(said) = unread(rt, alloc, script_name(&words)) {
-            return Some(said);
-        }
-        if let Some(said) = unread(rt, alloc, cert) {
-            return Some(said);
+        if unread.is_some() {
+            return unread;
         }
     }
+    let PlainWords { words, cert } = plain_words(alloc, words).ok()?;
+    let cert = cert.as_ref().map(|name| name.as_str());
     let dump = faulty_dump(rt, status, &words);
     hint(alloc, status, &words, cert, dump.as_deref()).ok()
 }

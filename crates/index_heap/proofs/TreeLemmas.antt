@@ -1,9 +1,10 @@
 -- Writing one place of the tree.
 use Rattle.std.proofs.Common.{◌≡◌, ◌≢◌, ◌⊎◌, true, false, zero, suc, ℕ, ◌+◌, ◌-◌, ◌*◌, ◌/◌, ◌<◌, ◌≤◌, List, Option, None, Some, length, set, refl, sym, ◌∙◌, ap, ap₂, subst, arith, inl, inr, length-set, IfSome, IfNone, get_or-set_same, get_or-set_other}
-use Rattle.std.proofs.lemmas.Bool.{cases_lt, cases_eq, cases_Bool}
+use Rattle.std.proofs.lemmas.Bool.{cases_lt, cases_eq, cases_Bool, eqb-true, eqb-false}
+use Rattle.std.proofs.lemmas.List.{set-set, set_comm, set-get_or}
 use Rattle.std.proofs.lemmas.Bool.Decides.{nat_tests}
 use Rattle.index_heap.specs.Keys.{key_at, IsLeastAt}
-use Rattle.index_heap.specs.Tree.{entry_at, comes_first, lesser_entry, with_node, IsLesserAt, AreLesserBut, AreLesser, IsTree}
+use Rattle.index_heap.specs.Tree.{entry_at, comes_first, lesser_entry, may_wait, with_node, without, IsLesserAt, AreLesserBut, AreLesser, IsHeap, IsTree}
 
 pub entry-set_other : (tree : List (Option (ℕ × ℕ))) (p i : ℕ) (x : Option (ℕ × ℕ)) → i ≢ p → entry_at (set tree p x) i ≡ entry_at tree i
 entry-set_other tree p i x ne = get_or-set_other tree p i x None ne
@@ -26,6 +27,14 @@ climb-step tree n p x long pos lt h e = λ i q in_i ne.
           (get_or-set_same tree p x None (omega arith)
           ∙ (e ∙ ap₂ (λ r s. lesser_entry r s) (sym (entry-set_other tree p (2 * p) x (λ z. omega arith))) (sym (entry-set_other tree p (2 * p + 1) x (λ z. omega arith)))))
       | inr other ↦ lesser-kept tree p i x other (λ z. ne (omega arith)) (λ z. ne (omega arith)) (h i q in_i other)
+    ]
+
+-- a place that stays as it is ends the climb
+pub climb-ends : (tree : List (Option (ℕ × ℕ))) (n p : ℕ) → AreLesserBut tree n p → entry_at tree p ≡ lesser_entry (entry_at tree (2 * p)) (entry_at tree (2 * p + 1)) → AreLesser tree n
+climb-ends tree n p h e = λ i q lt.
+    elim (cases_eq i p) [
+      | inl same ↦ subst (λ k. IsLesserAt tree k) (sym same) e
+      | inr other ↦ h i q lt other
     ]
 
 -- the order of entries
@@ -167,3 +176,133 @@ IfSome-least n keys tree pos is (Some p) e = least-at n keys tree p pos is e
 pub IfNone-least : (n : ℕ) (keys : List (Option ℕ)) (tree : List (Option (ℕ × ℕ))) → IsTree n keys tree → (o : Option (ℕ × ℕ)) → entry_at tree 1 ≡ o → IfNone o ((v : ℕ) → v < n → key_at keys v ≡ None)
 IfNone-least n keys tree is None e = λ v lt. none-at n keys tree is e v lt (key_at keys v) refl
 IfNone-least n keys tree is (Some p) e = tt
+
+-- the tree beside which a node may wait
+
+pub waits-alone : (keys : List (Option ℕ)) (node : ℕ) (key : Option ℕ) → without (with_node key node) (set keys node key) ≡ set keys node None
+waits-alone keys node None = refl
+waits-alone keys node (Some k) = set-set keys node (Some k) None
+
+pub freed : (keys : List (Option ℕ)) (waiting : Option (ℕ × ℕ)) (node : ℕ) (key : Option ℕ) → key_at keys node ≡ key → may_wait waiting node key ≡ true → without waiting keys ≡ set keys node None
+freed keys None node None e h = sym (ap (λ o. set keys node o) (sym e) ∙ set-get_or keys node None)
+freed keys None node (Some k) e h = cc
+freed keys (Some p) node key e h = ap (λ v. set keys v None) (eqb-true p.1 node h)
+
+pub waits-here : (keys : List (Option ℕ)) (node : ℕ) (key : Option ℕ) → node < length keys → IfSome (with_node key node) (λ p. (p.1 < length (set keys node key)) × (key_at (set keys node key) p.1 ≡ Some p.0))
+waits-here keys node None lt = tt
+waits-here keys node (Some k) lt = (omega (arith, length-set keys node (Some k)), get_or-set_same keys node (Some k) None lt)
+
+-- the node waits with its next key, or no longer
+pub heap-waits : (keys : List (Option ℕ)) (tree : List (Option (ℕ × ℕ))) (waiting : Option (ℕ × ℕ)) (node : ℕ) (key : Option ℕ) → node < length keys → IsHeap keys tree waiting → may_wait waiting node (key_at keys node) ≡ true → IsHeap (set keys node key) tree (with_node key node)
+heap-waits keys tree waiting node key lt is h = record {
+  others = subst (λ (n : ℕ). IsTree n (without (with_node key node) (set keys node key)) tree) (sym (length-set keys node key))
+      (subst (λ (ks : List (Option ℕ)). IsTree (length keys) ks tree) (freed keys waiting node (key_at keys node) refl h ∙ sym (waits-alone keys node key)) is.others);
+  waits = waits-here keys node key lt;
+}
+
+-- the node has its next key already
+pub heap-stays : (keys : List (Option ℕ)) (tree : List (Option (ℕ × ℕ))) (waiting : Option (ℕ × ℕ)) (node : ℕ) (key : Option ℕ) → IsHeap keys tree waiting → key_at keys node ≡ key → IsHeap (set keys node key) tree waiting
+heap-stays keys tree waiting node key is e = subst (λ (ks : List (Option ℕ)). IsHeap ks tree waiting) (sym (ap (λ o. set keys node o) (sym e) ∙ set-get_or keys node None)) is
+
+-- another node waits, or none does
+pub without-other : (keys : List (Option ℕ)) (waiting : Option (ℕ × ℕ)) (node : ℕ) (kept key : Option ℕ) → may_wait waiting node kept ≡ false → without waiting (set keys node key) ≡ set (without waiting keys) node key
+without-other keys None node kept key h = refl
+without-other keys (Some p) node kept key h = set_comm keys node p.1 key None (λ e. eqb-false p.1 node h (sym e))
+
+pub waits-on : (keys : List (Option ℕ)) (waiting : Option (ℕ × ℕ)) (node : ℕ) (kept key : Option ℕ) → may_wait waiting node kept ≡ false → IfSome waiting (λ p. (p.1 < length keys) × (key_at keys p.1 ≡ Some p.0)) → IfSome waiting (λ p. (p.1 < length (set keys node key)) × (key_at (set keys node key) p.1 ≡ Some p.0))
+waits-on keys None node kept key h w = tt
+waits-on keys (Some p) node kept key h w = (omega (arith, length-set keys node key, w.0), get_or-set_other keys node p.1 key None (λ e. eqb-false p.1 node h e) ∙ w.1)
+
+pub length-without : (waiting : Option (ℕ × ℕ)) (keys : List (Option ℕ)) → length (without waiting keys) ≡ length keys
+length-without None keys = refl
+length-without (Some p) keys = length-set keys p.1 None
+
+-- the tree has the node's next key
+pub heap-written : (keys : List (Option ℕ)) (tree new : List (Option (ℕ × ℕ))) (waiting : Option (ℕ × ℕ)) (node : ℕ) (key : Option ℕ) → node < length keys → IsHeap keys tree waiting → may_wait waiting node (key_at keys node) ≡ false → length new ≡ 2 * length keys → AreLesser new (length keys) → entry_at new (length keys + node) ≡ with_node key node → ((i : ℕ) → length keys ≤ i → i < 2 * length keys → (i ≡ length keys + node → ⊥) → entry_at new i ≡ entry_at tree i) → IsHeap (set keys node key) new waiting
+heap-written keys tree new waiting node key lt is h long inner here others = record {
+  others = subst (λ (n : ℕ). IsTree n (without waiting (set keys node key)) new) (sym (length-set keys node key))
+      (subst (λ (ks : List (Option ℕ)). IsTree (length keys) ks new) (sym (without-other keys waiting node (key_at keys node) key h))
+      (tree-written (length keys) (without waiting keys) tree new node key lt is.others long inner here others));
+  waits = waits-on keys waiting node (key_at keys node) key h is.waits;
+}
+
+-- the least of the tree and of the node that waits
+
+abbrev pub IsLeastOf : List (Option ℕ) → Option (ℕ × ℕ) → Type 0
+IsLeastOf keys o = IfSome o (λ pair. IsLeastAt keys (length keys) pair.1 pair.0) × IfNone o ((v : ℕ) → v < length keys → key_at keys v ≡ None)
+
+pub none_key : (o : Option ℕ) (k : ℕ) → o ≡ None → o ≡ Some k → ⊥
+none_key o k e f = cc
+
+-- a node that has a key waits, or is among the others
+pub other_key : (keys : List (Option ℕ)) (p : ℕ × ℕ) (v k : ℕ) → key_at keys p.1 ≡ Some p.0 → key_at keys v ≡ Some k → ((v ≡ p.1) × (k ≡ p.0)) ⊎ ((v ≢ p.1) × (key_at (set keys p.1 None) v ≡ Some k))
+other_key keys p v k e at =
+    elim (cases_eq v p.1) [
+      | inl same ↦ inl (same, (let f : Some k ≡ Some p.0 = sym at ∙ (ap (λ i. key_at keys i) same ∙ e) in cc))
+      | inr other ↦ inr (other, get_or-set_other keys p.1 v None None other ∙ at)
+    ]
+
+waits-first : (keys : List (Option ℕ)) (p q : ℕ × ℕ) → p.1 < length keys → key_at keys p.1 ≡ Some p.0 → IsLeastAt (set keys p.1 None) (length keys) q.1 q.0 → comes_first p q ≡ true → IsLeastAt keys (length keys) p.1 p.0
+waits-first keys p q lt e is first =
+    let t : (p.0 < q.0) ⊎ ((p.0 ≡ q.0) × (p.1 ≤ q.1)) = comes_first-tells p.0 p.1 q.0 q.1 first in
+    record {
+      inside = lt;
+      here = e;
+      least = λ m k below at. elim (other_key keys p m k e at) [
+        | inl own ↦ omega (arith, own.1)
+        | inr other ↦ let le : q.0 ≤ k = is.least m k below other.1 in elim t [ inl less ↦ omega arith | inr same ↦ omega (arith, same.0) ]
+      ];
+      lowest = λ m k below at. elim (other_key keys p m k e at) [
+        | inl own ↦ absurd (omega (arith, own.0))
+        | inr other ↦ let le : q.0 ≤ k = is.least m k (omega arith) other.1 in elim t [
+          | inl less ↦ omega arith
+          | inr same ↦ let l : q.0 < k = is.lowest m k (omega (arith, same.1)) other.1 in omega (arith, same.0)
+        ]
+      ];
+    }
+
+tree-first : (keys : List (Option ℕ)) (p q : ℕ × ℕ) → p.1 < length keys → key_at keys p.1 ≡ Some p.0 → IsLeastAt (set keys p.1 None) (length keys) q.1 q.0 → comes_first p q ≡ false → IsLeastAt keys (length keys) q.1 q.0
+tree-first keys p q lt e is first =
+    let t : (q.0 < p.0) ⊎ ((q.0 ≡ p.0) × (q.1 ≤ p.1)) = comes_first-tells q.0 q.1 p.0 p.1 (comes_first-total p.0 p.1 q.0 q.1 first) in
+    let apart : q.1 ≢ p.1 = λ same. none_key (key_at (set keys p.1 None) q.1) q.0 (ap (λ i. key_at (set keys p.1 None) i) same ∙ get_or-set_same keys p.1 None None lt) is.here in
+    record {
+      inside = is.inside;
+      here = sym (get_or-set_other keys p.1 q.1 None None apart) ∙ is.here;
+      least = λ m k below at. elim (other_key keys p m k e at) [
+        | inl own ↦ elim t [ inl less ↦ omega (arith, own.1) | inr same ↦ omega (arith, own.1, same.0) ]
+        | inr other ↦ is.least m k below other.1
+      ];
+      lowest = λ m k below at. elim (other_key keys p m k e at) [
+        | inl own ↦ elim t [ inl less ↦ omega (arith, own.1) | inr same ↦ absurd (omega (arith, own.0, same.1)) ]
+        | inr other ↦ is.lowest m k below other.1
+      ];
+    }
+
+waits-only : (keys : List (Option ℕ)) (p : ℕ × ℕ) → p.1 < length keys → key_at keys p.1 ≡ Some p.0 → ((v : ℕ) → v < length keys → key_at (set keys p.1 None) v ≡ None) → IsLeastAt keys (length keys) p.1 p.0
+waits-only keys p lt e none = record {
+  inside = lt;
+  here = e;
+  least = λ m k below at. elim (other_key keys p m k e at) [
+    | inl own ↦ omega (arith, own.1)
+    | inr other ↦ absurd (none_key (key_at (set keys p.1 None) m) k (none m below) other.1)
+  ];
+  lowest = λ m k below at. elim (other_key keys p m k e at) [
+    | inl own ↦ absurd (omega (arith, own.0))
+    | inr other ↦ absurd (none_key (key_at (set keys p.1 None) m) k (none m (omega arith)) other.1)
+  ];
+}
+
+least-both : (keys : List (Option ℕ)) (p : ℕ × ℕ) (o : Option (ℕ × ℕ)) → p.1 < length keys → key_at keys p.1 ≡ Some p.0 → IfSome o (λ pair. IsLeastAt (set keys p.1 None) (length keys) pair.1 pair.0) → IfNone o ((v : ℕ) → v < length keys → key_at (set keys p.1 None) v ≡ None) → IsLeastOf keys (lesser_entry (Some p) o)
+least-both keys p None lt e some none = (waits-only keys p lt e none, tt)
+least-both keys p (Some q) lt e some none =
+    elim (cases_Bool (comes_first p q)) [
+      | inl first ↦ rw first (waits-first keys p q lt e some first, tt)
+      | inr second ↦ rw second (tree-first keys p q lt e some second, tt)
+    ]
+
+pub heap-least : (keys : List (Option ℕ)) (tree : List (Option (ℕ × ℕ))) (waiting : Option (ℕ × ℕ)) → 0 < length keys → IsHeap keys tree waiting → IsLeastOf keys (lesser_entry waiting (entry_at tree 1))
+heap-least keys tree None pos is = (IfSome-least (length keys) keys tree pos is.others (entry_at tree 1) refl, IfNone-least (length keys) keys tree is.others (entry_at tree 1) refl)
+heap-least keys tree (Some p) pos is =
+    least-both keys p (entry_at tree 1) is.waits.0 is.waits.1
+    (IfSome-least (length keys) (set keys p.1 None) tree pos is.others (entry_at tree 1) refl)
+    (IfNone-least (length keys) (set keys p.1 None) tree is.others (entry_at tree 1) refl)

@@ -2,8 +2,9 @@
 #![tactic(auto)]
 
 ghost use Rattle.std.specs.Prelude.{◌≡◌, ℕ, ◌+◌, ◌*◌, ◌<◌, ◌≤◌, ◌↔◌, None, Some, length, slice_set, replicate, IfOk, IfSome, IfNone, IsTrue};
+ghost use Rattle.std.specs.Bool.{OnTrue};
 ghost use Rattle.index_heap.specs.Keys.{key_at, IsLeastAt, HasNoKeys};
-ghost use Rattle.index_heap.specs.Tree.{entry_at, lesser_entry, with_node, AreLesser, IsTree};
+ghost use Rattle.index_heap.specs.Tree.{entry_at, lesser_entry, may_wait, with_node, AreLesser, IsHeap};
 
 use plan_base::{NoMemory, NodeId};
 use std::alloc::Global;
@@ -28,7 +29,20 @@ fn lesser_entry(a: Option<(u32, u32)>, b: Option<(u32, u32)>) -> Option<(u32, u3
     }
 }
 
-/// Puts an entry at a leaf, and the lesser entries above it.
+/// Whether two entries are the same.
+fn is_same_entry(a: Option<(u32, u32)>, b: Option<(u32, u32)>) -> bool
+    ensures { OnTrue result (a ≡ b) }
+{
+    match a {
+        None => b.is_none(),
+        Some(p) => match b {
+            None => false,
+            Some(q) => p.0 == q.0 && p.1 == q.1,
+        },
+    }
+}
+
+/// Puts an entry at a leaf, and the lesser entries above it, up to the first of these that stays.
 fn put(tree: &mut [Option<(u32, u32)>], n: usize, at: usize, entry: Option<(u32, u32)>)
     requires long { length tree.old ≡ 2 * n }
     requires leaf { n ≤ at }
@@ -44,6 +58,9 @@ fn put(tree: &mut [Option<(u32, u32)>], n: usize, at: usize, entry: Option<(u32,
     'climb: while j > 1 {
         j = j / 2;
         let least = lesser_entry(tree[2 * j], tree[2 * j + 1]);
+        if is_same_entry(tree[j], least) {
+            return;
+        }
         tree[j] = least;
     }
 }
@@ -58,28 +75,85 @@ fn with_node(key: Option<u32>, node: u32) -> Option<(u32, u32)>
     }
 }
 
-/// Gives the node this key, or none.
-fn write(keys: &mut [Option<u32>], tree: &mut [Option<(u32, u32)>], node: u32, key: Option<u32>)
-    requires tree { IsTree (length keys.old) keys.old tree.old }
-    requires node { node < length keys.old }
-    ensures tree { IsTree (length keys.old) keys.new tree.new }
-    ensures keys { keys.new ≡ slice_set keys.old node key }
+/// Whether two keys are the same.
+fn is_same_key(a: Option<u32>, b: Option<u32>) -> bool
+    ensures { OnTrue result (a ≡ b) }
 {
+    match a {
+        None => b.is_none(),
+        Some(p) => match b {
+            None => false,
+            Some(q) => p == q,
+        },
+    }
+}
+
+/// Whether a node that has this key can wait beside the tree: it does so, or no node does and it isn't in the tree.
+fn may_wait(waiting: Option<(u32, u32)>, node: u32, key: Option<u32>) -> bool
+    ensures { result ≡ may_wait waiting node key }
+{
+    match waiting {
+        Some(entry) => entry.1 == node,
+        None => key.is_none(),
+    }
+}
+
+/// Readies the tree, and who waits beside it, for the node's next key. Where one node after another gets a key and loses it,
+/// the tree stays as it is.
+fn place(
+    keys: &[Option<u32>],
+    tree: &mut [Option<(u32, u32)>],
+    waiting: &mut Option<(u32, u32)>,
+    node: u32,
+    key: Option<u32>,
+)
+    requires heap { IsHeap keys.now tree.old waiting.old }
+    requires node { node < length keys.now }
+    ensures { IsHeap (slice_set keys.now node key) tree.new waiting.new }
+{
+    let kept = keys[node as usize];
+    if may_wait(*waiting, node, kept) {
+        *waiting = with_node(key, node);
+        return;
+    }
+    if is_same_key(kept, key) {
+        return;
+    }
     let n = keys.len();
     put(tree, n, n + node as usize, with_node(key, node));
+}
+
+/// Gives the node this key, or none.
+fn write(
+    keys: &mut [Option<u32>],
+    tree: &mut [Option<(u32, u32)>],
+    waiting: &mut Option<(u32, u32)>,
+    node: u32,
+    key: Option<u32>,
+)
+    requires heap { IsHeap keys.old tree.old waiting.old }
+    requires node { node < length keys.old }
+    ensures heap { IsHeap keys.new tree.new waiting.new }
+    ensures keys { keys.new ≡ slice_set keys.old node key }
+{
+    place(keys, tree, waiting, node, key);
     keys[node as usize] = key;
 }
 
 /// The entry of the least key, the lower node among equals.
-fn least(keys: &[Option<u32>], tree: &[Option<(u32, u32)>]) -> Option<(u32, u32)>
-    requires { IsTree (length keys.now) keys.now tree.now }
+fn least(
+    keys: &[Option<u32>],
+    tree: &[Option<(u32, u32)>],
+    waiting: Option<(u32, u32)>,
+) -> Option<(u32, u32)>
+    requires { IsHeap keys.now tree.now waiting }
     ensures some { IfSome result (λ pair. IsLeastAt keys.now (length keys.now) pair.1 pair.0) }
     ensures none { IfNone result (HasNoKeys keys.now) }
 {
     if keys.len() == 0 {
         return None;
     }
-    tree[1]
+    lesser_entry(waiting, tree[1])
 }
 
 /// Nodes below a number, some of which have a key. It is seen as the list of their keys.
@@ -87,17 +161,18 @@ fn least(keys: &[Option<u32>], tree: &[Option<(u32, u32)>]) -> Option<(u32, u32)
 pub struct Heap {
     keys: Vec<Option<u32>>,
     tree: Vec<Option<(u32, u32)>>,
+    waiting: Option<(u32, u32)>,
 }
 
 impl Model for Heap {
-    ghost use Rattle.std.specs.Prelude.{List, Option, ℕ, length};
-    ghost use Rattle.index_heap.specs.Tree.{IsTree};
+    ghost use Rattle.std.specs.Prelude.{List, Option, ℕ};
+    ghost use Rattle.index_heap.specs.Tree.{IsHeap};
 
     ghost Value = { List (Option ℕ) };
 
     ghost view = { λ h. h.keys.items };
 
-    ghost invariant = { λ h. IsTree (length h.keys.items) h.keys.items h.tree.items };
+    ghost invariant = { λ h. IsHeap h.keys.items h.tree.items h.waiting };
 }
 
 impl Heap {
@@ -115,7 +190,11 @@ impl Heap {
         let no_entry: Option<(u32, u32)> = None;
         let keys = vec![in alloc; none; n as usize]?;
         let tree = vec![in alloc; no_entry; 2 * n as usize]?;
-        Ok(Heap { keys, tree })
+        Ok(Heap {
+            keys,
+            tree,
+            waiting: None,
+        })
     }
 
     /// Gives the node this key.
@@ -123,7 +202,13 @@ impl Heap {
         requires { node.0 < length self.old }
         ensures { self.new ≡ slice_set self.old node.0 (Some key) }
     {
-        write(&mut self.keys, &mut self.tree, node.0, Some(key));
+        write(
+            &mut self.keys,
+            &mut self.tree,
+            &mut self.waiting,
+            node.0,
+            Some(key),
+        );
     }
 
     /// Takes the node's key away.
@@ -131,14 +216,20 @@ impl Heap {
         requires { node.0 < length self.old }
         ensures { self.new ≡ slice_set self.old node.0 None }
     {
-        write(&mut self.keys, &mut self.tree, node.0, None);
+        write(
+            &mut self.keys,
+            &mut self.tree,
+            &mut self.waiting,
+            node.0,
+            None,
+        );
     }
 
     /// Whether no node has a key.
     pub fn is_empty(&self) -> bool
         ensures { IsTrue result ↔ HasNoKeys self.now }
     {
-        least(&self.keys, &self.tree).is_none()
+        least(&self.keys, &self.tree, self.waiting).is_none()
     }
 
     /// The key of the node, where it has one.
@@ -156,10 +247,10 @@ impl Heap {
         ensures some { IfSome result (λ pair. self.new ≡ slice_set self.old pair.0.0 None) }
         ensures least { IfSome result (λ pair. IsLeastAt self.old (length self.old) pair.0.0 pair.1) }
     {
-        match least(&self.keys, &self.tree) {
+        match least(&self.keys, &self.tree, self.waiting) {
             None => None,
             Some((key, node)) => {
-                write(&mut self.keys, &mut self.tree, node, None);
+                self.drop_key(NodeId(node));
                 Some((NodeId(node), key))
             }
         }

@@ -39,7 +39,7 @@ fn copies_file<S: Store, K: Sink>(store: &mut S, out: &mut K) -> bool
 }
 
 fn main(rt: HostRuntime) -> ExitCode {
-    let mut store = HostStore::make(&rt);
+    let mut store = HostStore::make(rt.alloc(), &rt);
     let mut out = HostSink::make(&rt);
     ExitCode::from(u8::from(!copies_file(&mut store, &mut out)))
 }

@@ -1,22 +1,21 @@
 -- Places of names in a list of strings.
-use Rattle.std.proofs.Common.{option_map, ◌≤◌, subst, ◌≡◌, ℕ, ◌+◌, ◌∙◌, sym, Bool, true, false, cond, List, [], ◌∷◌, ◌++◌, None, Some, String, length, ◌<◌, map, not, string_bytes, refl, ap, arith}
-use Rattle.std.specs.List.{prefix_len, position, position_or_len, list_any, IsDistinct}
+use Rattle.std.proofs.Common.{option_map, ◌≡◌, ℕ, ◌+◌, ◌∙◌, sym, Bool, true, false, cond, List, [], ◌∷◌, ◌++◌, None, Some, String, length, ◌<◌, map, not, string_bytes, refl, ap, arith}
+use Rattle.std.specs.List.{prefix_len, position, position_or_len, list_any, IsDistinct, AllByRecursion}
 use Rattle.std.specs.Str.{bytes_eq}
 use Rattle.std.specs.String.{string_eq}
-use Rattle.std.specs.HashMap.{HashMap, Updates, get_by_text}
-use Rattle.std.proofs.lemmas.Cmp.{nat_list_eq_equiv}
-use Rattle.std.proofs.lemmas.Map.Text.{hash_map_updates_text}
+use Rattle.indexmap.specs.IndexMap.{insert_entry}
+use Rattle.std.specs.Map.{keys_of}
 use Rattle.std.proofs.lemmas.Grind.{common_steps}
-use Rattle.std.proofs.lemmas.List.{map-append}
+use Rattle.std.proofs.lemmas.List.{length-append, map-append}
 use Rattle.std.proofs.lemmas.List.Folds.{prefix_len-append}
 use Rattle.std.proofs.lemmas.List.Sums.{prefix_len-le-length}
 use Rattle.std.proofs.lemmas.List.Quantifiers.{position-Some}
 use Rattle.std.proofs.lemmas.List.Sums.{position_or_len_is}
 use Rattle.std.proofs.lemmas.Slice.Eq.{bytes_eq-Decides}
 use Rattle.std.proofs.lemmas.Option.{slice_get-map, slice_get-get_or, slice_get_within, get_or_from_slice_get}
-use Rattle.std.specs.Prelude.{IfSome, Option, slice_get, get_or}
-use Rattle.std.proofs.lemmas.Map.Keys.{apart_from_distinct, IsDistinct-push}
-use Rattle.name_table.specs.Names.{place_of, AreDifferent, IsIndex}
+use Rattle.std.specs.Prelude.{slice_get, get_or}
+use Rattle.std.proofs.lemmas.Map.Keys.{apart_from_distinct, IsDistinct-head, IsDistinct-tail, IsDistinct-cons}
+use Rattle.name_table.specs.Names.{place_of, AreDifferent}
 
 -- how many pass from the front on, of what f gives
 pub prefix_len-map : {X Y : Type 0} (f : X → Y) (p : Y → Bool) → (xs : List X) → prefix_len p (map f xs) ≡ prefix_len (λ x. p (f x)) xs
@@ -48,58 +47,46 @@ place_of-append names name same none =
     let all = no_place (bytes_eq name) names none in
     grind (arith, common_steps, same, all, prefix_len-append (λ x. not (bytes_eq name x)) names (name ∷ []))
 
--- a name that is put at the end changes no other name's place
-place_of-other : (names : List (List ℕ)) (name other : List ℕ) → bytes_eq other name ≡ false → place_of (names ++ name ∷ []) other ≡ place_of names other
-place_of-other names name other differ =
-    grind (arith, common_steps, differ, prefix_len-append (λ x. not (bytes_eq other x)) names (name ∷ []), prefix_len-le-length (λ x. not (bytes_eq other x)) names)
-
--- no names, and a map with no entries
-pub nothing_seen : {Z S : Type 0} (names : List (String Z)) (numbers : HashMap (String Z) ℕ S) → names ≡ [] → numbers.entries ≡ []
-    → (length names ≤ 131072) × AreDifferent (map string_bytes names) × IsIndex numbers (map string_bytes names)
+-- strings differ where their bytes do
+pub AreDifferent-map : {Z : Type 0} → (keys : List (String Z)) → IsDistinct string_eq keys → AreDifferent (map string_bytes keys)
 unfolding IsDistinct
-nothing_seen names numbers none empty =
-    (grind (arith, common_steps, none), subst (λ l. AreDifferent (map string_bytes l)) (sym none) tt, λ name. grind (arith, common_steps, none, empty))
+AreDifferent-map [] different = different
+AreDifferent-map {Z = Z} (key ∷ keys) different = IsDistinct-cons bytes_eq (string_bytes key) (map string_bytes keys) (each keys (IsDistinct-head string_eq key keys different)) (AreDifferent-map keys (IsDistinct-tail string_eq key keys different))
+  where
+    each : (others : List (String Z)) → AllByRecursion (λ other. string_eq key other ≡ false) others → AllByRecursion (λ other. bytes_eq (string_bytes key) other ≡ false) (map string_bytes others)
+    each [] all = all
+    each (other ∷ others) all = (all.0, each others all.1)
 
--- a new name at the end differs from all others
-pub different_with : (names : List (List ℕ)) (name : List ℕ) → AreDifferent names → place_of names name ≡ None → AreDifferent (names ++ name ∷ [])
-different_with names name different none = IsDistinct-push nat_list_eq_equiv names name different (none_passes (bytes_eq name) names (no_place (bytes_eq name) names none))
+-- a new string comes last
+pub append-last : {Z : Type 0} (keys : List (String Z)) (key : String Z) → place_of (map string_bytes keys) (string_bytes key) ≡ None → position_or_len (string_eq key) keys ≡ length keys
+append-last keys key none = no_place (string_eq key) keys (sym (position-map string_bytes (bytes_eq (string_bytes key)) keys) ∙ none)
+
+-- an entry whose key is new comes last
+entries_with : {K X : Type 0} (eq : K → K → Bool) (entries : List (K × X)) (key : K) (value : X) → position_or_len (eq key) (keys_of entries) ≡ length (keys_of entries)
+    → insert_entry eq entries key value ≡ entries ++ (key, value) ∷ []
+entries_with eq [] key value all = refl
+entries_with eq (entry ∷ entries) key value all =
+    let step = step_fails (eq key) entry.0 (keys_of entries) all in
+    ap (λ same. cond same ((entry.0, value) ∷ entries) (entry ∷ insert_entry eq entries key value)) step.0 ∙ ap (λ rest. entry ∷ rest) (entries_with eq entries key value step.1)
+
+-- the entries, and the names, after a new string was put in
+pub append-entries : {Z X : Type 0} (old new : List (String Z × X)) (key : String Z) (value : X) → place_of (map string_bytes (keys_of old)) (string_bytes key) ≡ None
+    → new ≡ insert_entry string_eq old key value → new ≡ old ++ (key, value) ∷ []
+append-entries old new key value none is = is ∙ entries_with string_eq old key value (append-last (keys_of old) key none)
+
+pub append-len : {Z X : Type 0} (old new : List (String Z × X)) (key : String Z) (value : X) → place_of (map string_bytes (keys_of old)) (string_bytes key) ≡ None
+    → new ≡ insert_entry string_eq old key value → length new ≡ length old + 1
+append-len old new key value none is =
+    let all = append-entries old new key value none is in
+    grind (arith, common_steps, all, length-append old ((key, value) ∷ []))
+
+pub append-names : {Z X : Type 0} (old new : List (String Z × X)) (key : String Z) (value : X) → new ≡ old ++ (key, value) ∷ [] → map string_bytes (keys_of new) ≡ map string_bytes (keys_of old) ++ string_bytes key ∷ []
+append-names old new key value is =
+    ap (λ entries. map string_bytes (keys_of entries)) is ∙ ap (map string_bytes) (map-append (λ entry. entry.0) old ((key, value) ∷ [])) ∙ map-append string_bytes (keys_of old) (key ∷ [])
 
 pub bytes_eq-same : (bytes : List ℕ) → bytes_eq bytes bytes ≡ true
 bytes_eq-same [] = refl
 bytes_eq-same (byte ∷ bytes) = grind (arith, common_steps, bytes_eq-same bytes)
-
-differs_back : (a b : List ℕ) → bytes_eq a b ≡ false → bytes_eq b a ≡ false
-differs_back a b differ = by_test (bytes_eq b a) refl
-  where
-    by_test : (t : Bool) → bytes_eq b a ≡ t → bytes_eq b a ≡ false
-    by_test false is = is
-    by_test true is = let same : b ≡ a = (bytes_eq-Decides b a).0 is in is ∙ sym (bytes_eq-same a) ∙ sym (ap (bytes_eq a) same) ∙ differ
-
--- the bytes of strings after a string was put at the end
-pub bytes_with : {Z : Type 0} (old new : List (String Z)) (shown : String Z) (name : List ℕ) → new ≡ old ++ shown ∷ [] → string_bytes shown ≡ name → map string_bytes new ≡ map string_bytes old ++ name ∷ []
-bytes_with old new shown name is same = ap (map string_bytes) is ∙ map-append string_bytes old (shown ∷ []) ∙ ap (λ bytes. map string_bytes old ++ bytes ∷ []) same
-
--- the place of the name that was put at the end
-pub place_with : {Z : Type 0} (names : List (String Z)) (name : List ℕ) (number : ℕ) → place_of (map string_bytes names) name ≡ None → number ≡ length names
-    → place_of (map string_bytes names ++ name ∷ []) name ≡ Some number
-place_with names name number none next =
-    let last = place_of-append (map string_bytes names) name (bytes_eq-same name) none in
-    grind (arith, common_steps, last, next)
-
--- the map after a new name's place was put in
-pub index_with : {Z S : Type 0} (old new : HashMap (String Z) ℕ S) (names : List (String Z)) (key : String Z) (name : List ℕ) (number : ℕ) → string_bytes key ≡ name → number ≡ length names
-    → IsIndex old (map string_bytes names) → place_of (map string_bytes names) name ≡ None → Updates string_eq old new key (Some number) → IsIndex new (map string_bytes names ++ name ∷ [])
-index_with old new names key name number is_key next index none updates other = by_test (bytes_eq name other) refl
-  where
-    put : get_by_text new other ≡ cond (bytes_eq name other) (Some number) (get_by_text old other)
-    put = hash_map_updates_text (string_bytes key) old new (Some number) updates other ∙ ap (λ bytes. cond (bytes_eq bytes other) (Some number) (get_by_text old other)) is_key
-
-    by_test : (t : Bool) → bytes_eq name other ≡ t → get_by_text new other ≡ place_of (map string_bytes names ++ name ∷ []) other
-    by_test true is =
-        let same : name ≡ other = (bytes_eq-Decides name other).0 is in
-        put ∙ ap (λ t. cond t (Some number) (get_by_text old other)) is ∙ sym (place_with names name number none next) ∙ ap (place_of (map string_bytes names ++ name ∷ [])) same
-    by_test false is =
-        put ∙ ap (λ t. cond t (Some number) (get_by_text old other)) is ∙ index other ∙ sym (place_of-other (map string_bytes names) name other (differs_back name other is))
 
 -- what stands at the place of a name is that name
 pub named_at : (names : List (List ℕ)) (name : List ℕ) (k : ℕ) → place_of names name ≡ Some k → slice_get names k ≡ Some name
@@ -107,6 +94,13 @@ named_at names name k found =
     let at = position-Some (bytes_eq name) names k [] found in
     let same : name ≡ get_or names k [] = (bytes_eq-Decides name (get_or names k [])).0 at.1 in
     slice_get-get_or names k [] at.0 ∙ ap Some (sym same)
+
+differs_back : (a b : List ℕ) → bytes_eq a b ≡ false → bytes_eq b a ≡ false
+differs_back a b differ = by_test (bytes_eq b a) refl
+  where
+    by_test : (t : Bool) → bytes_eq b a ≡ t → bytes_eq b a ≡ false
+    by_test false is = is
+    by_test true is = let same : b ≡ a = (bytes_eq-Decides b a).0 is in is ∙ sym (bytes_eq-same a) ∙ sym (ap (bytes_eq a) same) ∙ differ
 
 -- among different names, the place of what stands at a place is that place
 pub placed_at : (names : List (List ℕ)) (name : List ℕ) (k : ℕ) → AreDifferent names → slice_get names k ≡ Some name → place_of names name ≡ Some k
@@ -117,15 +111,6 @@ placed_at names name k different at =
     (λ i before. ap (λ n. bytes_eq n (get_or names i [])) (sym same) ∙ differs_back (get_or names i []) (get_or names k []) (apart_from_distinct bytes_eq names i k [] different before within))
     (λ _. ap (bytes_eq name) same ∙ bytes_eq-same name) in
     grind (arith, common_steps, is, within)
-
--- a place that was found is one of the list, and the name stands there
-pub found_within : (names : List (List ℕ)) (name : List ℕ) (found : Option ℕ) → found ≡ place_of names name → IfSome found (λ place. place < length names)
-found_within names name None is = tt
-found_within names name (Some place) is = (position-Some (bytes_eq name) names place [] (sym is)).0
-
-pub found_named : (names : List (List ℕ)) (name : List ℕ) (found : Option ℕ) → found ≡ place_of names name → IfSome found (λ place. slice_get names place ≡ Some name)
-found_named names name None is = tt
-found_named names name (Some place) is = named_at names name place (sym is)
 
 -- the bytes of the string at a place
 pub named_in : {Z : Type 0} (names : List (String Z)) (shown : List (List ℕ)) (place : ℕ) (name : String Z) → map string_bytes names ≡ shown → place < length shown → name ≡ get_or names place name

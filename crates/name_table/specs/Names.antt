@@ -1,6 +1,5 @@
 -- Names in the order in which they were first seen.
-use Rattle.std.specs.Prelude.{◌≡◌, ℕ, List, [], ◌∷◌, ◌++◌, Option, String, if◌then◌else◌, is_some, position}
-use Rattle.std.specs.HashMap.{HashMap, get_by_text}
+use Rattle.std.specs.Prelude.{ℕ, List, [], ◌∷◌, ◌++◌, Option, if◌then◌else◌, is_some, position}
 use Rattle.std.specs.List.{IsDistinct}
 use Rattle.std.specs.Str.{bytes_eq}
 
@@ -15,7 +14,3 @@ with_name names name = if is_some (place_of names name) then names else names ++
 -- no name is there twice
 abbrev pub AreDifferent : List (List ℕ) → Type 0
 AreDifferent names = IsDistinct bytes_eq names
-
--- a map that gives each name its place
-abbrev pub IsIndex : {Z S : Type 0} → HashMap (String Z) ℕ S → List (List ℕ) → Type 0
-IsIndex numbers names = (name : List ℕ) → get_by_text numbers name ≡ place_of names name

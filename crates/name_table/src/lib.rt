@@ -1,15 +1,13 @@
 //! Names and their numbers, in the order in which they were first seen.
 #![tactic(auto)]
 
-ghost use Rattle.std.specs.Prelude.{◌≡◌, ◌<◌, ◌≤◌, ◌∷◌, ◌++◌, [], None, Some, Err, IfOk, OnErr, IfSome, length, map, slice_get, string_bytes};
-ghost use Rattle.std.specs.Bool.{OnFalse, OnTrue};
-ghost use Rattle.std.specs.HashMap.{IsUnchanged, Updates, get_by_text};
-ghost use Rattle.std.specs.String.{string_eq};
-ghost use Rattle.name_table.specs.Names.{AreDifferent, IsIndex, place_of, with_name};
+ghost use Rattle.std.specs.Prelude.{◌≡◌, ◌+◌, ◌<◌, ◌≤◌, ◌∷◌, ◌++◌, [], None, Some, Err, IfOk, OnErr, IfSome, IfNone, length, map, slice_get, string_bytes};
+ghost use Rattle.indexmap.specs.IndexMap.{index_map_len, keys};
+ghost use Rattle.name_table.specs.Names.{AreDifferent, place_of, with_name};
 
+use indexmap::IndexMap;
 use plan_base::NoMemory;
-use std::alloc::Global;
-use std::collections::HashMap;
+use std::alloc::{AllocError, AllocFailed, Global};
 use std::marker::Model;
 
 /// The most names that a table holds.
@@ -28,65 +26,42 @@ pub enum NameFault {
 #[derive(Drop)]
 pub struct Names {
     alloc: Global,
-    /// The names, each at its number.
-    names: Vec<String>,
-    /// The number of each name.
-    numbers: HashMap<String, u32>,
+    /// The names in their order, as the keys of a map. `IndexSet` is such a map, but what it states beside would be written into
+    /// every library above.
+    by_name: IndexMap<String, ()>,
 }
 
 impl Model for Names {
-    ghost use Rattle.std.specs.Prelude.{List, ℕ, ◌≤◌, length, map, string_bytes};
-    ghost use Rattle.name_table.specs.Names.{AreDifferent, IsIndex};
+    ghost use Rattle.std.specs.Prelude.{List, ℕ, ◌≤◌, map, string_bytes};
+    ghost use Rattle.indexmap.specs.IndexMap.{index_map_len, keys};
 
     ghost Value = { List (List ℕ) };
 
-    ghost view = { λ n. map string_bytes n.names.items };
+    ghost view = { λ n. map string_bytes (keys n.by_name) };
 
-    ghost invariant = { λ n. (length n.names.items ≤ 131072) × AreDifferent (map string_bytes n.names.items) × IsIndex n.numbers (map string_bytes n.names.items) };
+    ghost invariant = { λ n. index_map_len n.by_name ≤ 131072 };
 }
 
-// The number that the index gives a name.
-fn number_in(numbers: &HashMap<String, u32>, name: &str) -> Option<u32>
-    ensures { result ≡ get_by_text numbers.now name.now }
+// The place of a name.
+fn place_in(by_name: &IndexMap<String, ()>, name: &str) -> Option<usize>
+    ensures place { result ≡ place_of (map string_bytes (keys by_name.now)) name.now }
+    ensures within { IfSome result (λ place. place < index_map_len by_name.now) }
 {
-    numbers.get(name).copied()
+    by_name.get_index_of(name)
 }
 
-// Gives a name its number in the index, or answers false where memory could not be had.
-fn put(numbers: &mut HashMap<String, u32>, key: String, number: u32) -> bool
-    ensures put { OnTrue result (Updates string_eq numbers.old numbers.new key (Some number)) }
-    ensures same { OnFalse result (IsUnchanged numbers.old numbers.new) }
+// Puts a new name at the end, or answers None where memory could not be had.
+fn append(by_name: &mut IndexMap<String, ()>, name: String) -> Option<usize>
+    requires { place_of (map string_bytes (keys by_name.old)) (string_bytes name) ≡ None }
+    ensures place { IfSome result (λ place. place ≡ index_map_len by_name.old) }
+    ensures names { IfSome result (λ place. map string_bytes (keys by_name.new) ≡ map string_bytes (keys by_name.old) ++ string_bytes name ∷ []) }
+    ensures len { IfSome result (λ place. index_map_len by_name.new ≡ index_map_len by_name.old + 1) }
+    ensures same { IfNone result (map string_bytes (keys by_name.new) ≡ map string_bytes (keys by_name.old)) }
 {
-    numbers.insert(key, number).is_ok()
-}
-
-// Puts a new name at the end. After an error the names are as before.
-fn append(
-    names: &mut Vec<String>,
-    numbers: &mut HashMap<String, u32>,
-    alloc: Global,
-    name: &str,
-    number: u32,
-) -> Result<(), NoMemory>
-    requires next { number ≡ length names.old.items }
-    requires indexed { IsIndex numbers.old (map string_bytes names.old.items) }
-    requires apart { AreDifferent (map string_bytes names.old.items) }
-    requires unseen { place_of (map string_bytes names.old.items) name.now ≡ None }
-    ensures place { IfOk result (λ done. place_of (map string_bytes names.new.items) name.now ≡ Some number) }
-    ensures names { IfOk result (λ done. map string_bytes names.new.items ≡ map string_bytes names.old.items ++ name.now ∷ []) }
-    ensures different { IfOk result (λ done. AreDifferent (map string_bytes names.new.items)) }
-    ensures index { IfOk result (λ done. IsIndex numbers.new (map string_bytes names.new.items)) }
-    ensures same_names { OnErr result (names.new.items ≡ names.old.items) }
-    ensures same_numbers { OnErr result (IsIndex numbers.new (map string_bytes names.old.items)) }
-{
-    let shown = String::from_str(alloc, name)?;
-    let key = String::from_str(alloc, name)?;
-    names.push(shown)?;
-    if !put(numbers, key, number) {
-        names.pop();
-        return Err(NoMemory);
-    }
-    Ok(())
+    let Ok((place, _)) = by_name.insert_full(name, ()) else {
+        return None;
+    };
+    Some(place)
 }
 
 impl Names {
@@ -96,8 +71,7 @@ impl Names {
     {
         Names {
             alloc,
-            names: Vec::new(alloc),
-            numbers: HashMap::new(alloc),
+            by_name: IndexMap::new(alloc),
         }
     }
 
@@ -113,17 +87,19 @@ impl Names {
         ensures room { IfOk result (λ id. id < NAME_LIMIT) }
         ensures err { OnErr result (self.new ≡ self.old) }
     {
-        if let Some(number) = number_in(&self.numbers, name) {
-            return Ok(number);
+        if let Some(place) = place_in(&self.by_name, name) {
+            return Ok(place as u32);
         }
-        if self.names.len() >= NAME_LIMIT {
+        if self.by_name.len() >= NAME_LIMIT {
             return Err(NameFault::Full);
         }
-        let number = self.names.len() as u32;
-        let Ok(()) = append(&mut self.names, &mut self.numbers, self.alloc, name, number) else {
+        let Ok(owned) = String::from_str(self.alloc, name) else {
             return Err(NameFault::NoMemory);
         };
-        Ok(number)
+        let Some(place) = append(&mut self.by_name, owned) else {
+            return Err(NameFault::NoMemory);
+        };
+        Ok(place as u32)
     }
 
     /// The number of a name, where it is there.
@@ -132,7 +108,10 @@ impl Names {
         ensures within { IfSome result (λ id. id < length self.now) }
         ensures named { IfSome result (λ id. slice_get self.now id ≡ Some name.now) }
     {
-        number_in(&self.numbers, name)
+        match place_in(&self.by_name, name) {
+            Some(place) => Some(place as u32),
+            None => None,
+        }
     }
 
     /// The name of a number.
@@ -143,7 +122,7 @@ impl Names {
         ensures place { place_of self.now result.now ≡ Some id }
     {
         prove!(id < self.len());
-        self.names[id as usize].as_str()
+        self.by_name.keys().as_slice()[id as usize].as_str()
     }
 
     /// How many names there are.
@@ -152,6 +131,6 @@ impl Names {
         ensures limit { length self.now ≤ NAME_LIMIT }
         ensures different { AreDifferent self.now }
     {
-        self.names.len() as u32
+        self.by_name.len() as u32
     }
 }

@@ -1,6 +1,6 @@
 -- Paths of the solver.
 use Rattle.std.specs.Prelude.{◌≡◌, ℕ, suc, ◌<◌, ◌≤◌, List, [], ◌∷◌, ◌++◌, length, Some}
-use Rattle.std.proofs.Common.{sym, ap, subst, ◌∙◌, arith, set, get_or, Global}
+use Rattle.std.proofs.Common.{sym, ap, subst, ◌∙◌, arith, set, get_or}
 use Rattle.linear_table.specs.System.{System, Entries, AreEntries}
 use Rattle.linear_table.specs.Trail.{Move, IsSettled, HasValues, count_up}
 use Rattle.linear_table.specs.Basis.{system_of, name_at}

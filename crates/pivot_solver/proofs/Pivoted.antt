@@ -1,6 +1,6 @@
 -- What the calls of an exchange of rows make of them.
 use Rattle.std.specs.Prelude.{◌≡◌, ◌≢◌, ℕ, ◌<◌, List, length}
-use Rattle.std.proofs.Common.{sym, ap, subst, ◌∙◌, arith, set, get_or}
+use Rattle.std.proofs.Common.{sym, ap, subst, ◌∙◌, arith, set}
 use Rattle.std.proofs.Math.ListN.{length-set}
 use Rattle.fractions.specs.Fraction.{Fraction, ◌/ʳ◌}
 use Rattle.linear_table.specs.Plans.{number_at}

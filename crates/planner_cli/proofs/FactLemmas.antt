@@ -45,10 +45,9 @@ use Rattle.script_runner.proofs.SessionLemmas.{afresh, grown}
 -- ---- one line
 -- what the line does where no batch is open
 free : (a : Answered) (asked : Command) → IsAnswered a → Asks a asked → IsFree a.before asked a.after a.reply
-unfolding IsStep
 free a asked is asks =
     let step : IsStep a.number a.before asked a.after a.reply = subst (λ (reading : Reading). IsReply a.number a.before reading a.after a.reply) asks.reads is.replied in
-    subst (λ (batch : Option (List Held)). IsStepIn a.number batch a.before asked a.after a.reply) asks.free step
+    subst (λ (batch : Option (List Held)). IsStepIn a.number batch a.before asked a.after a.reply) asks.free step.does
 
 by_rounds : (a : Answered) → IsAnswered a → TellsByRounds a
 by_rounds a is = record {

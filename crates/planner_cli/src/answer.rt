@@ -1,8 +1,5 @@
 // The answers to a script.
 ghost use Rattle.std.specs.Prelude.{◌≡◌, []};
-ghost use Rattle.game_types.specs.declared.games.Game.{Game};
-ghost use Rattle.state_changes.specs.States.{State};
-ghost use Rattle.planner_core.specs.Lines.{first_planned, IsSessionOf};
 ghost use Rattle.script_runner.specs.Leaves.{Leaves};
 ghost use Rattle.script_runner.specs.Scripts.{is_cut};
 ghost use Rattle.planner_cli.specs.Ending.{EndsAnswered};
@@ -11,7 +8,7 @@ ghost use Rattle.run_inputs.specs.Keeping.{KeepsSink};
 use linear_table::SolveAnswer;
 use plan_base::Steps;
 use plan_io::Sink;
-use planner_core::{Planner, state_is_of_the_active_edits};
+use planner_core::Planner;
 use run_inputs::Ready;
 use script_runner::{ScriptEnd, prove_script, run_script};
 use std::alloc::Global;
@@ -26,7 +23,6 @@ fn answer_lent<K: Sink, L>(
     solved: &mut Vec<SolveAnswer>,
     steps: &mut Steps<L>,
 ) -> ScriptEnd
-    requires session { (base : State) × IsSessionOf base planner.old }
     requires none_yet { solved.old.items ≡ [] }
     ensures leaves { Leaves (EndsAnswered prove planner.old script.now solved.new.items) is_cut (K.written out.old) (K.written out.new) steps.old steps.new result }
     ensures sink { KeepsSink (K.limit out.old) (K.limit out.new) (K.faults out.old) (K.faults out.new) (result ≡ ScriptEnd.WriteFault) }
@@ -48,12 +44,9 @@ pub fn answer<K: Sink, L>(
     steps: &mut Steps<L>,
 ) -> ScriptEnd
     requires none_yet { solved.old.items ≡ [] }
-    requires loaded { (game : Game) × (ready.planner ≡ first_planned game) }
     ensures leaves { Leaves (EndsAnswered prove ready.planner ready.script.items solved.new.items) is_cut (K.written out.old) (K.written out.new) steps.old steps.new result }
     ensures sink { KeepsSink (K.limit out.old) (K.limit out.new) (K.faults out.old) (K.faults out.new) (result ≡ ScriptEnd.WriteFault) }
 {
-    // A planner that was just loaded has a history.
-    state_is_of_the_active_edits();
     let Ready {
         mut planner,
         script,

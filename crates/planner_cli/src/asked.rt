@@ -6,7 +6,7 @@ ghost use Rattle.run_inputs.specs.Begun.{BeginsFiles};
 ghost use Rattle.run_inputs.specs.Early.{is_cut};
 ghost use Rattle.planner_cli.specs.Ending.{EndsRun};
 ghost use Rattle.planner_cli.specs.Headline.{TellsOfRun};
-ghost use Rattle.run_inputs.specs.Keeping.{KeepsSink, KeepsStore};
+ghost use Rattle.run_inputs.specs.Keeping.{KeepsSink, KeepsSlots, KeepsStore};
 ghost use Rattle.cli_words.specs.Words.{asked_of};
 
 use crate::modes::{check_files, run_files, run_sample};
@@ -31,6 +31,7 @@ fn run_asked<S: Store, K: Sink, L>(
     requires size { IsMadeSize asked }
     ensures leaves { Leaves (EndsRun (S.shelf store.old) (Some (asked_seen asked.entry)) (steps.new - steps.old) solved.new.items) is_cut (K.written out.old) (K.written out.new) steps.old steps.new result }
     ensures begins { BeginsFiles (S.shelf store.old) (Some (asked_seen asked.entry)) (S.begun store.old) (S.begun store.new) result }
+    ensures slots { KeepsSlots (S.left store.old) (S.left store.new) (S.begun store.old).slots }
     ensures store { KeepsStore (S.shelf store.old) (S.shelf store.new) (S.faults store.old) (S.faults store.new) (result ≡ Status.ReadFault) }
     ensures sink { KeepsSink (K.limit out.old) (K.limit out.new) (K.faults out.old) (K.faults out.new) (result ≡ Status.WriteFault) }
 {
@@ -57,6 +58,7 @@ fn status_of_run<S: Store, K: Sink, L>(
     requires none_yet { solved.old.items ≡ [] }
     ensures leaves { Leaves (EndsRun (S.shelf store.old) (asked_of words.now) (steps.new - steps.old) solved.new.items) is_cut (K.written out.old) (K.written out.new) steps.old steps.new result }
     ensures begins { BeginsFiles (S.shelf store.old) (asked_of words.now) (S.begun store.old) (S.begun store.new) result }
+    ensures slots { KeepsSlots (S.left store.old) (S.left store.new) (S.begun store.old).slots }
     ensures store { KeepsStore (S.shelf store.old) (S.shelf store.new) (S.faults store.old) (S.faults store.new) (result ≡ Status.ReadFault) }
     ensures sink { KeepsSink (K.limit out.old) (K.limit out.new) (K.faults out.old) (K.faults out.new) (result ≡ Status.WriteFault) }
 {
@@ -83,6 +85,7 @@ pub fn run_words<S: Store, K: Sink, L>(
     requires none_yet { solved.old.items ≡ [] }
     ensures leaves { Leaves (TellsOfRun (S.shelf store.old) (asked_of words.now) (steps.new - steps.old) solved.new.items) is_cut (K.written out.old) (K.written out.new) steps.old steps.new result }
     ensures begins { BeginsFiles (S.shelf store.old) (asked_of words.now) (S.begun store.old) (S.begun store.new) result }
+    ensures slots { KeepsSlots (S.left store.old) (S.left store.new) (S.begun store.old).slots }
     ensures store { KeepsStore (S.shelf store.old) (S.shelf store.new) (S.faults store.old) (S.faults store.new) (result ≡ Status.ReadFault) }
     ensures sink { KeepsSink (K.limit out.old) (K.limit out.new) (K.faults out.old) (K.faults out.new) (result ≡ Status.WriteFault) }
 {

@@ -4,21 +4,18 @@ ghost use Rattle.plan_io.specs.Store.{Shelf};
 ghost use Rattle.script_runner.specs.Leaves.{Leaves};
 ghost use Rattle.run_inputs.specs.Begun.{BeginsFiles};
 ghost use Rattle.run_inputs.specs.Early.{is_cut};
-ghost use Rattle.game_types.specs.declared.games.Game.{Game};
 ghost use Rattle.plan_io.specs.Store.{Begun};
-ghost use Rattle.state_changes.specs.States.{State};
-ghost use Rattle.planner_core.specs.Lines.{first_planned, IsSessionOf};
 ghost use Rattle.planner_cli.specs.Ending.{EndsRun, answering};
 ghost use Rattle.run_inputs.specs.Ready.{IsReady};
 ghost use Rattle.run_inputs.specs.Inputs.{IsScript};
-ghost use Rattle.run_inputs.specs.Keeping.{KeepsSink, KeepsStore};
+ghost use Rattle.run_inputs.specs.Keeping.{KeepsSink, KeepsSlots, KeepsStore};
 ghost use Rattle.cli_words.specs.Words.{Check, FileNames, Files, Run, Sample};
 
 use crate::answer::answer;
 use linear_table::SolveAnswer;
 use plan_base::Steps;
 use plan_io::{Sink, Store};
-use planner_core::{Planner, state_is_of_the_active_edits};
+use planner_core::Planner;
 use run_inputs::{
     Ready, Status, is_answered, make_ready, read_entries, read_files, status_of, tell, tell_steps,
 };
@@ -40,6 +37,7 @@ pub fn run_files<S: Store, K: Sink, L>(
     requires none_yet { solved.old.items ≡ [] }
     ensures leaves { Leaves (EndsRun (S.shelf store.old) (Some (Files (answering prove) (record { dump = dump.now; script = script.now }))) (steps.new - steps.old) solved.new.items) is_cut (K.written out.old) (K.written out.new) steps.old steps.new result }
     ensures begins { BeginsFiles (S.shelf store.old) (Some (Files (answering prove) (record { dump = dump.now; script = script.now }))) (S.begun store.old) (S.begun store.new) result }
+    ensures slots { KeepsSlots (S.left store.old) (S.left store.new) (S.begun store.old).slots }
     ensures store { KeepsStore (S.shelf store.old) (S.shelf store.new) (S.faults store.old) (S.faults store.new) (result ≡ Status.ReadFault) }
     ensures sink { KeepsSink (K.limit out.old) (K.limit out.new) (K.faults out.old) (K.faults out.new) (result ≡ Status.WriteFault) }
 {
@@ -60,11 +58,11 @@ fn check_lent<S: Store, K: Sink, L>(
     steps: &mut Steps<L>,
 ) -> Status
     requires calls { (S.begun store.old).calls < 4 }
-    requires session { (base : State) × IsSessionOf base planner.old }
     ensures leaves { (names : FileNames) (first : ℕ) → IsReady (S.shelf store.old) (Some (Files Run names)) planner.old script.now (steps.old - first) → first ≤ steps.old
         → Leaves (EndsRun (S.shelf store.old) (Some (Files (Check cert.now) names)) (steps.new - first) []) is_cut (K.written out.old) (K.written out.new) first steps.new result }
     ensures begins { (names : FileNames) (first : Begun) → IsScript (S.shelf store.old) (Some (Files Run names)) script.now → BeginsFiles (S.shelf store.old) (Some (Files Run names)) first (S.begun store.old) Status.Done
         → BeginsFiles (S.shelf store.old) (Some (Files (Check cert.now) names)) first (S.begun store.new) result }
+    ensures slots { KeepsSlots (S.left store.old) (S.left store.new) (S.begun store.old).slots }
     ensures store { KeepsStore (S.shelf store.old) (S.shelf store.new) (S.faults store.old) (S.faults store.new) (result ≡ Status.ReadFault) }
     ensures sink { KeepsSink (K.limit out.old) (K.limit out.new) (K.faults out.old) (K.faults out.new) (result ≡ Status.WriteFault) }
     ensures later { steps.old ≤ steps.new }
@@ -95,17 +93,15 @@ fn check_ready<S: Store, K: Sink, L>(
     steps: &mut Steps<L>,
 ) -> Status
     requires calls { (S.begun store.old).calls < 4 }
-    requires loaded { (game : Game) × (ready.planner ≡ first_planned game) }
     ensures leaves { (names : FileNames) (first : ℕ) → IsReady (S.shelf store.old) (Some (Files Run names)) ready.planner ready.script.items (steps.old - first) → first ≤ steps.old
         → Leaves (EndsRun (S.shelf store.old) (Some (Files (Check cert.now) names)) (steps.new - first) []) is_cut (K.written out.old) (K.written out.new) first steps.new result }
     ensures begins { (names : FileNames) (first : Begun) → IsScript (S.shelf store.old) (Some (Files Run names)) ready.script.items → BeginsFiles (S.shelf store.old) (Some (Files Run names)) first (S.begun store.old) Status.Done
         → BeginsFiles (S.shelf store.old) (Some (Files (Check cert.now) names)) first (S.begun store.new) result }
+    ensures slots { KeepsSlots (S.left store.old) (S.left store.new) (S.begun store.old).slots }
     ensures store { KeepsStore (S.shelf store.old) (S.shelf store.new) (S.faults store.old) (S.faults store.new) (result ≡ Status.ReadFault) }
     ensures sink { KeepsSink (K.limit out.old) (K.limit out.new) (K.faults out.old) (K.faults out.new) (result ≡ Status.WriteFault) }
     ensures later { steps.old ≤ steps.new }
 {
-    // A planner that was just loaded has a history.
-    state_is_of_the_active_edits();
     let Ready {
         mut planner,
         script,
@@ -126,6 +122,7 @@ pub fn check_files<S: Store, K: Sink, L>(
     requires calls { (S.begun store.old).calls ≤ 1 }
     ensures leaves { Leaves (EndsRun (S.shelf store.old) (Some (Files (Check cert.now) (record { dump = dump.now; script = script.now }))) (steps.new - steps.old) []) is_cut (K.written out.old) (K.written out.new) steps.old steps.new result }
     ensures begins { BeginsFiles (S.shelf store.old) (Some (Files (Check cert.now) (record { dump = dump.now; script = script.now }))) (S.begun store.old) (S.begun store.new) result }
+    ensures slots { KeepsSlots (S.left store.old) (S.left store.new) (S.begun store.old).slots }
     ensures store { KeepsStore (S.shelf store.old) (S.shelf store.new) (S.faults store.old) (S.faults store.new) (result ≡ Status.ReadFault) }
     ensures sink { KeepsSink (K.limit out.old) (K.limit out.new) (K.faults out.old) (K.faults out.new) (result ≡ Status.WriteFault) }
 {

@@ -79,10 +79,11 @@ solve_form p table budget free = ap (λ (b : Option (List Held)). form_in b p (c
 
 step_refused : (line : ℕ) (p : Planned) (table : List ℕ) (budget : ℕ) (refusal : TableRefusal) → p.batch ≡ None → linear_named p.state.book.game p.state.tables table ≡ Err refusal
     → IsStep line p (command.Solve table budget) p (refused p.state.book.game refusal None)
-unfolding IsStep
-step_refused line p table budget refusal free is =
-    subst (λ (b : Option (List Held)). IsStepIn line b p (command.Solve table budget) p (refused p.state.book.game refusal None)) (sym free)
-    (refl, refused_reply p.state.book.game p.state.tables table budget refusal is)
+step_refused line p table budget refusal free is = record {
+  does = subst (λ (b : Option (List Held)). IsStepIn line b p (command.Solve table budget) p (refused p.state.book.game refusal None)) (sym free)
+      (refl, refused_reply p.state.book.game p.state.tables table budget refusal is);
+  grows = λ base from. from;
+}
 
 posed_table : (line : ℕ) (p : Planned) (table : List ℕ) (budget : ℕ) (said : Posed) (o : Outcome Linear) → p.batch ≡ None → linear_named p.state.book.game p.state.tables table ≡ o
     → IsPosedTable p.state.book.game o said → IsPosed line p (command.Solve table budget) p said

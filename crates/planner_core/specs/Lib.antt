@@ -1,3 +1,3 @@
 pub mod Lines
-pub mod Batches
+pub mod Planners
 pub mod Posing

@@ -135,9 +135,11 @@ abbrev pub IsStepIn : ℕ → Option (List Held) → Planned → Command → Pla
 IsStepIn line None p asked r answer = IsFree p asked r answer
 IsStepIn line (Some held) p asked r answer = IsOpen line p held asked r answer
 
--- The planner after a line, and its reply: by the planner before, the line's number and its command.
-unfoldable pub IsStep : ℕ → Planned → Command → Planned → Reply → Type 0
-IsStep line p asked r answer = IsStepIn line p.batch p asked r answer
+-- The planner after a line, and its reply: by the planner before, the line's number and its command. It has grown from whatever that one
+-- has grown from: behind `undo` and `redo` too, the state is what the edits that are active then give on the base.
+pub record IsStep (line : ℕ) (p : Planned) (asked : Command) (r : Planned) (answer : Reply) : Type 0 where
+  pub does : IsStepIn line p.batch p asked r answer
+  pub grows : (base : State) → IsSessionOf base p → IsSessionOf base r
 
 -- ---- the work of a line
 -- what an accepted entry takes, forth and back; a refused line takes nothing

@@ -5,7 +5,6 @@ ghost use Rattle.graph_store.specs.Rows.{member_count};
 ghost use Rattle.game_types.specs.Nodes.{shape_of};
 ghost use Rattle.game_types.specs.Sound.{IsSound};
 ghost use Rattle.depend_rows.specs.Rows.{rows_of};
-ghost use Rattle.depend_rows.specs.declared.rows.TheConstants.{MEMBER_LIMIT};
 ghost use Rattle.state_changes.specs.States.{State};
 ghost use Rattle.planner_tables.specs.Effects.{AreSoundTables};
 ghost use Rattle.edit_undo.specs.Session.{last_of, redo_of, undo_of};
@@ -55,11 +54,11 @@ impl Model for Planner {
 
     ghost Value = { Planned };
 
-    ghost use Rattle.planner_core.specs.Batches.{IsBatch};
+    ghost use Rattle.planner_core.specs.Planners.{IsPlanner};
 
     ghost view = { λ p. planned p.planning p.history (option_map (λ held. held.items) p.batch) p.quiet };
 
-    ghost invariant = { λ p. IsBatch (option_map (λ held. held.items) p.batch) };
+    ghost invariant = { λ p. IsPlanner (planned p.planning p.history (option_map (λ held. held.items) p.batch) p.quiet) };
 }
 
 impl Planner {
@@ -71,8 +70,8 @@ impl Planner {
     pub fn load<L>(alloc: Global, game: Game, steps: &mut Steps<L>) -> Result<Planner, LoadFault>
         requires { IsSound game }
         ensures planner { MatchResult result
-            (λ planner. (planner ≡ first_planned game) × (member_count (rows_of game) ≤ MEMBER_LIMIT))
-            (λ fault. fault ≡ LoadFault.Members → MEMBER_LIMIT < member_count (rows_of game)) }
+            (λ planner. (planner ≡ first_planned game) × (member_count (rows_of game) ≤ 4_194_304))
+            (λ fault. fault ≡ LoadFault.Members → 4_194_304 < member_count (rows_of game)) }
         ensures steps { IfOk result (λ _. steps.new ≤ steps.old + node_count (shape_of game) + 4 * (node_count (shape_of game) + member_count (rows_of game))) }
         ensures later { steps.old ≤ steps.new }
     {
@@ -104,6 +103,14 @@ impl Planner {
         self.planning.tables()
     }
 
+    /// Every planner grew from a base: it keeps what leads from that base to its state, what leads back, and what can be done again.
+    /// So no call has to be told so.
+    pub fn grew_from_a_base(&self)
+        ensures { (base : State) × IsSessionOf base self.now }
+    {
+        let _ = &self.history;
+    }
+
     // Does a change as an entry by itself.
     fn do_one<L>(&mut self, change: Change, steps: &mut Steps<L>) -> Result<Reply, NoMemory>
         requires free { self.old.batch ≡ None }
@@ -125,7 +132,6 @@ impl Planner {
 
     // Takes the last entry that is done back.
     fn undo<L>(&mut self, steps: &mut Steps<L>) -> Result<Reply, NoMemory>
-        requires { (base : State) × IsSessionOf base self.old }
         ensures reply { IfOk result (λ answer. Moves (session_of self.old.kept).done RefusalCode.H1 (undo_of (session_of self.old.kept)) self.old self.new answer) }
         ensures history { (base : State) → IsSessionOf base self.old → IsSessionOf base self.new }
         ensures err { OnErr result (self.new ≡ self.old) }
@@ -141,7 +147,6 @@ impl Planner {
 
     // Does the last entry that is undone again.
     fn redo<L>(&mut self, steps: &mut Steps<L>) -> Result<Reply, NoMemory>
-        requires { (base : State) × IsSessionOf base self.old }
         ensures reply { IfOk result (λ answer. Moves (session_of self.old.kept).undone RefusalCode.H2 (redo_of (session_of self.old.kept)) self.old self.new answer) }
         ensures history { (base : State) → IsSessionOf base self.old → IsSessionOf base self.new }
         ensures err { OnErr result (self.new ≡ self.old) }
@@ -158,7 +163,6 @@ impl Planner {
     // A line where no batch is open.
     fn step_free<L>(&mut self, command: Command, steps: &mut Steps<L>) -> Result<Reply, NoMemory>
         requires free { self.old.batch ≡ None }
-        requires history { (base : State) × IsSessionOf base self.old }
         ensures reply { IfOk result (λ answer. IsFree self.old command self.new answer) }
         ensures history { (base : State) → IsSessionOf base self.old → IsSessionOf base self.new }
         ensures err { OnErr result (self.new ≡ self.old) }
@@ -228,10 +232,10 @@ impl Planner {
         ensures err { OnErr result (self.new ≡ self.old) }
     {
         let quiet = self.quiet;
-        match &mut self.batch {
-            Some(held) => hold_in(held, line, change, quiet),
-            None => Err(NoMemory),
-        }
+        let Some(held) = &mut self.batch else {
+            return Err(NoMemory);
+        };
+        hold_in(held, line, change, quiet)
     }
 
     // Closes the batch, and does what it holds as one entry.
@@ -318,7 +322,6 @@ impl Planner {
         command: Command,
         steps: &mut Steps<L>,
     ) -> Result<Reply, NoMemory>
-        requires { (base : State) × IsSessionOf base self.old }
         ensures reply { IfOk result (λ answer. IsStep line self.old command self.new answer) }
         ensures history { (base : State) → IsSessionOf base self.old → IsSessionOf base self.new }
         ensures err { OnErr result (self.new ≡ self.old) }
@@ -343,7 +346,6 @@ impl Planner {
         command: Command,
         steps: &mut Steps<L>,
     ) -> Result<Posed, NoMemory>
-        requires { (base : State) × IsSessionOf base self.old }
         ensures posed { IfOk result (λ said. IsPosed line self.old command self.new said) }
         ensures formed { IfOk result IsFormed }
         ensures history { (base : State) → IsSessionOf base self.old → IsSessionOf base self.new }
@@ -375,7 +377,6 @@ impl Planner {
         command: Command,
         steps: &mut Steps<L>,
     ) -> Result<Posed, NoMemory>
-        requires { (base : State) × IsSessionOf base self.old }
         ensures posed { IfOk result (λ said. (answer : ReplyTo) × (said ≡ PosedReply answer) × IsStep line self.old command self.new answer) }
         ensures formed { IfOk result IsFormed }
         ensures history { (base : State) → IsSessionOf base self.old → IsSessionOf base self.new }

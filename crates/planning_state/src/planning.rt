@@ -7,7 +7,6 @@ ghost use Rattle.game_types.specs.Sound.{IsSound};
 ghost use Rattle.data_edit.specs.Books.{IsSoundBook};
 ghost use Rattle.depend_index.specs.Indexed.{IsIndex};
 ghost use Rattle.depend_rows.specs.Rows.{rows_of};
-ghost use Rattle.depend_rows.specs.declared.rows.TheConstants.{MEMBER_LIMIT};
 ghost use Rattle.milestone_masks.specs.Why.{IsWhy};
 ghost use Rattle.milestone_masks.specs.Worlds.{missing_in, AreWorlds};
 ghost use Rattle.state_changes.specs.Actions.{node_named, Gives};
@@ -108,8 +107,8 @@ struct Kept {
 fn kept_beside<L>(alloc: Global, book: &Book, steps: &mut Steps<L>) -> Result<Kept, LoadFault>
     requires { IsSoundBook book.now }
     ensures members { MatchResult result
-        (λ _. member_count (rows_of book.now.game) ≤ MEMBER_LIMIT)
-        (λ fault. fault ≡ LoadFault.Members → MEMBER_LIMIT < member_count (rows_of book.now.game)) }
+        (λ _. member_count (rows_of book.now.game) ≤ 4_194_304)
+        (λ fault. fault ≡ LoadFault.Members → 4_194_304 < member_count (rows_of book.now.game)) }
     ensures index { IfOk result (λ kept. IsIndex book.now.game kept.index) }
     ensures graph { IfOk result (λ kept. kept.graph ≡ rows_of book.now.game) }
     ensures worlds { IfOk result (λ kept. AreWorlds (rows_of book.now.game) book.now.barred book.now.granted kept.worlds) }
@@ -159,8 +158,8 @@ fn assemble(alloc: Global, book: Book, kept: Kept) -> Planning
 fn of_book<L>(alloc: Global, book: Book, steps: &mut Steps<L>) -> Result<Planning, LoadFault>
     requires { IsSoundBook book }
     ensures planning { MatchResult result
-        (λ planning. (planning ≡ state_of book [] []) × (member_count (rows_of book.game) ≤ MEMBER_LIMIT))
-        (λ fault. fault ≡ LoadFault.Members → MEMBER_LIMIT < member_count (rows_of book.game)) }
+        (λ planning. (planning ≡ state_of book [] []) × (member_count (rows_of book.game) ≤ 4_194_304))
+        (λ fault. fault ≡ LoadFault.Members → 4_194_304 < member_count (rows_of book.game)) }
     ensures steps { IfOk result (λ _. steps.new ≤ steps.old + node_count (shape_of book.game) + 4 * (node_count (shape_of book.game) + member_count (rows_of book.game))) }
     ensures later { steps.old ≤ steps.new }
 {
@@ -179,8 +178,8 @@ impl Planning {
     pub fn make<L>(alloc: Global, game: Game, steps: &mut Steps<L>) -> Result<Planning, LoadFault>
         requires { IsSound game }
         ensures planning { MatchResult result
-            (λ planning. (planning ≡ first_state game) × (member_count (rows_of game) ≤ MEMBER_LIMIT))
-            (λ fault. fault ≡ LoadFault.Members → MEMBER_LIMIT < member_count (rows_of game)) }
+            (λ planning. (planning ≡ first_state game) × (member_count (rows_of game) ≤ 4_194_304))
+            (λ fault. fault ≡ LoadFault.Members → 4_194_304 < member_count (rows_of game)) }
         ensures steps { IfOk result (λ _. steps.new ≤ steps.old + node_count (shape_of game) + 4 * (node_count (shape_of game) + member_count (rows_of game))) }
         ensures later { steps.old ≤ steps.new }
     {

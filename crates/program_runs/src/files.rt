@@ -8,18 +8,18 @@ use std::{fs, io};
 // Files are read by pieces of this many bytes.
 const PIECE: usize = 65_536;
 
-/// Why a file can't be read, where that can be told.
+/// Why a file can't be read, where that can be told. What isn't kept, as a pipe, isn't opened again: that could wait for ever.
 pub fn read_error<R: Files>(rt: &R, name: &str) -> Option<io::Error> {
-    match File::open(rt, name) {
-        Ok(_) => {
-            let folder = fs::metadata(rt, name).ok()?.is_dir();
-            if folder {
-                Some(io::ErrorKind::IsADirectory.into())
-            } else {
-                None
-            }
-        }
-        Err(error) => Some(error),
+    let found = match fs::metadata(rt, name) {
+        Ok(found) => found,
+        Err(error) => return Some(error),
+    };
+    if found.is_dir() {
+        Some(io::ErrorKind::IsADirectory.into())
+    } else if found.is_file() {
+        File::open(rt, name).err()
+    } else {
+        None
     }
 }
 

@@ -7,7 +7,7 @@ mod lines;
 mod words;
 
 /// The version of the programs.
-pub const VERSION: &str = "0.6.0";
+pub const VERSION: &str = "0.7.0";
 
 /// The file of a run without a script: it is empty.
 pub const NO_SCRIPT: &str = "/dev/null";

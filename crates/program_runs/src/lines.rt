@@ -32,7 +32,7 @@ pub fn loaded<R: Files, L>(
 {
     // A planner that was just loaded has a history.
     state_is_of_the_active_edits();
-    let mut store = HostStore::make(rt);
+    let mut store = HostStore::make(alloc, rt);
     match read_files(alloc, names.dump, names.script, &mut store, steps) {
         Ok(ready) => Ok(ready),
         Err(status) => Err(status),

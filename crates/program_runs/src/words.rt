@@ -1,6 +1,7 @@
 //! The words of a program.
 use crate::ends::End;
 use clap::Error;
+use clap::error::ErrorKind;
 use plan_base::{NoMemory, Text};
 use std::alloc::Global;
 use std::rt::Env;
@@ -28,9 +29,18 @@ pub fn program_words<R: Env + AllocGlobal>(rt: &R, alloc: Global) -> Result<Vec<
     Ok(words)
 }
 
+// Want of memory is no fault of the words.
+fn exit_of(error: &Error) -> u8 {
+    match error.kind() {
+        ErrorKind::OutOfMemory => 6,
+        _ if error.use_stderr() => 2,
+        _ => 0,
+    }
+}
+
 /// The end by words that ask for no run: the help, the version, or what is wrong with them is printed.
 pub fn end_by_words<R: Print + Eprint>(rt: &R, error: &Error) -> End {
     // Where nothing can be said, the status still tells.
     let _ = error.print(rt);
-    End::quiet(if error.use_stderr() { 2 } else { 0 })
+    End::quiet(exit_of(error))
 }

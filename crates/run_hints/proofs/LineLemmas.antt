@@ -9,7 +9,7 @@ use Rattle.std.proofs.lemmas.Grind.{common_steps}
 use Rattle.node_report.specs.Words.{in_quotes, is_bare, needs_quotes, printed_word, quoted}
 use Rattle.run_hints.specs.Places.{is_newline}
 use Rattle.run_hints.specs.Hints.{IsLine, cert_text, hint_line, hint_of, is_unbroken, long_hint, name_part}
-use Rattle.run_hints.specs.Faults.{fault_text, field_text, field_words, json_text_at, json_words, kind_text, known_place, part, text_by, words_at}
+use Rattle.run_hints.specs.Faults.{fault_text, field_text, field_words, front_text, is_gzip, is_marked, json_text_at, json_words, kind_text, known_place, or_else, part, text_by, words_at}
 use Rattle.run_hints.specs.Names.{dump_name, script_name}
 use Rattle.run_hints.specs.declared.place.Place.{Place}
 use Rattle.json_text.specs.declared.fault.JsonCode.{JsonCode}
@@ -134,8 +134,18 @@ field_text_unbroken fault =
 kind_text_unbroken : (fault : DumpFault) → is_unbroken (kind_text fault) ≡ true
 kind_text_unbroken fault = either (length fault.section == 0) (codes "no section of Factorio 1.1 found") (field_text fault) refl (field_text_unbroken fault)
 
+chosen : (first second : Bool) (other : List ℕ) → is_unbroken other ≡ true
+    → is_unbroken (or_else (if first then Some (codes "the file is packed by gzip, and has to be unpacked first") else if second then Some (codes "the file begins with a byte order mark") else None) other) ≡ true
+chosen true second other rest = refl
+chosen false true other rest = refl
+chosen false false other rest = rest
+
+front_unbroken : (dump : Option (List ℕ)) (other : List ℕ) → is_unbroken other ≡ true → is_unbroken (or_else (front_text dump) other) ≡ true
+front_unbroken (Some bytes) other rest = chosen (is_gzip bytes) (is_marked bytes) other rest
+front_unbroken None other rest = rest
+
 text_by_unbroken : (code : DumpCode) (fault : DumpFault) (dump : Option (List ℕ)) → is_unbroken (text_by code fault dump) ≡ true
-text_by_unbroken (d.Json json) fault dump = json_text_unbroken (known_place dump json.at) json
+text_by_unbroken (d.Json json) fault dump = front_unbroken dump (json_text_at (known_place dump json.at) json) (json_text_unbroken (known_place dump json.at) json)
 text_by_unbroken d.WrongKind fault dump = kind_text_unbroken fault
 text_by_unbroken d.Missing fault dump = field_text_unbroken fault
 text_by_unbroken d.UnknownName fault dump = field_text_unbroken fault

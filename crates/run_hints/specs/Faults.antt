@@ -1,5 +1,6 @@
 -- What is said of a dump that is refused: where, and what is wrong there.
-use Rattle.std.specs.Prelude.{ℕ, List, [], ◌++◌, ◌==◌, ◌&&◌, nat_le, if◌then◌else◌, Option, None, Some, codes, decimal, length}
+use Rattle.std.specs.Prelude.{ℕ, List, [], ◌++◌, Bool, false, ◌==◌, ◌&&◌, nat_le, if◌then◌else◌, Option, None, Some, codes, decimal, length}
+use Rattle.std.specs.List.{slice_get}
 use Rattle.json_text.specs.declared.fault.JsonCode.{JsonCode}
 use Rattle.json_text.specs.declared.fault.JsonCode.TheVariants as j
 use Rattle.json_text.specs.declared.fault.JsonFault.{JsonFault}
@@ -34,8 +35,32 @@ json_text_at (Some place) fault =
     codes "line " ++ (decimal place.line ++ (codes ", column " ++ (decimal place.column ++ (codes ": " ++ words_at place fault.code))))
 json_text_at None fault = codes "after " ++ (decimal fault.at ++ (codes " bytes: " ++ json_words fault.code))
 
+abbrev pub is_byte : Option ℕ → ℕ → Bool
+is_byte (Some byte) wanted = byte == wanted
+is_byte None wanted = false
+
+-- RFC 1952: a file packed by gzip begins so
+abbrev pub is_gzip : List ℕ → Bool
+is_gzip bytes = is_byte (slice_get bytes 0) 31 && is_byte (slice_get bytes 1) 139
+
+-- the byte order mark in UTF-8
+abbrev pub is_marked : List ℕ → Bool
+is_marked bytes = is_byte (slice_get bytes 0) 239 && is_byte (slice_get bytes 1) 187 && is_byte (slice_get bytes 2) 191
+
+-- what the first bytes of a dump tell, that are no JSON
+abbrev pub front_text : Option (List ℕ) → Option (List ℕ)
+front_text (Some bytes) =
+    if is_gzip bytes then Some (codes "the file is packed by gzip, and has to be unpacked first")
+    else if is_marked bytes then Some (codes "the file begins with a byte order mark") else None
+front_text None = None
+
+abbrev pub or_else : Option (List ℕ) → List ℕ → List ℕ
+or_else (Some text) other = text
+or_else None other = other
+
+-- what the first bytes tell, or else the place of the fault and what is wrong there
 abbrev pub json_text : JsonFault → Option (List ℕ) → List ℕ
-json_text fault dump = json_text_at (known_place dump fault.at) fault
+json_text fault dump = or_else (front_text dump) (json_text_at (known_place dump fault.at) fault)
 
 -- what is wrong with a field or a prototype
 abbrev pub field_words : DumpCode → List ℕ

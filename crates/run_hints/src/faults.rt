@@ -1,6 +1,6 @@
 // What is said of a dump that is refused.
-ghost use Rattle.std.specs.Prelude.{◌≡◌, IfOk, option_copied, string_bytes};
-ghost use Rattle.run_hints.specs.Faults.{fault_text, field_text, field_words, json_text, json_text_at, json_words, kind_text, known_place, part, words_at};
+ghost use Rattle.std.specs.Prelude.{◌≡◌, IfOk, option_copied, option_map, string_bytes};
+ghost use Rattle.run_hints.specs.Faults.{fault_text, front_text, is_byte, is_gzip, is_marked, field_text, field_words, json_text, json_text_at, json_words, kind_text, known_place, part, words_at};
 
 use crate::place::{Place, place_in};
 use craft_reader::{DumpCode, DumpFault};
@@ -63,12 +63,57 @@ fn text_after(alloc: Global, fault: JsonFault) -> Result<String, AllocError>
     format!(in alloc; "after {at} bytes: {what}")
 }
 
+// The text of a place, or of no place.
+fn placed_text(alloc: Global, fault: JsonFault, place: Option<Place>) -> Result<String, AllocError>
+    ensures { IfOk result (λ text. string_bytes text ≡ json_text_at place fault) }
+{
+    match place {
+        Some(place) => text_at(alloc, place, fault),
+        None => text_after(alloc, fault),
+    }
+}
+
+fn is_byte(byte: Option<&u8>, wanted: u8) -> bool
+    ensures { result ≡ is_byte (option_copied byte.entry) wanted }
+{
+    match byte {
+        Some(byte) => *byte == wanted,
+        None => false,
+    }
+}
+
+fn is_gzip(bytes: &[u8]) -> bool
+    ensures { result ≡ is_gzip bytes.now }
+{
+    is_byte(bytes.first(), 0x1f) && is_byte(bytes.get(1), 0x8b)
+}
+
+fn is_marked(bytes: &[u8]) -> bool
+    ensures { result ≡ is_marked bytes.now }
+{
+    is_byte(bytes.first(), 0xef) && is_byte(bytes.get(1), 0xbb) && is_byte(bytes.get(2), 0xbf)
+}
+
+// What the first bytes of a dump tell, that are no JSON.
+fn front_text(dump: Option<&[u8]>) -> Option<&'static str>
+    ensures { option_map (λ text. text.now) result ≡ front_text (option_copied dump.entry) }
+{
+    let bytes = dump?;
+    if is_gzip(bytes) {
+        Some("the file is packed by gzip, and has to be unpacked first")
+    } else if is_marked(bytes) {
+        Some("the file begins with a byte order mark")
+    } else {
+        None
+    }
+}
+
 fn json_text(alloc: Global, fault: JsonFault, dump: Option<&[u8]>) -> Result<String, AllocError>
     ensures { IfOk result (λ text. string_bytes text ≡ json_text fault (option_copied dump.entry)) }
 {
-    match known_place(dump, fault.at) {
-        Some(place) => text_at(alloc, place, fault),
-        None => text_after(alloc, fault),
+    match front_text(dump) {
+        Some(text) => String::from_str(alloc, text),
+        None => placed_text(alloc, fault, known_place(dump, fault.at)),
     }
 }
 

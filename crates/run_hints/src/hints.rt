@@ -23,8 +23,9 @@ fn name_part(alloc: Global, name: Option<&str>) -> Result<String, AllocError>
     }
 }
 
+/// A line of the program: the file that it is about, where there is one, and what is wrong.
 #[tactic(auto, unfolding(crate::specs::Hints::hint_line))]
-fn hint_line(alloc: Global, file: Option<&str>, what: &str) -> Result<Text, NoMemory>
+pub fn hint_line(alloc: Global, file: Option<&str>, what: &str) -> Result<Text, NoMemory>
     ensures { IfOk result (λ text. text ≡ hint_line (option_map (λ name. name.now) file.entry) what.now) }
 {
     let name = name_part(alloc, file)?;

@@ -14,7 +14,7 @@ use Rattle.run_inputs.specs.Early.{EndsLoading, HasBaseFault}
 
 for_fault : (dump : List ℕ) (fault : DumpFault) (status : Status) (work : ℕ) → fault.code ≢ d.NoMemory → (fault.code ≢ d.NoMemory → status ≡ BadDump fault)
     → (fault.code ≢ d.NoMemory → HasBaseFault dump fault work) → EndsLoading dump status work
-for_fault dump fault status work some refused has = subst (λ s. EndsLoading dump s work) (sym (refused some)) (has some)
+for_fault dump fault status work some refused has = subst (λ s. EndsLoading dump s work) (sym (refused some)) (has some, some)
 
 -- want of memory is no fault of the dump, and each other fault has its cause
 pub ends_loading : (dump : List ℕ) (fault : DumpFault) (code : DumpCode) (status : Status) (work : ℕ) → fault.code ≡ code → (fault.code ≡ d.NoMemory → status ≡ NoMemory)

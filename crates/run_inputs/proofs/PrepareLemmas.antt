@@ -1,8 +1,8 @@
 -- How a run ends whose dump or script can't be had, and which files it begins.
-use Rattle.std.proofs.Common.{◌≡◌, ◌≤◌, ◌+◌, ◌∙◌, inl, inr, ℕ, List, Vec, arith, sym, subst}
-use Rattle.std.specs.Prelude.{Some, IsErr, IsErrAnd, IsSome, MatchResult, Result, Ok, Err}
+use Rattle.std.proofs.Common.{◌≡◌, ◌≤◌, ◌+◌, ◌++◌, ◌∷◌, ◌∙◌, [], inl, inr, ℕ, List, Vec, ap, append_assoc, arith, sym, subst}
+use Rattle.std.specs.Prelude.{Option, Some, IsErr, IsErrAnd, MatchResult, Result, Ok, Err}
 use Rattle.std.specs.Global.{Global}
-use Rattle.plan_io.specs.Store.{Shelf, Begun}
+use Rattle.plan_io.specs.Store.{Shelf, Begun, named_in}
 use Rattle.game_types.specs.declared.games.Game.{Game}
 use Rattle.planner_core.specs.Lines.{Planned, first_planned}
 use Rattle.run_inputs.specs.declared.prepare.Ready.{Ready}
@@ -10,7 +10,7 @@ use Rattle.run_inputs.specs.declared.status.Status.{Status}
 use Rattle.run_inputs.specs.declared.status.Status.TheVariants.{Done, SomeRefused, BadWords, BadDump, ReadFault, WriteFault, NoMemory, TooLong, BadCert}
 use Rattle.run_inputs.specs.declared.status.Long.TheVariants.{DumpBytes, ScriptBytes, ScriptLines, CertBytes}
 use Rattle.run_inputs.specs.Base.{HasBase, load_work}
-use Rattle.run_inputs.specs.Begun.{BeginsFiles, CallsUnder, status_so_far}
+use Rattle.run_inputs.specs.Begun.{BeginsFiles, BeginsOne, CallsUnder, status_so_far}
 use Rattle.run_inputs.specs.Early.{EndsEarly, EndsLoading, EndsReading}
 use Rattle.run_inputs.specs.Ready.{IsReady}
 use Rattle.run_inputs.specs.Inputs.{IsBase, IsInput}
@@ -55,18 +55,24 @@ dump_calls shelf names WriteFault old new ends one = absurd ends
 dump_calls shelf names (BadCert fault) old new ends one = absurd ends
 
 -- one file was begun, and no second
-begins_one : (shelf : Shelf) (names : FileNames) (old new : Begun) (status : Status) → CallsUnder 2 status old.calls new.calls → new.calls ≡ old.calls + 1
-    → (IsSome (shelf.file names.dump) → new.unnamed ≡ old.unnamed) → BeginsFiles shelf (Some (Files Run names)) old new status
-begins_one shelf names old new status calls one named = record { calls = calls; behind = λ more. absurd (omega (arith, one, more)); third = λ more. absurd (omega (arith, one, more)); named = λ dump script none. named dump }
+begins_one : (shelf : Shelf) (names : FileNames) (old new : Begun) (status : Status) → CallsUnder 2 status old.calls new.calls → BeginsOne shelf names.dump old new → BeginsFiles shelf (Some (Files Run names)) old new status
+begins_one shelf names old new status calls one = record {
+  calls = calls;
+  first = record { count = 1; calls = one.calls; names_are = one.names };
+  slots = one.slots;
+  behind = λ more. absurd (omega (arith, one.calls, more));
+  third = λ more. absurd (omega (arith, one.calls, more));
+  named = λ dump script none. one.named dump;
+}
 
 pub dump_begins : {T : Type 0} (shelf : Shelf) (names : FileNames) (old new : Begun) (r : Result T Status) (early : Status) → IsErr r × IsErrAnd r (λ e. e ≡ early) → EndsReading shelf names.dump 268_435_456 DumpBytes early
-    → new.calls ≡ old.calls + 1 → (IsSome (shelf.file names.dump) → new.unnamed ≡ old.unnamed) → BeginsFiles shelf (Some (Files Run names)) old new (status_so_far r)
-dump_begins shelf names old new r early err ends one named =
-    subst (λ (s : Status). BeginsFiles shelf (Some (Files Run names)) old new s) (sym (so_far r early err)) (begins_one shelf names old new early (dump_calls shelf names early old.calls new.calls ends one) one named)
+    → BeginsOne shelf names.dump old new → BeginsFiles shelf (Some (Files Run names)) old new (status_so_far r)
+dump_begins shelf names old new r early err ends one =
+    subst (λ (s : Status). BeginsFiles shelf (Some (Files Run names)) old new s) (sym (so_far r early err)) (begins_one shelf names old new early (dump_calls shelf names early old.calls new.calls ends one.calls) one)
 
 -- ---- the dump has no base
 pub base_early : (shelf : Shelf) (names : FileNames) (dump : List ℕ) (early : Status) (work : ℕ) → IsInput shelf names.dump 268_435_456 dump → EndsLoading dump early work → EndsEarly shelf (Some (Files Run names)) early work
-base_early shelf names dump (BadDump fault) work given ends = record { dump = dump; given = given; fault_is = ends }
+base_early shelf names dump (BadDump fault) work given ends = record { dump = dump; given = given; fault_is = ends.0; no_memory = ends.1 }
 base_early shelf names dump NoMemory work given ends = tt
 base_early shelf names dump Done work given ends = absurd ends
 base_early shelf names dump SomeRefused work given ends = absurd ends
@@ -88,9 +94,9 @@ base_calls dump (TooLong long) work old new ends one = absurd ends
 base_calls dump (BadCert fault) work old new ends one = absurd ends
 
 pub base_begins : {T : Type 0} (shelf : Shelf) (names : FileNames) (dump : List ℕ) (work : ℕ) (old new : Begun) (r : Result T Status) (early : Status) → IsErr r × IsErrAnd r (λ e. e ≡ early) → EndsLoading dump early work
-    → new.calls ≡ old.calls + 1 → (IsSome (shelf.file names.dump) → new.unnamed ≡ old.unnamed) → BeginsFiles shelf (Some (Files Run names)) old new (status_so_far r)
-base_begins shelf names dump work old new r early err ends one named =
-    subst (λ (s : Status). BeginsFiles shelf (Some (Files Run names)) old new s) (sym (so_far r early err)) (begins_one shelf names old new early (base_calls dump early work old.calls new.calls ends one) one named)
+    → BeginsOne shelf names.dump old new → BeginsFiles shelf (Some (Files Run names)) old new (status_so_far r)
+base_begins shelf names dump work old new r early err ends one =
+    subst (λ (s : Status). BeginsFiles shelf (Some (Files Run names)) old new s) (sym (so_far r early err)) (begins_one shelf names old new early (base_calls dump early work old.calls new.calls ends one.calls) one)
 
 -- ---- the dump has a base, and the script is read behind it
 pub based : (shelf : Shelf) (names : FileNames) (dump : List ℕ) (game : Game) → IsInput shelf names.dump 268_435_456 dump → HasBase dump game → IsBase shelf (Some (Files Run names)) game
@@ -130,8 +136,8 @@ pub script_read : (before now : Shelf) (name : List ℕ) (s : Result (Vec ℕ Gl
     → MatchResult s (λ bytes. IsInput before name 16_777_216 bytes.items) (EndsReading before name 16_777_216 ScriptBytes)
 script_read before now name s same read = subst (λ (shelf : Shelf). MatchResult s (λ bytes. IsInput shelf name 16_777_216 bytes.items) (EndsReading shelf name 16_777_216 ScriptBytes)) same read
 
-pub script_named : (before now : Shelf) (name : List ℕ) (P : Type 0) → now ≡ before → (IsSome (now.file name) → P) → IsSome (before.file name) → P
-script_named before now name P same named = subst (λ (shelf : Shelf). IsSome (shelf.file name) → P) same named
+pub script_begun : (before now : Shelf) (name : List ℕ) (old new : Begun) → now ≡ before → BeginsOne now name old new → BeginsOne before name old new
+script_begun before now name old new same begins = subst (λ (shelf : Shelf). BeginsOne shelf name old new) same begins
 
 -- the planner of the game with the script, or the fault of reading that
 pub script_ready : (shelf : Shelf) (names : FileNames) (game : Game) (planner : Planned) (work : ℕ) (s : Result (Vec ℕ Global) Status) (r : Result Ready Status) → IsBase shelf (Some (Files Run names)) game → planner ≡ first_planned game → work ≤ load_work game
@@ -147,13 +153,20 @@ script_status : (shelf : Shelf) (names : FileNames) (planner : Planned) (old new
 script_status shelf names planner old new (Ok bytes) r two read is = rw is two
 script_status shelf names planner old new (Err early) r two read is = rw is (script_calls shelf names early old new read two)
 
+both_names : (before mid after : List (Option (List ℕ))) (one two : Option (List ℕ)) → mid ≡ before ++ one ∷ [] → after ≡ mid ++ two ∷ [] → after ≡ before ++ one ∷ two ∷ []
+both_names before mid after one two first second = second ∙ (ap (λ (l : List (Option (List ℕ))). l ++ two ∷ []) first ∙ append_assoc before (one ∷ []) (two ∷ []))
+
 pub script_begins : (shelf : Shelf) (names : FileNames) (game : Game) (planner : Planned) (old mid new : Begun) (s : Result (Vec ℕ Global) Status) (r : Result Ready Status) → IsBase shelf (Some (Files Run names)) game
-    → mid.calls ≡ old.calls + 1 → (IsSome (shelf.file names.dump) → mid.unnamed ≡ old.unnamed) → new.calls ≡ mid.calls + 1 → (IsSome (shelf.file names.script) → new.unnamed ≡ mid.unnamed)
+    → BeginsOne shelf names.dump old mid → BeginsOne shelf names.script mid new
     → MatchResult s (λ bytes. IsInput shelf names.script 16_777_216 bytes.items) (EndsReading shelf names.script 16_777_216 ScriptBytes)
     → MatchResult s (λ bytes. r ≡ Ok (record { planner = planner; script = bytes })) (λ early. r ≡ Err early) → BeginsFiles shelf (Some (Files Run names)) old new (status_so_far r)
-script_begins shelf names game planner old mid new s r base one first_named more second_named read is = record {
-  calls = script_status shelf names planner old.calls new.calls s r (omega (arith, one, more)) read is;
-  behind = λ after. (game, base);
-  third = λ after. absurd (omega (arith, one, more, after));
-  named = λ dump script none. second_named script ∙ first_named dump;
-}
+script_begins shelf names game planner old mid new s r base one two read is =
+    let both : new.calls ≡ old.calls + 2 = omega (arith, one.calls, two.calls) in
+    record {
+      calls = script_status shelf names planner old.calls new.calls s r both read is;
+      first = record { count = 2; calls = both; names_are = both_names old.names mid.names new.names (named_in shelf names.dump) (named_in shelf names.script) one.names two.names };
+      slots = omega (arith, one.slots, two.slots);
+      behind = λ after. (game, base);
+      third = λ after. absurd (omega (arith, both, after));
+      named = λ dump script none. two.named script ∙ one.named dump;
+    }

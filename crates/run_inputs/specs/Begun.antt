@@ -1,6 +1,6 @@
 -- Which files a run begins.
-use Rattle.std.specs.Prelude.{◌≡◌, ◌≤◌, ◌<◌, ◌+◌, ℕ, List, Option, Some, IsSome, Result, Ok, Err, length}
-use Rattle.plan_io.specs.Store.{Shelf, Begun}
+use Rattle.std.specs.Prelude.{◌≡◌, ◌≤◌, ◌<◌, ◌+◌, ◌++◌, ◌∷◌, [], ℕ, List, Option, Some, IsSome, Result, Ok, Err, length, take}
+use Rattle.plan_io.specs.Store.{Shelf, Begun, named_in}
 use Rattle.game_types.specs.declared.games.Game.{Game}
 use Rattle.run_inputs.specs.declared.status.Status.{Status}
 use Rattle.run_inputs.specs.declared.status.Status.TheVariants.{Done, BadDump, ReadFault, WriteFault, NoMemory, TooLong}
@@ -8,6 +8,24 @@ use Rattle.run_inputs.specs.declared.status.Long.TheVariants.{DumpBytes, ScriptB
 use Rattle.script_lines.specs.Lines.{lines_of}
 use Rattle.run_inputs.specs.Inputs.{IsBase, IsInput}
 use Rattle.cli_words.specs.Words.{Asked, FileMode, FileNames, Files, Check}
+
+-- one file was begun, that of this name
+pub record BeginsOne (shelf : Shelf) (name : List ℕ) (old new : Begun) : Type 0 where
+  pub names : new.names ≡ old.names ++ named_in shelf name ∷ []
+  pub calls : new.calls ≡ old.calls + 1
+  pub slots : old.slots ≤ new.slots
+  pub named : IsSome (shelf.file name) → new.unnamed ≡ old.unnamed
+
+-- the files that a mode reads, in order: each by its name, where the store tells that it has a file
+abbrev pub files_of : Shelf → FileMode → FileNames → List (Option (List ℕ))
+files_of shelf (Check cert) names = named_in shelf names.dump ∷ named_in shelf names.script ∷ named_in shelf cert ∷ []
+files_of shelf mode names = named_in shelf names.dump ∷ named_in shelf names.script ∷ []
+
+-- The first so many files of the mode were begun, each once, in order.
+pub record BeginsFirst (shelf : Shelf) (mode : FileMode) (names : FileNames) (old new : Begun) : Type 0 where
+  pub count : ℕ
+  pub calls : new.calls ≡ old.calls + count
+  pub names_are : new.names ≡ old.names ++ take count (files_of shelf mode names)
 
 -- how many files a mode reads
 abbrev pub file_count : FileMode → ℕ
@@ -37,10 +55,12 @@ pub record HasScript (shelf : Shelf) (name : List ℕ) : Type 0 where
   pub given : IsInput shelf name 16_777_216 script
   pub few : length (lines_of script) ≤ 100_000
 
--- The first call is for the dump, the second for the script, and the third for the certificate. There is a second only where the dump has a
--- base, and a third only where the script is within its limits besides. Where all names have a file, no call is without one.
+-- The dump is begun first, then the script, and then the certificate, each once at most. The script is begun only where the dump has a
+-- base, and the certificate only where the script is within its limits besides. Where all names have a file, no call is without one.
 pub record BeginsAll (shelf : Shelf) (mode : FileMode) (names : FileNames) (old new : Begun) (status : Status) : Type 0 where
   pub calls : CallsUnder (file_count mode) status old.calls new.calls
+  pub first : BeginsFirst shelf mode names old new
+  pub slots : old.slots ≤ new.slots
   pub behind : old.calls + 1 < new.calls → (game : Game) × IsBase shelf (Some (Files mode names)) game
   pub third : old.calls + 2 < new.calls → HasScript shelf names.script
   pub named : IsSome (shelf.file names.dump) → IsSome (shelf.file names.script) → HasCert shelf mode → new.unnamed ≡ old.unnamed

@@ -1,8 +1,9 @@
 -- How a run ends before its script is answered.
-use Rattle.std.specs.Prelude.{◌≡◌, ◌⊎◌, ◌≤◌, ℕ, Bool, true, false, IsTrue, ⊤, List, [], Option, None, Some, codes, length}
+use Rattle.std.specs.Prelude.{◌≡◌, ◌≢◌, ◌⊎◌, ◌≤◌, ℕ, Bool, true, false, IsTrue, ⊤, List, [], Option, None, Some, codes, length}
 use Rattle.plan_io.specs.Store.{Shelf}
 use Rattle.game_types.specs.declared.games.Game.{Game}
 use Rattle.craft_reader.specs.declared.fault.DumpFault.{DumpFault}
+use Rattle.craft_reader.specs.declared.fault.DumpCode.TheVariants as of_dump
 use Rattle.game_reader.specs.Games.{HasFault}
 use Rattle.certificate_file.specs.declared.CertFault.{CertFault}
 use Rattle.certificate_file.specs.declared.CertFault.TheVariants as of_cert
@@ -22,9 +23,9 @@ use Rattle.cli_words.specs.Words.{Asked, Files}
 abbrev pub HasBaseFault : List ℕ → DumpFault → ℕ → Type 0
 HasBaseFault dump fault work = (HasFault dump fault × (work ≡ 0)) ⊎ (HasManyMembers dump × (fault ≡ members_fault))
 
--- how a run ends that finds no base in a dump
+-- how a run ends that finds no base in a dump; want of memory is no fault of it
 abbrev pub EndsLoading : List ℕ → Status → ℕ → Type 0
-EndsLoading dump (BadDump fault) work = HasBaseFault dump fault work
+EndsLoading dump (BadDump fault) work = HasBaseFault dump fault work × (fault.code ≢ of_dump.NoMemory)
 EndsLoading dump NoMemory work = ⊤
 EndsLoading dump other work = ⊥
 
@@ -35,11 +36,12 @@ EndsReading shelf name limit long ReadFault = ⊤
 EndsReading shelf name limit long NoMemory = ⊤
 EndsReading shelf name limit long other = ⊥
 
--- the dump is refused for this fault
+-- the dump is refused for this fault, which is never want of memory
 pub record IsRefused (shelf : Shelf) (asked : Option Asked) (fault : DumpFault) (work : ℕ) : Type 0 where
   pub dump : List ℕ
   pub given : IsDump shelf asked dump
   pub fault_is : HasBaseFault dump fault work
+  pub no_memory : fault.code ≢ of_dump.NoMemory
 
 -- the dump has a base, and the script is too long
 pub record PassesScript (shelf : Shelf) (asked : Option Asked) (work : ℕ) : Type 0 where

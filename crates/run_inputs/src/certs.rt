@@ -1,9 +1,10 @@
 // The certificate of a file.
-ghost use Rattle.std.specs.Prelude.{◌≡◌, ◌+◌, ◌<◌, IsErrOf, IsSome, MatchResult};
+ghost use Rattle.std.specs.Prelude.{◌<◌, IsErrOf, MatchResult};
 ghost use Rattle.certificate_file.specs.Said.{IsCertificate};
 ghost use Rattle.run_inputs.specs.Certs.{EndsEntries, EndsReadingCert};
 ghost use Rattle.run_inputs.specs.Inputs.{IsCert};
-ghost use Rattle.run_inputs.specs.Keeping.{KeepsStore};
+ghost use Rattle.run_inputs.specs.Begun.{BeginsOne};
+ghost use Rattle.run_inputs.specs.Keeping.{KeepsSlots, KeepsStore};
 
 use crate::input::read_input;
 use crate::status::{CERT_LIMIT, Long, Status};
@@ -36,8 +37,8 @@ pub fn read_entries<S: Store>(
 ) -> Result<Items<CertEntry>, Status>
     requires calls { (S.begun store.old).calls < 4 }
     ensures entries { MatchResult result (IsCert (S.shelf store.old) name.now) (EndsReadingCert (S.shelf store.old) name.now) }
-    ensures calls { (S.begun store.new).calls ≡ (S.begun store.old).calls + 1 }
-    ensures named { IsSome ((S.shelf store.old).file name.now) → (S.begun store.new).unnamed ≡ (S.begun store.old).unnamed }
+    ensures begins { BeginsOne (S.shelf store.old) name.now (S.begun store.old) (S.begun store.new) }
+    ensures slots { KeepsSlots (S.left store.old) (S.left store.new) (S.begun store.old).slots }
     ensures store { KeepsStore (S.shelf store.old) (S.shelf store.new) (S.faults store.old) (S.faults store.new) (IsErrOf result Status.ReadFault) }
 {
     match read_input(alloc, store, name, CERT_LIMIT, Long::CertBytes) {

@@ -1,9 +1,10 @@
 // Reading a file to its end, or until it has passed its limit.
-ghost use Rattle.std.specs.Prelude.{◌≡◌, ◌+◌, ◌^◌, ◌<◌, ◌≤◌, ◌++◌, ℕ, List, IfOk, IsErrOf, IsSome, MatchResult, length, vec_len};
+ghost use Rattle.std.specs.Prelude.{◌≡◌, ◌≢◌, ◌+◌, ◌^◌, ◌<◌, ◌≤◌, ◌++◌, ℕ, List, IfOk, IsErrOf, MatchResult, length, vec_len};
 ghost use Rattle.std.specs.Io.KnownBytes.{Consumes, IsAtEnd};
 ghost use Rattle.run_inputs.specs.Early.{EndsReading};
 ghost use Rattle.run_inputs.specs.Inputs.{IsInput};
-ghost use Rattle.run_inputs.specs.Keeping.{KeepsStore};
+ghost use Rattle.run_inputs.specs.Begun.{BeginsOne};
+ghost use Rattle.run_inputs.specs.Keeping.{KeepsSlots, KeepsStore};
 ghost use Rattle.run_inputs.specs.Reading.{IsAll, IsReading, IsContent};
 ghost use Rattle.run_inputs.specs.declared.input.ReadError.TheVariants.{Failed as ReadFailed, NoMemory as ReadNoMemory};
 
@@ -60,6 +61,7 @@ fn read_piece<S: Store>(
         × Consumes (S.left store.old slot) (S.left store.new slot) piece) }
     ensures end { IfOk result (λ count. count ≡ 0 → IsAtEnd (S.left store.new slot)) }
     ensures begun { S.begun store.new ≡ S.begun store.old }
+    ensures others { (k : ℕ) → k ≢ slot → S.left store.new k ≡ S.left store.old k }
     ensures store { KeepsStore (S.shelf store.old) (S.shelf store.new) (S.faults store.old) (S.faults store.new) (IsErrOf result ReadError.Failed) }
 {
     let room = most.min(buffer.len());
@@ -81,6 +83,7 @@ fn read_pieces<S: Store>(
     requires buffer { 0 < length buffer.old }
     ensures reading { IfOk result (IsReading (IsAll (S.left store.old slot)) limit) }
     ensures begun { S.begun store.new ≡ S.begun store.old }
+    ensures others { (k : ℕ) → k ≢ slot → S.left store.new k ≡ S.left store.old k }
     ensures store { KeepsStore (S.shelf store.old) (S.shelf store.new) (S.faults store.old) (S.faults store.new) (IsErrOf result ReadError.Failed) }
 {
     let mut bytes = Vec::new(alloc);
@@ -112,6 +115,7 @@ fn read_rest<S: Store>(
     requires limit { limit < 2 ^ 32 }
     ensures reading { IfOk result (IsReading (IsAll (S.left store.old slot)) limit) }
     ensures begun { S.begun store.new ≡ S.begun store.old }
+    ensures others { (k : ℕ) → k ≢ slot → S.left store.new k ≡ S.left store.old k }
     ensures store { KeepsStore (S.shelf store.old) (S.shelf store.new) (S.faults store.old) (S.faults store.new) (IsErrOf result ReadError.Failed) }
 {
     let mut buffer = match piece_buffer(alloc) {
@@ -131,8 +135,8 @@ fn read_file<S: Store>(
     requires calls { (S.begun store.old).calls < 4 }
     requires limit { limit < 2 ^ 32 }
     ensures reading { IfOk result (IsReading (IsContent (S.shelf store.old) name.now) limit) }
-    ensures calls { (S.begun store.new).calls ≡ (S.begun store.old).calls + 1 }
-    ensures named { IsSome ((S.shelf store.old).file name.now) → (S.begun store.new).unnamed ≡ (S.begun store.old).unnamed }
+    ensures begins { BeginsOne (S.shelf store.old) name.now (S.begun store.old) (S.begun store.new) }
+    ensures slots { KeepsSlots (S.left store.old) (S.left store.new) (S.begun store.old).slots }
     ensures store { KeepsStore (S.shelf store.old) (S.shelf store.new) (S.faults store.old) (S.faults store.new) (IsErrOf result ReadError.Failed) }
 {
     let slot = store.begin(name)?;
@@ -154,8 +158,8 @@ pub fn read_input<S: Store>(
     requires calls { (S.begun store.old).calls < 4 }
     requires limit { limit < 2 ^ 32 }
     ensures input { MatchResult result (λ bytes. IsInput (S.shelf store.old) name.now limit bytes.items) (EndsReading (S.shelf store.old) name.now limit long) }
-    ensures calls { (S.begun store.new).calls ≡ (S.begun store.old).calls + 1 }
-    ensures named { IsSome ((S.shelf store.old).file name.now) → (S.begun store.new).unnamed ≡ (S.begun store.old).unnamed }
+    ensures begins { BeginsOne (S.shelf store.old) name.now (S.begun store.old) (S.begun store.new) }
+    ensures slots { KeepsSlots (S.left store.old) (S.left store.new) (S.begun store.old).slots }
     ensures store { KeepsStore (S.shelf store.old) (S.shelf store.new) (S.faults store.old) (S.faults store.new) (IsErrOf result Status.ReadFault) }
 {
     match read_file(alloc, store, name, limit) {

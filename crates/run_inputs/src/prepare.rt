@@ -5,7 +5,7 @@ ghost use Rattle.sample_maker.specs.Texts.{sample_dump};
 ghost use Rattle.run_inputs.specs.Begun.{BeginsFiles, status_so_far};
 ghost use Rattle.run_inputs.specs.Early.{EndsEarly, EndsLoading};
 ghost use Rattle.run_inputs.specs.Ready.{IsReady};
-ghost use Rattle.run_inputs.specs.Keeping.{KeepsStore};
+ghost use Rattle.run_inputs.specs.Keeping.{KeepsSlots, KeepsStore};
 ghost use Rattle.cli_words.specs.Words.{Files, Run, Sample};
 
 use crate::input::read_input;
@@ -53,6 +53,7 @@ pub fn read_files<S: Store, L>(
         (λ ready. IsReady (S.shelf store.old) (Some (Files Run (record { dump = dump.now; script = script.now }))) ready.planner ready.script.items (steps.new - steps.old))
         (λ status. EndsEarly (S.shelf store.old) (Some (Files Run (record { dump = dump.now; script = script.now }))) status (steps.new - steps.old)) }
     ensures begins { BeginsFiles (S.shelf store.old) (Some (Files Run (record { dump = dump.now; script = script.now }))) (S.begun store.old) (S.begun store.new) (status_so_far result) }
+    ensures slots { KeepsSlots (S.left store.old) (S.left store.new) (S.begun store.old).slots }
     ensures store { KeepsStore (S.shelf store.old) (S.shelf store.new) (S.faults store.old) (S.faults store.new) (IsErrOf result Status.ReadFault) }
     ensures later { steps.old ≤ steps.new }
 {

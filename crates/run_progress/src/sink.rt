@@ -53,4 +53,6 @@ impl<'a, S: Sink + Drop, R: Clock + Eprint> Sink for WatchedSink<'a, S, R> {
     ghost limit_tells = { λ s. S.limit_tells s.sink };
 
     ghost within_limit = { λ s. S.within_limit s.sink };
+
+    ghost limit_bounds = { λ s. S.limit_bounds s.sink };
 }

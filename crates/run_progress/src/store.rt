@@ -24,6 +24,13 @@ impl<'a, S: Store + Drop, R: Clock + Eprint> WatchedStore<'a, S, R> {
         }
     }
 
+    /// The store within.
+    pub fn store(&self) -> &S
+        ensures { result.now ≡ self.now.store }
+    {
+        &self.store
+    }
+
     /// Takes away what was told.
     pub fn clear(&self) {
         self.watch.clear();

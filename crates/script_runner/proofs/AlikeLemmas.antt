@@ -56,8 +56,8 @@ solves_in line None p other r answer form some step = cc
 solves_in line (Some held) p asked r answer form some step = cc
 
 pub solves : (line : ℕ) (p : Planned) (asked : Command) (r : Planned) (answer : Reply) (form : Linear) → form_asked p asked ≡ Some form → IsStep line p asked r answer → Solves form p r answer
-unfolding form_asked IsStep
-solves line p asked r answer form some step = solves_in line p.batch p asked r answer form some step
+unfolding form_asked
+solves line p asked r answer form some step = solves_in line p.batch p asked r answer form some step.does
 
 -- what planners leave that were alike
 left_alike : (line : ℕ) (p q : Planned) (asked : Command) → AreAlike p q → line_left line p.state (session_of p.kept) p.quiet asked p.batch ≡ line_left line q.state (session_of q.kept) q.quiet asked q.batch

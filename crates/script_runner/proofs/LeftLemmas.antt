@@ -279,8 +279,8 @@ in_batch line state kept quiet held other r answer is = says_refused (planned st
 
 -- what a line leaves that has the solver settle nothing
 pub line_leaves : (line : ℕ) (p : Planned) (asked : Command) (r : Planned) (answer : Reply) → form_asked p asked ≡ None → IsStep line p asked r answer → Leaves (line_left line p.state (session_of p.kept) p.quiet asked p.batch) r answer
-unfolding form_asked IsStep
-line_leaves line p asked r answer none is = at p.batch none is
+unfolding form_asked
+line_leaves line p asked r answer none is = at p.batch none is.does
   where
     at : (batch : Option (List Held)) → form_in batch (planned p.state p.kept batch p.quiet) asked ≡ None → IsStepIn line batch (planned p.state p.kept batch p.quiet) asked r answer
         → Leaves (line_left line p.state (session_of p.kept) p.quiet asked batch) r answer

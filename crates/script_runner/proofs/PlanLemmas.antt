@@ -57,9 +57,8 @@ unfolding IsSolveReply
 solve_told s name budget r is not = told_of_place s name budget r (table_named s.tables name) refl is not
 
 step_told : (number : ℕ) (p q : AnyPlanned) (name : List ℕ) (budget : ℕ) (r : Reply) → IsStep number p (command.Solve name budget) q r → p.batch ≡ None → is_refused r ≡ false → TellsOfTable p.state name budget r
-unfolding IsStep
 step_told number p q name budget r step free not =
-    let said = subst (λ (batch : Option (List Held)). IsStepIn number batch p (command.Solve name budget) q r) free step in
+    let said = subst (λ (batch : Option (List Held)). IsStepIn number batch p (command.Solve name budget) q r) free step.does in
     solve_told p.state name budget r said.1 not
 
 pub solves_rightly : (a : Answered) → IsAnswered a → SolvesRightly a

@@ -36,7 +36,6 @@ pub fn reply_to<L>(
     reading: Reading,
     steps: &mut Steps<L>,
 ) -> Result<Reply, NoMemory>
-    requires session { (base : State) × IsSessionOf base planner.old }
     ensures reply { IfOk result (λ answer. IsReply number planner.old reading planner.new answer) }
     ensures history { (base : State) → IsSessionOf base planner.old → IsSessionOf base planner.new }
     ensures work { IfOk result (λ answer. steps.new ≤ steps.old + reading_work reading planner.old planner.new answer) }
@@ -110,7 +109,6 @@ pub fn answer_line<L>(
     line: &[u8],
     steps: &mut Steps<L>,
 ) -> Result<Told, NoMemory>
-    requires session { (base : State) × IsSessionOf base planner.old }
     ensures answer { IfOk result (λ answer. AnswersLine number line.now planner.old planner.new answer.text answer.refused answer.solved steps.old steps.new) }
     ensures history { (base : State) → IsSessionOf base planner.old → IsSessionOf base planner.new }
     ensures later { steps.old ≤ steps.new }

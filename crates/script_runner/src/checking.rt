@@ -83,7 +83,6 @@ pub fn check_lines<K: Sink, L>(
     out: &mut K,
     steps: &mut Steps<L>,
 ) -> ScriptEnd
-    requires session { (base : State) × IsSessionOf base planner.old }
     requires few { length (lines_of script.now) ≤ 100_000 }
     ensures leaves { Leaves (EndsCheck entries.now planner.old script.now) is_cut (K.written out.old) (K.written out.new) steps.old steps.new result }
     ensures history { (base : State) → IsSessionOf base planner.old → IsSessionOf base planner.new }

@@ -98,7 +98,6 @@ fn answer_all<L>(
     entries: &mut Vec<CertEntry>,
     steps: &mut Steps<L>,
 ) -> Result<bool, NoMemory>
-    requires session { (base : State) × IsSessionOf base planner.old }
     requires none_yet { solved.old.items ≡ [] }
     requires none_entered { entries.old.items ≡ [] }
     requires few { length (lines_of script.now) ≤ 100_000 }
@@ -155,7 +154,6 @@ pub fn prove_script<K: Sink, L>(
     solved: &mut Vec<SolveAnswer>,
     steps: &mut Steps<L>,
 ) -> ScriptEnd
-    requires session { (base : State) × IsSessionOf base planner.old }
     requires none_yet { solved.old.items ≡ [] }
     ensures leaves { Leaves (EndsProof planner.old script.now solved.new.items) is_cut (K.written out.old) (K.written out.new) steps.old steps.new result }
     ensures history { (base : State) → IsSessionOf base planner.old → IsSessionOf base planner.new }

@@ -26,7 +26,6 @@ pub fn answer_lines<K: Sink, L>(
     solved: &mut Vec<SolveAnswer>,
     steps: &mut Steps<L>,
 ) -> ScriptEnd
-    requires session { (base : State) × IsSessionOf base planner.old }
     requires none_yet { solved.old.items ≡ [] }
     requires few { length (lines_of script.now) ≤ 100_000 }
     ensures leaves { Leaves (EndsScript planner.old script.now solved.new.items) is_cut (K.written out.old) (K.written out.new) steps.old steps.new result }

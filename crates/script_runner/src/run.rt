@@ -42,7 +42,6 @@ pub fn run_script<K: Sink, L>(
     solved: &mut Vec<SolveAnswer>,
     steps: &mut Steps<L>,
 ) -> ScriptEnd
-    requires session { (base : State) × IsSessionOf base planner.old }
     requires none_yet { solved.old.items ≡ [] }
     ensures leaves { Leaves (EndsScript planner.old script.now solved.new.items) is_cut (K.written out.old) (K.written out.new) steps.old steps.new result }
     ensures history { (base : State) → IsSessionOf base planner.old → IsSessionOf base planner.new }

@@ -53,7 +53,6 @@ fn pose<L>(
     reading: Reading,
     steps: &mut Steps<L>,
 ) -> Result<Posed, NoMemory>
-    requires session { (base : State) × IsSessionOf base planner.old }
     ensures said { IfOk result (λ said. IsSaid number planner.old reading planner.new said) }
     ensures formed { IfOk result IsFormed }
     ensures history { (base : State) → IsSessionOf base planner.old → IsSessionOf base planner.new }
@@ -149,7 +148,6 @@ pub fn judge_line<L>(
     line: &[u8],
     steps: &mut Steps<L>,
 ) -> Result<Note, NoMemory>
-    requires session { (base : State) × IsSessionOf base planner.old }
     ensures note { IfOk result (λ note. JudgesLine entries.now number line.now planner.old planner.new note steps.old steps.new) }
     ensures history { (base : State) → IsSessionOf base planner.old → IsSessionOf base planner.new }
     ensures later { steps.old ≤ steps.new }

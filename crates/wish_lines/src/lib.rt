@@ -3,6 +3,8 @@
 
 mod lines;
 mod names;
+mod notes;
 
-pub use lines::table_text;
-pub use names::{good_text, like_names, push_label};
+pub use lines::{more_text, table_text};
+pub use names::{good_text, like_names, machine_text, names_of, push_label, recipe_text};
+pub use notes::Notes;

@@ -2,6 +2,7 @@
 ghost use Rattle.game_types.specs.Sound.{IsSound};
 
 use crate::names::{activity_text, good_text, machine_text};
+use crate::notes::{Notes, push_draw_note, push_import_note};
 use fractions::Ratio;
 use game_types::{Activity, BeaconGroup, Game, Setup};
 use plan_base::{EntityId, GoodId, NoMemory};
@@ -165,57 +166,188 @@ fn push_rows(alloc: Global, game: &Game, table: &str, rows: &[TableRow], text: &
     Ok(())
 }
 
+// A line about a good of a table, with a number.
+fn push_number_line(
+    alloc: Global,
+    game: &Game,
+    verb: &str,
+    table: &str,
+    pair: &(GoodId, Ratio),
+    text: &mut String,
+) -> Done
+    requires { IsSound game.now }
+{
+    push(text, &[verb, " ", table, " "])?;
+    push_good(alloc, game, pair.0, text)?;
+    push(text, &[" "])?;
+    push_number(alloc, &pair.1, text)?;
+    push(text, &["\n"])
+}
+
+// Whether a number stands among others for its good.
+fn stands(pairs: &[(GoodId, Ratio)], pair: &(GoodId, Ratio)) -> bool {
+    pairs
+        .iter()
+        .any(|other| other.0.0 == pair.0.0 && other.1 == pair.1)
+}
+
+// The lines about goods, but for those of numbers that stand already.
 fn push_numbers(
     alloc: Global,
     game: &Game,
     verb: &str,
     table: &str,
     numbers: &[(GoodId, Ratio)],
+    old: &[(GoodId, Ratio)],
     text: &mut String,
 ) -> Done
     requires { IsSound game.now }
 {
-    for (good, number) in numbers {
-        push(text, &[verb, " ", table, " "])?;
-        push_good(alloc, game, *good, text)?;
-        push(text, &[" "])?;
-        push_number(alloc, number, text)?;
-        push(text, &["\n"])?;
+    for pair in numbers {
+        if !stands(old, pair) {
+            push_number_line(alloc, game, verb, table, pair, text)?;
+        }
     }
     Ok(())
 }
 
-fn push_end(table: &str, power: bool, text: &mut String) -> Done {
-    if power {
-        push(text, &["power ", table, " on\n"])?;
-    }
-    push(text, &["solve ", table, "\n"])
-}
-
-fn push_table(alloc: Global, game: &Game, name: &str, table: &Table, text: &mut String) -> Done
+// The lines that import goods, with their comments, but for those that stand already.
+fn push_imports(
+    alloc: Global,
+    game: &Game,
+    table: &str,
+    imports: &[(GoodId, Ratio)],
+    old: &[(GoodId, Ratio)],
+    notes: &Notes<'_>,
+    text: &mut String,
+) -> Done
     requires { IsSound game.now }
 {
-    push(text, &["table ", name, "\n"])?;
-    push_rows(alloc, game, name, table.rows.as_slice(), text)?;
-    push_numbers(alloc, game, "import", name, table.imports.as_slice(), text)?;
+    for pair in imports {
+        if !stands(old, pair) {
+            push_import_note(alloc, game, table, pair, notes, text)?;
+            push_number_line(alloc, game, "import", table, pair, text)?;
+        }
+    }
+    Ok(())
+}
+
+// Whether some number stands for a good.
+fn names(pairs: &[(GoodId, Ratio)], good: GoodId) -> bool {
+    pairs.iter().any(|pair| pair.0.0 == good.0)
+}
+
+// The lines by which goods are imported no longer.
+fn push_ends(
+    alloc: Global,
+    game: &Game,
+    table: &str,
+    imports: &[(GoodId, Ratio)],
+    old: &[(GoodId, Ratio)],
+    text: &mut String,
+) -> Done
+    requires { IsSound game.now }
+{
+    for pair in old {
+        if !names(imports, pair.0) {
+            push(text, &["import ", table, " "])?;
+            push_good(alloc, game, pair.0, text)?;
+            push(text, &[" off\n"])?;
+        }
+    }
+    Ok(())
+}
+
+fn push_power(table: &str, power: bool, text: &mut String) -> Done {
+    if power {
+        push(text, &["power ", table, " on\n"])
+    } else {
+        Ok(())
+    }
+}
+
+// The lines of a table behind its rows, but for what stands in another already.
+fn push_rest(
+    alloc: Global,
+    game: &Game,
+    name: &str,
+    table: &Table,
+    old: &Table,
+    notes: &Notes<'_>,
+    text: &mut String,
+) -> Done
+    requires { IsSound game.now }
+{
+    let imports = table.imports.as_slice();
+    push_ends(alloc, game, name, imports, old.imports.as_slice(), text)?;
+    push_imports(
+        alloc,
+        game,
+        name,
+        imports,
+        old.imports.as_slice(),
+        notes,
+        text,
+    )?;
+    let surpluses = table.surpluses.as_slice();
     push_numbers(
         alloc,
         game,
         "surplus",
         name,
-        table.surpluses.as_slice(),
+        surpluses,
+        old.surpluses.as_slice(),
         text,
     )?;
-    push_numbers(alloc, game, "want", name, table.wants.as_slice(), text)?;
-    push_end(name, table.power, text)
+    push_draw_note(alloc, notes, text)?;
+    let wants = table.wants.as_slice();
+    push_numbers(alloc, game, "want", name, wants, old.wants.as_slice(), text)?;
+    push_power(name, table.power && !old.power, text)?;
+    push(text, &["solve ", name, "\n"])
 }
 
 /// The lines that make a table and have it solved.
-pub fn table_text(alloc: Global, game: &Game, table: &Table) -> Result<String, NoMemory>
+pub fn table_text(
+    alloc: Global,
+    game: &Game,
+    table: &Table,
+    notes: &Notes<'_>,
+) -> Result<String, NoMemory>
+    requires { IsSound game.now }
+{
+    let name = printed_word(alloc, table.name.as_str())?;
+    let empty = Table::make(alloc, "")?;
+    let mut text = String::new(alloc);
+    push(&mut text, &["table ", name.as_str(), "\n"])?;
+    push_rows(alloc, game, name.as_str(), table.rows.as_slice(), &mut text)?;
+    push_rest(alloc, game, name.as_str(), table, &empty, notes, &mut text)?;
+    Ok(text)
+}
+
+// The rows of a table behind so many.
+fn rows_behind(table: &Table, count: usize) -> &[TableRow] {
+    let rows = table.rows.as_slice();
+    if count <= rows.len() {
+        &rows[count..]
+    } else {
+        &[]
+    }
+}
+
+/// The lines that make a table of one that stands, which has the first of its rows, and have it solved.
+pub fn more_text(
+    alloc: Global,
+    game: &Game,
+    old: &Table,
+    table: &Table,
+    notes: &Notes<'_>,
+) -> Result<String, NoMemory>
     requires { IsSound game.now }
 {
     let name = printed_word(alloc, table.name.as_str())?;
     let mut text = String::new(alloc);
-    push_table(alloc, game, name.as_str(), table, &mut text)?;
+    let rows = rows_behind(table, old.rows.len());
+    push_rows(alloc, game, name.as_str(), rows, &mut text)?;
+    push_rest(alloc, game, name.as_str(), table, old, notes, &mut text)?;
     Ok(text)
 }

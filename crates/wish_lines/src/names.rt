@@ -2,7 +2,7 @@
 ghost use Rattle.game_types.specs.Sound.{IsSound};
 
 use game_types::{Activity, Game, Setup};
-use plan_base::{EntityId, GoodId, Kind, NoMemory, Text};
+use plan_base::{EntityId, GoodId, Kind, NoMemory, RecipeId, Text};
 use plan_report::object_word;
 use std::alloc::Global;
 
@@ -64,6 +64,11 @@ pub fn machine_text(alloc: Global, game: &Game, machine: EntityId) -> Result<Str
         Kind::Machine,
         name_at(game, Kind::Machine, machine.0),
     )?)
+}
+
+/// A recipe as a word.
+pub fn recipe_text(alloc: Global, game: &Game, recipe: RecipeId) -> Result<String, NoMemory> {
+    Ok(object_word(alloc, Kind::Recipe, name_at(game, Kind::Recipe, recipe.0))?)
 }
 
 // The kind of what a set-up does, and its place among those.
@@ -136,7 +141,7 @@ fn count_of(game: &Game, kind: Kind) -> u32
 {
     let shape = game.shape();
     match kind {
-        Kind::Special => 0,
+        Kind::Special => 1,
         Kind::Item => shape.items,
         Kind::Fluid => shape.fluids,
         Kind::Recipe => shape.recipes,
@@ -146,8 +151,26 @@ fn count_of(game: &Game, kind: Kind) -> u32
     }
 }
 
+/// The names of a kind, each at its place. Of the special things only electricity is there.
+///
+/// # Errors
+///
+/// `NoMemory` where memory could not be had.
+pub fn names_of(alloc: Global, game: &Game, kind: Kind) -> Result<Vec<Text>, NoMemory>
+    requires { IsSound game.now }
+{
+    let mut names = Vec::new(alloc);
+    for place in 0..count_of(game, kind) {
+        names.push(Text::copy(alloc, name_at(game, kind, place))?)?;
+    }
+    Ok(names)
+}
+
+// The most names that are told to be like one.
+const LIKE: usize = 8;
+
 fn add_like(alloc: Global, name: &str, text: &str, found: &mut Vec<Text>) -> Result<(), NoMemory> {
-    if found.len() < 8 && name != text && name.contains(text) {
+    if found.len() < LIKE && name != text && name.contains(text) {
         found.push(Text::copy(alloc, name)?)?;
     }
     Ok(())

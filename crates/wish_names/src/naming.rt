@@ -1,206 +1,170 @@
 //! The wish that words ask for, by what they name in a game.
+ghost use Rattle.std.specs.Prelude.{◌≡◌, IfOk};
 ghost use Rattle.game_types.specs.Sound.{IsSound};
 
+use crate::objects::{
+    NameFault, beacon, good, item, machines, module, modules, recipes, wished_good,
+};
 use fractions::Ratio;
-use game_types::{Game, MachineKind};
-use plan_base::{EntityId, GoodId, Items, Kind, TechId};
-use std::alloc::{AllocFailed, Global};
-use wish_setups::{Wish, WishBeacon};
-use wish_words::{Asked, AskedBeacon, AskedImport, Named};
+use game_types::Game;
+use plan_base::{GoodId, Items};
+use std::alloc::Global;
+use wish_setups::{Cheapest, Wish, WishBeacon};
+use wish_words::{Asked, AskedBeacon, AskedImport, AskedWish, Least};
 
-/// Why words name no wish.
-#[derive(Clone, Copy)]
-pub enum NameFault<'a> {
-    /// Nothing in the game has the name.
-    Unknown(Named<'a>),
-    /// A fluid that is made at several temperatures, of which none is named.
-    SeveralTemperatures(Named<'a>),
-    /// An item that is no module.
-    NoModule(Named<'a>),
-    /// A machine that is no beacon.
-    NoBeacon(Named<'a>),
-    NoMemory,
+// A good with its number behind others, where it isn't among them.
+fn add<'a>(
+    word: &'a str,
+    pair: (GoodId, Ratio),
+    pairs: &mut Vec<(GoodId, Ratio)>,
+) -> Result<(), NameFault<'a>> {
+    if pairs.iter().any(|other| other.0.0 == pair.0.0) {
+        return Err(NameFault::Twice(word));
+    }
+    pairs.push(pair)?;
+    Ok(())
 }
 
-impl<'a, T: Drop> From<AllocFailed<T>> for NameFault<'a> {
-    fn from(_: AllocFailed<T>) -> NameFault<'a> {
-        NameFault::NoMemory
+// The units a second that are wished for.
+fn rate_of<'a>(asked: &AskedWish<'a>, belt: &Option<Ratio>) -> Result<Ratio, NameFault<'a>> {
+    if let Some(rate) = asked.rate {
+        return Ok(rate);
+    }
+    match belt {
+        Some(rate) => Ok(*rate),
+        None => Err(NameFault::NoRate(asked.good)),
     }
 }
 
-// The place of an object among those of its kind.
-fn place_of<'a>(game: &Game, object: Named<'a>) -> Result<u32, NameFault<'a>>
-    requires { IsSound game.now }
-{
-    match game.find(object.kind, object.name) {
-        Some(node) => Ok(game.shape().kind_of(node).1),
-        None => Err(NameFault::Unknown(object)),
-    }
-}
-
-// A fluid that has one temperature.
-fn fluid<'a>(game: &Game, object: Named<'a>, place: u32) -> Result<GoodId, NameFault<'a>>
-    requires { IsSound game.now }
-{
-    let good = GoodId(game.shape().items.saturating_add(place));
-    if game.is_base(good) {
-        Err(NameFault::SeveralTemperatures(object))
-    } else {
-        Ok(good)
-    }
-}
-
-// One unit of a technology.
-fn unit<'a>(game: &Game, object: Named<'a>, place: u32) -> Result<GoodId, NameFault<'a>>
-    requires { IsSound game.now }
-{
-    if (place as usize) < game.techs.len() {
-        Ok(game.units_good(TechId(place)))
-    } else {
-        Err(NameFault::Unknown(object))
-    }
-}
-
-fn good<'a>(game: &Game, object: Named<'a>) -> Result<GoodId, NameFault<'a>>
-    requires { IsSound game.now }
-{
-    let place = place_of(game, object)?;
-    match object.kind {
-        Kind::Item => Ok(GoodId(place)),
-        Kind::Fluid => fluid(game, object, place),
-        Kind::Tech => unit(game, object, place),
-        _ => Ok(game.electricity()),
-    }
-}
-
-fn machine<'a>(game: &Game, object: Named<'a>) -> Result<EntityId, NameFault<'a>>
-    requires { IsSound game.now }
-{
-    Ok(EntityId(place_of(game, object)?))
-}
-
-fn machines<'a>(
+// What is wished for.
+fn wants<'a>(
     alloc: Global,
     game: &Game,
-    objects: &[Named<'a>],
-) -> Result<Items<EntityId>, NameFault<'a>>
+    reached: &[bool],
+    asked: &[AskedWish<'a>],
+    belt: &Option<Ratio>,
+) -> Result<Vec<(GoodId, Ratio)>, NameFault<'a>>
     requires { IsSound game.now }
 {
-    let mut machines = Vec::new(alloc);
-    for object in objects {
-        machines.push(machine(game, *object)?)?;
+    let mut wants = Vec::new(alloc);
+    for wish in asked {
+        let good = wished_good(alloc, game, reached, wish.good)?;
+        let rate = rate_of(wish, belt)?;
+        add(wish.good, (good, rate), &mut wants)?;
     }
-    Ok(Items::from_vec(machines))
+    Ok(wants)
+}
+
+// What is wished for, or the good that is to get more rows, with a rate that says nothing.
+fn all_wants<'a>(
+    alloc: Global,
+    game: &Game,
+    reached: &[bool],
+    asked: &Asked<'a>,
+    belt: &Option<Ratio>,
+) -> Result<Items<(GoodId, Ratio)>, NameFault<'a>>
+    requires { IsSound game.now }
+{
+    let mut wants = wants(alloc, game, reached, asked.wishes.as_slice(), belt)?;
+    if let Some(more) = asked.more {
+        let good = wished_good(alloc, game, reached, more.good)?;
+        add(more.good, (good, Ratio::one()), &mut wants)?;
+    }
+    Ok(Items::from_vec(wants))
 }
 
 fn imports<'a>(
     alloc: Global,
     game: &Game,
+    reached: &[bool],
     asked: &[AskedImport<'a>],
 ) -> Result<Items<(GoodId, Ratio)>, NameFault<'a>>
     requires { IsSound game.now }
 {
     let mut imports = Vec::new(alloc);
     for import in asked {
-        imports.push((good(game, import.good)?, import.price))?;
+        let good = good(alloc, game, reached, import.good)?;
+        add(import.good, (good, import.price), &mut imports)?;
     }
     Ok(Items::from_vec(imports))
 }
 
-fn item<'a>(game: &Game, object: Option<Named<'a>>) -> Result<Option<GoodId>, NameFault<'a>>
+fn fuel<'a>(
+    alloc: Global,
+    game: &Game,
+    word: Option<&'a str>,
+) -> Result<Option<GoodId>, NameFault<'a>>
     requires { IsSound game.now }
 {
-    match object {
-        Some(object) => Ok(Some(GoodId(place_of(game, object)?))),
+    match word {
+        Some(word) => Ok(Some(item(alloc, game, word)?)),
         None => Ok(None),
-    }
-}
-
-fn is_module(game: &Game, item: GoodId) -> bool {
-    match game.items.as_slice().get(item.0 as usize) {
-        Some(item) => item.module.is_some(),
-        None => false,
-    }
-}
-
-fn is_beacon(game: &Game, machine: EntityId) -> bool {
-    match game.machines.as_slice().get(machine.0 as usize) {
-        Some(machine) => matches!(machine.kind, MachineKind::Beacon { .. }),
-        None => false,
-    }
-}
-
-fn module<'a>(game: &Game, object: Named<'a>) -> Result<GoodId, NameFault<'a>>
-    requires { IsSound game.now }
-{
-    let module = GoodId(place_of(game, object)?);
-    if is_module(game, module) {
-        Ok(module)
-    } else {
-        Err(NameFault::NoModule(object))
-    }
-}
-
-fn filled<'a>(game: &Game, object: Option<Named<'a>>) -> Result<Option<GoodId>, NameFault<'a>>
-    requires { IsSound game.now }
-{
-    match object {
-        Some(object) => Ok(Some(module(game, object)?)),
-        None => Ok(None),
-    }
-}
-
-fn beacon<'a>(game: &Game, asked: AskedBeacon<'a>) -> Result<WishBeacon, NameFault<'a>>
-    requires { IsSound game.now }
-{
-    let beacon = machine(game, asked.machine)?;
-    let module = module(game, asked.item)?;
-    if is_beacon(game, beacon) {
-        Ok(WishBeacon {
-            beacon,
-            count: asked.count,
-            share: asked.share,
-            module,
-        })
-    } else {
-        Err(NameFault::NoBeacon(asked.machine))
     }
 }
 
 fn surrounding<'a>(
+    alloc: Global,
     game: &Game,
     asked: Option<AskedBeacon<'a>>,
 ) -> Result<Option<WishBeacon>, NameFault<'a>>
     requires { IsSound game.now }
 {
+    let Some(asked) = asked else {
+        return Ok(None);
+    };
+    let beacon = beacon(alloc, game, asked.machine)?;
+    let module = module(alloc, game, asked.item)?;
+    Ok(Some(WishBeacon {
+        beacon,
+        count: asked.count,
+        share: asked.share,
+        module,
+    }))
+}
+
+fn cheapest(asked: Least) -> Cheapest {
     match asked {
-        Some(asked) => Ok(Some(beacon(game, asked)?)),
-        None => Ok(None),
+        Least::Cost => Cheapest::Cost,
+        Least::Power => Cheapest::Power,
+        Least::Pollution => Cheapest::Pollution,
+        Least::Machines => Cheapest::Machines,
     }
 }
 
-/// The wish that the words ask for.
+/// The wish that the words ask for in a state that reaches these nodes. A good without a rate is wished for at the rate of a belt.
 ///
 /// # Errors
 ///
 /// The first word that names nothing that is fit, or `NoMemory`.
-pub fn wish_of<'a>(alloc: Global, game: &Game, asked: &Asked<'a>) -> Result<Wish, NameFault<'a>>
+pub fn wish_of<'a>(
+    alloc: Global,
+    game: &Game,
+    reached: &[bool],
+    asked: &Asked<'a>,
+    belt: Option<Ratio>,
+) -> Result<Wish, NameFault<'a>>
     requires { IsSound game.now }
+    ensures asked { IfOk result (λ wish. (wish.rows ≡ asked.now.choice.rows) × (wish.dig ≡ asked.now.dig) × (wish.power ≡ asked.now.power)) }
 {
+    let wants = all_wants(alloc, game, reached, asked, &belt)?;
     let by = machines(alloc, game, asked.by.as_slice())?;
-    let imports = imports(alloc, game, asked.imports.as_slice())?;
-    let module = filled(game, asked.setup.module)?;
-    let beacon = surrounding(game, asked.setup.beacon)?;
-    let good = good(game, asked.good)?;
-    let fuel = item(game, asked.setup.fuel)?;
+    let modules = modules(alloc, game, asked.setup.modules.as_slice())?;
+    let beacon = surrounding(alloc, game, asked.setup.beacon)?;
+    let fuel = fuel(alloc, game, asked.setup.fuel)?;
+    let imports = imports(alloc, game, reached, asked.imports.as_slice())?;
+    let without = recipes(alloc, game, asked.choice.without.as_slice())?;
+    let only = recipes(alloc, game, asked.choice.only.as_slice())?;
     Ok(Wish {
-        good,
-        rate: asked.rate,
+        wants,
         by,
-        module,
+        modules,
         beacon,
         fuel,
         imports,
+        without,
+        only,
+        rows: asked.choice.rows,
+        cheapest: cheapest(asked.choice.cheapest),
         dig: asked.dig,
         power: asked.power,
     })

@@ -1,1 +1,3 @@
-pub mod Answers
+pub mod Reach
+pub mod Fitting
+pub mod Choice

@@ -1,14 +1,20 @@
 //! The machine that does something best, and the fuel that it burns.
+ghost use Rattle.std.specs.Prelude.{◌≡◌, ◌+◌, ◌<◌, ◌==◌, IfOk, IfSome, Option, None, Some, is_some, length, option_and_then, option_map, slice_get};
+ghost use Rattle.std.specs.List.{list_any};
 ghost use Rattle.game_types.specs.Sound.{IsSound};
+ghost use Rattle.game_types.specs.Temperatures.{fluid_at};
+ghost use Rattle.wish_setups.specs.Choice.{DoesBy, IsBestSetup, bare_setup, best_below, best_fuel, best_machine, boils, burner_fuel, count_of, crafts, crafts_in, crafts_some, fuel_for, fuel_in, fuel_of, fuel_rank, generates, good_at, heat_by, heat_of, is_burner, is_drill, is_hotter, is_import, is_lab, is_none, is_output, is_raw, machine_rank, may_do, place_among, pumps, rank_at, rank_of_fuel, rank_of_kind, rank_of_machine, rank_with, takes_first, value_in, value_of, wastes_heat};
 
 use crate::Wish;
+use crate::ranks::{Rank, better, is_below};
 use crate::reach::{is_good_marked, is_reached};
-use crate::setups::{Bare, dressed, machines_of, setup_with, takes_in};
+use crate::setups::{Bare, bare_setup, dressed, machines_of, takes_in};
 use fractions::Ratio;
-use game_types::{Activity, Energy, Game, MachineKind, Setup, holds, takes_fuel};
+use game_types::{
+    Activity, Energy, Fluid, Fuel, Game, Machine, MachineKind, Recipe, Setup, holds, takes_fuel,
+};
 use plan_base::{EntityId, GoodId, Kind, NoMemory};
 use std::alloc::Global;
-use std::cmp::Ordering;
 
 /// What is known of a game: which things are reached, by node, which goods sources give, and which reached items are fuels.
 #[derive(Clone, Copy)]
@@ -29,74 +35,275 @@ pub fn price_in(imports: &[(GoodId, Ratio)], good: GoodId) -> Option<Ratio> {
 }
 
 /// Whether the wish imports a good.
-pub fn is_import(wish: &Wish, good: GoodId) -> bool {
-    price_in(wish.imports.as_slice(), good).is_some()
+pub fn is_import(wish: &Wish, good: GoodId) -> bool
+    ensures { result ≡ is_import wish.now good }
+{
+    wish.imports
+        .as_slice()
+        .iter()
+        .any(|import| import.0.0 == good.0)
 }
 
-// A fuel, whether it is taken as it is, and its energy.
-#[derive(Clone, Copy)]
-struct FuelChoice {
-    good: GoodId,
-    raw: bool,
-    value: Ratio,
-}
-
-// The better of two fuels: one that is taken as it is, then the one with more energy, then the first.
-fn better_fuel(best: Option<FuelChoice>, other: FuelChoice) -> Option<FuelChoice> {
-    let Some(best) = best else {
-        return Some(other);
+// The energy of a fuel that a burner takes.
+fn value_of(energy: &Energy, fuel: &Option<Fuel>) -> Option<Ratio>
+    ensures { result ≡ value_of energy.now fuel.now }
+{
+    let Some(fuel) = fuel else {
+        return None;
     };
-    if best.raw != other.raw {
-        return if best.raw { Some(best) } else { Some(other) };
-    }
-    match best.value.cmp(&other.value) {
-        Ordering::Less => Some(other),
-        _ => Some(best),
-    }
-}
-
-// An item as a fuel of a machine, where the machine burns it.
-fn burnt(game: &Game, energy: &Energy, good: GoodId, raw: bool) -> Option<FuelChoice> {
-    let item = game.items.as_slice().get(good.0 as usize)?;
-    let fuel = item.fuel?;
-    if takes_fuel(energy, &fuel) {
-        Some(FuelChoice {
-            good,
-            raw,
-            value: fuel.value,
-        })
+    if takes_fuel(energy, fuel) {
+        Some(fuel.value)
     } else {
         None
     }
 }
 
-// The best fuel of a burner among the reached items.
-fn best_fuel(game: &Game, state: State<'_>, wish: &Wish, energy: &Energy) -> Option<GoodId> {
-    let mut best = None;
-    for good in state.fuels {
-        let raw = is_good_marked(state.mined, *good) || is_import(wish, *good);
-        if let Some(other) = burnt(game, energy, *good, raw) {
-            best = better_fuel(best, other);
-        }
-    }
-    match best {
-        Some(best) => Some(best.good),
+// The energy of an item that a burner takes.
+#[tactic(auto, unfolding(crate::specs::Choice::value_in))]
+fn value_in(game: &Game, energy: &Energy, good: GoodId) -> Option<Ratio>
+    ensures { result ≡ value_in game.now energy.now good }
+{
+    match game.items.as_slice().get(good.0 as usize) {
+        Some(item) => value_of(energy, &item.fuel),
         None => None,
     }
 }
 
-// The fuel that a machine burns: the wish's where it takes that, else the best. None where it is no burner.
-fn fuel_for(game: &Game, state: State<'_>, wish: &Wish, energy: &Energy) -> Option<GoodId> {
-    match energy {
-        Energy::Burner { .. } => {}
-        _ => return None,
+// Whether a fuel is taken as it is.
+fn is_raw(wish: &Wish, mined: &[bool], good: GoodId) -> bool
+    ensures { result ≡ is_raw wish.now mined.now good }
+{
+    is_good_marked(mined, good) || is_import(wish, good)
+}
+
+fn fuel_rank(raw: bool, value: &Ratio) -> Rank
+    ensures { result ≡ fuel_rank raw value.now }
+{
+    let place = if raw { 0 } else { 1 };
+    Rank {
+        place,
+        wastes: false,
+        heat: value.neg(),
+        machines: Ratio::zero(),
+        burns: false,
     }
+}
+
+// The rank of an item as a fuel, where the burner takes it.
+fn rank_of_fuel(
+    game: &Game,
+    wish: &Wish,
+    mined: &[bool],
+    energy: &Energy,
+    good: GoodId,
+) -> Option<Rank>
+    ensures { result ≡ rank_of_fuel game.now wish.now mined.now energy.now good }
+{
+    match value_in(game, energy, good) {
+        Some(value) => Some(fuel_rank(is_raw(wish, mined, good), &value)),
+        None => None,
+    }
+}
+
+// The rank of the fuel at a place of a list.
+fn rank_at(
+    game: &Game,
+    wish: &Wish,
+    mined: &[bool],
+    energy: &Energy,
+    fuels: &[GoodId],
+    place: usize,
+) -> Option<Rank>
+    ensures { result ≡ rank_at game.now wish.now mined.now energy.now fuels.now place }
+{
+    match fuels.get(place) {
+        Some(good) => rank_of_fuel(game, wish, mined, energy, *good),
+        None => None,
+    }
+}
+
+// The best of some fuels, with its place.
+fn best_place(
+    game: &Game,
+    wish: &Wish,
+    mined: &[bool],
+    fuels: &[GoodId],
+    energy: &Energy,
+) -> Option<(usize, Rank)>
+    ensures { result ≡ best_below (rank_at game.now wish.now mined.now energy.now fuels.now) (length fuels.now) }
+{
+    let mut best = None;
+    for place in 0..fuels.len() {
+        let rank = rank_at(game, wish, mined, energy, fuels, place);
+        best = better(best, place, rank);
+    }
+    best
+}
+
+// The fuel at the place of the best.
+fn good_at(fuels: &[GoodId], best: Option<(usize, Rank)>) -> Option<GoodId>
+    ensures { result ≡ good_at fuels.now best }
+{
+    let Some(best) = best else {
+        return None;
+    };
+    match fuels.get(best.0) {
+        Some(good) => Some(*good),
+        None => None,
+    }
+}
+
+// The best of some fuels.
+#[tactic(auto, unfolding(crate::specs::Choice::best_fuel))]
+fn best_fuel(
+    game: &Game,
+    wish: &Wish,
+    mined: &[bool],
+    fuels: &[GoodId],
+    energy: &Energy,
+) -> Option<GoodId>
+    ensures { result ≡ best_fuel game.now wish.now mined.now fuels.now energy.now }
+{
+    good_at(fuels, best_place(game, wish, mined, fuels, energy))
+}
+
+// The fuel that a burner burns: the wish's where it takes that, else the best.
+fn burner_fuel(
+    game: &Game,
+    wish: &Wish,
+    mined: &[bool],
+    fuels: &[GoodId],
+    energy: &Energy,
+) -> Option<GoodId>
+    ensures { result ≡ burner_fuel game.now wish.now mined.now fuels.now energy.now wish.now.fuel }
+{
     if let Some(good) = wish.fuel {
-        if burnt(game, energy, good, true).is_some() {
+        if value_in(game, energy, good).is_some() {
             return Some(good);
         }
     }
-    best_fuel(game, state, wish, energy)
+    best_fuel(game, wish, mined, fuels, energy)
+}
+
+fn is_burner(energy: &Energy) -> bool
+    ensures { result ≡ is_burner energy.now }
+{
+    match energy {
+        Energy::Burner { .. } => true,
+        _ => false,
+    }
+}
+
+// The fuel that a machine burns. None where it is no burner.
+#[tactic(auto, unfolding(crate::specs::Choice::fuel_for))]
+fn fuel_for(
+    game: &Game,
+    wish: &Wish,
+    mined: &[bool],
+    fuels: &[GoodId],
+    energy: &Energy,
+) -> Option<GoodId>
+    ensures { result ≡ fuel_for game.now wish.now mined.now fuels.now energy.now }
+{
+    if is_burner(energy) {
+        burner_fuel(game, wish, mined, fuels, energy)
+    } else {
+        None
+    }
+}
+
+fn crafts_in(kind: &MachineKind, category: u32) -> bool
+    ensures { result ≡ crafts_in kind.now category }
+{
+    match kind {
+        MachineKind::Crafter { categories, .. } => holds(categories.as_slice(), category),
+        _ => false,
+    }
+}
+
+// Whether a machine is of a kind that crafts a recipe: its silo, where that launches rockets.
+fn crafts(machine: EntityId, kind: &MachineKind, recipe: &Recipe) -> bool
+    ensures { result ≡ crafts machine kind.now recipe.now.category recipe.now.launch }
+{
+    match recipe.launch {
+        Some(silo) => silo.0 == machine.0,
+        None => crafts_in(kind, recipe.category),
+    }
+}
+
+fn crafts_some(game: &Game, machine: EntityId, kind: &MachineKind, place: usize) -> bool
+    ensures { result ≡ crafts_some machine kind.now (slice_get game.now.recipes place) }
+{
+    match game.recipes.as_slice().get(place) {
+        Some(recipe) => crafts(machine, kind, recipe),
+        None => false,
+    }
+}
+
+fn is_drill(kind: &MachineKind) -> bool
+    ensures { result ≡ is_drill kind.now }
+{
+    match kind {
+        MachineKind::Drill { .. } => true,
+        _ => false,
+    }
+}
+
+fn pumps(good: GoodId, kind: &MachineKind) -> bool
+    ensures { result ≡ pumps good kind.now }
+{
+    match kind {
+        MachineKind::Pump { fluid, .. } => fluid.0 == good.0,
+        _ => false,
+    }
+}
+
+fn is_output(good: GoodId, output: &Option<GoodId>) -> bool
+    ensures { result ≡ is_output good output.now }
+{
+    match output {
+        Some(output) => output.0 == good.0,
+        None => false,
+    }
+}
+
+fn boils(good: GoodId, kind: &MachineKind) -> bool
+    ensures { result ≡ boils good kind.now }
+{
+    match kind {
+        MachineKind::Boiler { output, .. } => is_output(good, output),
+        _ => false,
+    }
+}
+
+fn is_none(goods: &[GoodId]) -> bool
+    ensures { result ≡ is_none goods.now }
+{
+    match goods {
+        [] => true,
+        [_, ..] => false,
+    }
+}
+
+// Whether a machine is of a kind that makes electricity of these fluids, or where there are none of a fuel or of nothing.
+fn generates(at: &[GoodId], kind: &MachineKind) -> bool
+    ensures { result ≡ generates at.now kind.now }
+{
+    match kind {
+        MachineKind::Generator { .. } => !is_none(at),
+        MachineKind::BurnerGenerator { .. } => is_none(at),
+        MachineKind::Solar { .. } => is_none(at),
+        _ => false,
+    }
+}
+
+fn is_lab(kind: &MachineKind) -> bool
+    ensures { result ≡ is_lab kind.now }
+{
+    match kind {
+        MachineKind::Lab { .. } => true,
+        _ => false,
+    }
 }
 
 // Whether machines of a kind may do something; what is refused for other reasons is found later.
@@ -106,166 +313,305 @@ fn may_do(
     kind: &MachineKind,
     activity: Activity,
     at: &[GoodId],
-) -> bool {
+) -> bool
+    ensures { result ≡ may_do game.now machine kind.now activity at.now }
+{
     match activity {
-        Activity::Craft(recipe) => match game.recipes.as_slice().get(recipe.0 as usize) {
-            Some(recipe) => match recipe.launch {
-                Some(silo) => silo == machine,
-                None => match kind {
-                    MachineKind::Crafter { categories, .. } => {
-                        holds(categories.as_slice(), recipe.category)
-                    }
-                    _ => false,
-                },
-            },
-            None => false,
-        },
-        Activity::Mine(_) => matches!(kind, MachineKind::Drill { .. }),
-        Activity::Pump(good) => match kind {
-            MachineKind::Pump { fluid, .. } => *fluid == good,
-            _ => false,
-        },
-        Activity::Boil(good) => match kind {
-            MachineKind::Boiler { output, .. } => *output == Some(good),
-            _ => false,
-        },
-        Activity::Generate => match kind {
-            MachineKind::Generator { .. } => !at.is_empty(),
-            MachineKind::BurnerGenerator { .. } => at.is_empty(),
-            MachineKind::Solar { .. } => at.is_empty(),
-            _ => false,
-        },
-        Activity::Research(_) => matches!(kind, MachineKind::Lab { .. }),
+        Activity::Craft(recipe) => crafts_some(game, machine, kind, recipe.0 as usize),
+        Activity::Mine(_) => is_drill(kind),
+        Activity::Pump(good) => pumps(good, kind),
+        Activity::Generate => generates(at, kind),
+        Activity::Boil(good) => boils(good, kind),
+        Activity::Research(_) => is_lab(kind),
     }
 }
 
-// Whether what makes electricity takes in the fluid that the set-up names, if any.
-fn takes_those(game: &Game, setup: &Setup) -> bool
+// Whether what makes electricity takes in the first of these fluids.
+fn takes_first(game: &Game, setup: &Setup, activity: Activity, at: &[GoodId]) -> bool
     requires { IsSound game.now }
+    ensures { result ≡ takes_first game.now setup.now activity at.now }
 {
-    match (setup.activity, setup.at.as_slice().first()) {
-        (Activity::Generate, Some(fluid)) => takes_in(game, setup, *fluid),
+    match activity {
+        Activity::Generate => match at {
+            [fluid, ..] => takes_in(game, setup, *fluid),
+            [] => true,
+        },
         _ => true,
     }
 }
 
-// A machine whose set-up can stand in a table, and what it is chosen by.
-#[derive(Clone, Copy)]
-struct Candidate {
-    machine: EntityId,
-    fuel: Option<GoodId>,
-    preferred: bool,
-    machines: Ratio,
-}
-
-// Whether a candidate comes before another: machines of the wish, then faster ones, then those that burn nothing.
-fn is_better(one: &Candidate, other: &Candidate) -> bool {
-    if one.preferred != other.preferred {
-        return one.preferred;
-    }
-    match one.machines.cmp(&other.machines) {
-        Ordering::Less => true,
-        Ordering::Greater => false,
-        Ordering::Equal => other.fuel.is_some() && one.fuel.is_none(),
-    }
-}
-
-fn better(best: Option<Candidate>, other: Candidate) -> Option<Candidate> {
-    match best {
-        Some(best) if !is_better(&other, &best) => Some(best),
-        _ => Some(other),
-    }
-}
-
 // How many machines one craft a second takes, where the set-up can stand in a table so.
-fn count_with(alloc: Global, game: &Game, bare: &Bare<'_>) -> Result<Option<Ratio>, NoMemory>
+#[tactic(auto, unfolding(crate::specs::Choice::count_of))]
+fn count_of(game: &Game, setup: &Setup) -> Option<Ratio>
     requires { IsSound game.now }
+    ensures { result ≡ count_of game.now setup.now }
 {
-    let setup = setup_with(alloc, game, bare, None, None)?;
-    if takes_those(game, &setup) {
-        Ok(machines_of(game, &setup))
-    } else {
-        Ok(None)
-    }
-}
-
-// The fuel of a machine that may do something, if it burns any. None where it may not.
-fn fuel_with(
-    game: &Game,
-    state: State<'_>,
-    wish: &Wish,
-    activity: Activity,
-    number: EntityId,
-    at: &[GoodId],
-) -> Option<Option<GoodId>>
-    requires { IsSound game.now }
-{
-    if !is_reached(game, state.reached, Kind::Machine, number.0) {
-        return None;
-    }
-    let machine = game.machines.as_slice().get(number.0 as usize)?;
-    if may_do(game, number, &machine.kind, activity, at) {
-        Some(fuel_for(game, state, wish, &machine.energy))
+    if takes_first(game, setup, setup.activity, setup.at.as_slice()) {
+        machines_of(game, setup)
     } else {
         None
     }
 }
 
-// A machine as a candidate.
-fn as_candidate(
+fn is_hotter(fluid: Option<&Fluid>, temperature: &Ratio) -> bool
+    ensures { result ≡ is_hotter (option_map (λ fluid. fluid.now) fluid.entry) temperature.now }
+{
+    match fluid {
+        Some(fluid) => is_below(temperature, &fluid.at),
+        None => false,
+    }
+}
+
+// Whether a fluid is hotter than the hottest of which a generator makes use.
+fn wastes_heat(game: &Game, at: &[GoodId], kind: &MachineKind) -> bool
+    ensures { result ≡ wastes_heat game.now at.now kind.now }
+{
+    let [fluid, ..] = at else {
+        return false;
+    };
+    match kind {
+        MachineKind::Generator {
+            max_temperature,
+            burns,
+            ..
+        } => !*burns && is_hotter(game.fluid(*fluid), max_temperature),
+        _ => false,
+    }
+}
+
+fn heat_by(wastes: bool, temperature: &Ratio) -> Ratio
+    ensures { result ≡ heat_by wastes temperature.now }
+{
+    if wastes {
+        temperature.neg()
+    } else {
+        *temperature
+    }
+}
+
+fn heat_of(wastes: bool, kind: &MachineKind) -> Ratio
+    ensures { result ≡ heat_of wastes kind.now }
+{
+    match kind {
+        MachineKind::Generator {
+            max_temperature,
+            burns,
+            ..
+        } => {
+            if *burns {
+                Ratio::zero()
+            } else {
+                heat_by(wastes, max_temperature)
+            }
+        }
+        _ => Ratio::zero(),
+    }
+}
+
+// The place of a machine among some, behind the last where it is none of them.
+fn place_among(machines: &[EntityId], machine: EntityId) -> usize
+    ensures { result ≡ place_among machines.now machine.0 }
+{
+    let mut place = 0;
+    for other in machines {
+        if other.0 == machine.0 {
+            return place;
+        }
+        place += 1;
+    }
+    place
+}
+
+fn machine_rank(
+    game: &Game,
+    wish: &Wish,
+    at: &[GoodId],
+    machine: EntityId,
+    kind: &MachineKind,
+    fuel: Option<GoodId>,
+    machines: Ratio,
+) -> Rank
+    ensures { result ≡ machine_rank game.now wish.now at.now machine kind.now fuel machines }
+{
+    let wastes = wastes_heat(game, at, kind);
+    Rank {
+        place: place_among(wish.by.as_slice(), machine),
+        wastes,
+        heat: heat_of(wastes, kind),
+        machines,
+        burns: fuel.is_some(),
+    }
+}
+
+// The rank of a machine with a fuel, where it does something so.
+fn rank_with(
+    alloc: Global,
+    game: &Game,
+    wish: &Wish,
+    kind: &MachineKind,
+    bare: &Bare<'_>,
+) -> Result<Option<Rank>, NoMemory>
+    requires { IsSound game.now }
+    ensures { IfOk result (λ rank. rank ≡ rank_with game.now wish.now bare.now.activity bare.now.at.now bare.now.machine kind.now bare.now.fuel) }
+{
+    let setup = bare_setup(alloc, bare)?;
+    match count_of(game, &setup) {
+        Some(machines) => Ok(Some(machine_rank(
+            game,
+            wish,
+            bare.at,
+            bare.machine,
+            kind,
+            bare.fuel,
+            machines,
+        ))),
+        None => Ok(None),
+    }
+}
+
+// The rank of a machine, where it does something.
+fn rank_of_kind(
     alloc: Global,
     game: &Game,
     state: State<'_>,
     wish: &Wish,
     activity: Activity,
-    machine: EntityId,
     at: &[GoodId],
-) -> Result<Option<Candidate>, NoMemory>
+    number: EntityId,
+    machine: &Machine,
+) -> Result<Option<Rank>, NoMemory>
     requires { IsSound game.now }
+    ensures { IfOk result (λ rank. rank ≡ rank_of_kind game.now wish.now state.entry.mined.now state.entry.fuels.now activity at.now number (Some machine.now)) }
 {
-    let Some(fuel) = fuel_with(game, state, wish, activity, machine, at) else {
+    if !may_do(game, number, &machine.kind, activity, at) {
         return Ok(None);
-    };
+    }
     let bare = Bare {
         activity,
-        machine,
-        fuel,
+        machine: number,
+        fuel: fuel_for(game, wish, state.mined, state.fuels, &machine.energy),
         at,
     };
-    let Some(machines) = count_with(alloc, game, &bare)? else {
+    rank_with(alloc, game, wish, &machine.kind, &bare)
+}
+
+// The rank of a machine that is reached and does something.
+#[tactic(auto, unfolding(crate::specs::Choice::rank_of_machine))]
+fn rank_of_machine(
+    alloc: Global,
+    game: &Game,
+    state: State<'_>,
+    wish: &Wish,
+    activity: Activity,
+    at: &[GoodId],
+    number: u32,
+) -> Result<Option<Rank>, NoMemory>
+    requires { IsSound game.now }
+    ensures { IfOk result (λ rank. rank ≡ rank_of_machine game.now state.entry.reached.now wish.now state.entry.mined.now state.entry.fuels.now activity at.now number) }
+{
+    if !is_reached(game, state.reached, Kind::Machine, number) {
         return Ok(None);
-    };
-    let preferred = wish.by.as_slice().iter().any(|by| *by == machine);
-    Ok(Some(Candidate {
-        machine,
-        fuel,
-        preferred,
-        machines,
-    }))
+    }
+    match game.machines.as_slice().get(number as usize) {
+        Some(machine) => {
+            rank_of_kind(
+                alloc,
+                game,
+                state,
+                wish,
+                activity,
+                at,
+                EntityId(number),
+                machine,
+            )
+        }
+        None => Ok(None),
+    }
 }
 
 // The best of the reached machines that do something.
-fn best_candidate(
+fn best_machine(
     alloc: Global,
     game: &Game,
     state: State<'_>,
     wish: &Wish,
     activity: Activity,
     at: &[GoodId],
-) -> Result<Option<Candidate>, NoMemory>
+) -> Result<Option<(usize, Rank)>, NoMemory>
     requires { IsSound game.now }
+    ensures { IfOk result (λ best. best ≡ best_machine game.now state.entry.reached.now wish.now state.entry.mined.now state.entry.fuels.now activity at.now) }
 {
     let mut best = None;
     for number in 0..game.shape().machines {
-        let other = as_candidate(alloc, game, state, wish, activity, EntityId(number), at)?;
-        if let Some(other) = other {
-            best = better(best, other);
-        }
+        let rank = rank_of_machine(alloc, game, state, wish, activity, at, number)?;
+        best = better(best, number as usize, rank);
     }
     Ok(best)
 }
 
-/// The set-up of the best of the reached machines that do something, with what the wish puts into it. None where no machine does it.
+// The fuel of the machine of a number.
+fn fuel_in(game: &Game, state: State<'_>, wish: &Wish, number: usize) -> Option<GoodId>
+    ensures { result ≡ fuel_in game.now wish.now state.entry.mined.now state.entry.fuels.now (slice_get game.now.machines number) }
+{
+    match game.machines.as_slice().get(number) {
+        Some(machine) => fuel_for(game, wish, state.mined, state.fuels, &machine.energy),
+        None => None,
+    }
+}
+
+// The set-up of the machine of a number, with what the wish puts into it.
+fn setup_by(
+    alloc: Global,
+    game: &Game,
+    state: State<'_>,
+    wish: &Wish,
+    activity: Activity,
+    at: &[GoodId],
+    number: u32,
+) -> Result<Setup, NoMemory>
+    requires { IsSound game.now }
+    ensures { IfOk result (DoesBy game.now wish.now state.entry.mined.now state.entry.fuels.now activity at.now number) }
+{
+    let bare = Bare {
+        activity,
+        machine: EntityId(number),
+        fuel: fuel_in(game, state, wish, number as usize),
+        at,
+    };
+    dressed(alloc, game, wish, &bare)
+}
+
+// The set-up of the best machine, where any does it.
+fn setup_of_best(
+    alloc: Global,
+    game: &Game,
+    state: State<'_>,
+    wish: &Wish,
+    activity: Activity,
+    at: &[GoodId],
+    best: Option<(usize, Rank)>,
+) -> Result<Option<Setup>, NoMemory>
+    requires sound { IsSound game.now }
+    requires within { IfSome best (λ best. best.0 < length game.now.machines) }
+    ensures { IfOk result (IsBestSetup game.now wish.now state.entry.mined.now state.entry.fuels.now activity at.now best) }
+{
+    match best {
+        Some(best) => {
+            let number = best.0 as u32;
+            Ok(Some(setup_by(alloc, game, state, wish, activity, at, number)?))
+        }
+        None => Ok(None),
+    }
+}
+
+/// The set-up of the best of the reached machines that do something, with what the wish puts into it. None where no machine does it. Best is
+/// an earlier machine of the wish, then a generator that wastes no heat, then the one of which fewest do one craft a second, then one that
+/// burns nothing, then the first.
+///
+/// # Errors
+///
+/// `NoMemory` where memory could not be had.
+#[tactic(auto, using(crate::proofs::RankLemmas::of_best))]
 pub fn best_setup(
     alloc: Global,
     game: &Game,
@@ -275,15 +621,8 @@ pub fn best_setup(
     at: &[GoodId],
 ) -> Result<Option<Setup>, NoMemory>
     requires { IsSound game.now }
+    ensures { IfOk result (IsBestSetup game.now wish.now state.entry.mined.now state.entry.fuels.now activity at.now (best_machine game.now state.entry.reached.now wish.now state.entry.mined.now state.entry.fuels.now activity at.now)) }
 {
-    let Some(best) = best_candidate(alloc, game, state, wish, activity, at)? else {
-        return Ok(None);
-    };
-    let bare = Bare {
-        activity,
-        machine: best.machine,
-        fuel: best.fuel,
-        at,
-    };
-    Ok(Some(dressed(alloc, game, wish, &bare)?))
+    let best = best_machine(alloc, game, state, wish, activity, at)?;
+    setup_of_best(alloc, game, state, wish, activity, at, best)
 }

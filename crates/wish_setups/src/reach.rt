@@ -1,9 +1,11 @@
 //! What is reached, and what of it is taken as it is.
-ghost use Rattle.std.specs.Prelude.{◌≡◌, false, slice_index_or};
+ghost use Rattle.std.specs.Prelude.{◌≡◌, ◌<◌, false, length, slice_get, slice_index_or};
+ghost use Rattle.std.specs.List.{list_any};
 ghost use Rattle.plan_base.specs.Shape.{count_of};
 ghost use Rattle.game_types.specs.Sound.{IsSound};
-ghost use Rattle.wish_setups.specs.Answers.{is_reached};
+ghost use Rattle.wish_setups.specs.Reach.{is_expected, is_good_reached, is_mined, is_reached, is_some_of, mines, source_gives};
 
+use fractions::is_positive;
 use game_types::{Game, Product};
 use plan_base::{GoodId, Kind, NoMemory, Shape};
 use std::alloc::Global;
@@ -40,7 +42,9 @@ pub fn mark(marks: &mut [bool], place: usize) {
 }
 
 /// Whether a good is marked.
-pub fn is_good_marked(marks: &[bool], good: GoodId) -> bool {
+pub fn is_good_marked(marks: &[bool], good: GoodId) -> bool
+    ensures { result ≡ slice_index_or marks.now good.0 false }
+{
     is_marked(marks, good.0 as usize)
 }
 
@@ -65,23 +69,61 @@ pub fn is_reached(game: &Game, reached: &[bool], kind: Kind, place: u32) -> bool
 /// Whether an item or a fluid is reached.
 pub fn is_good_reached(game: &Game, reached: &[bool], good: GoodId) -> bool
     requires { IsSound game.now }
+    ensures { result ≡ is_good_reached game.now reached.now good }
 {
     let shape = game.shape();
-    good.0 < shape.items + shape.fluids && is_marked(reached, game.good_node(good).0 as usize)
+    good.0 < shape.items + shape.fluids && is_marked(reached, 3 + good.0 as usize)
 }
 
 /// Whether some of a product can be expected.
-pub fn is_expected(product: &Product) -> bool {
-    product.probability.is_positive() && (product.low.is_positive() || product.high.is_positive())
+pub fn is_expected(product: &Product) -> bool
+    ensures { result ≡ is_expected product.now }
+{
+    is_positive(&product.probability) && (is_positive(&product.low) || is_positive(&product.high))
 }
 
-fn is_some_of(product: &Product, good: GoodId) -> bool {
-    product.good == good && is_expected(product)
+fn is_some_of(good: GoodId, product: &Product) -> bool
+    ensures { result ≡ is_some_of good product.now }
+{
+    product.good.0 == good.0 && is_expected(product)
 }
 
 /// Whether some of a good can be expected of products.
-pub fn gives(products: &[Product], good: GoodId) -> bool {
-    products.iter().any(|product| is_some_of(product, good))
+pub fn gives(products: &[Product], good: GoodId) -> bool
+    ensures { result ≡ list_any (is_some_of good) products.now }
+{
+    products.iter().any(|product| is_some_of(good, product))
+}
+
+// Whether the source at a place gives a good, where there is one.
+fn source_gives(game: &Game, good: GoodId, place: u32) -> bool
+    ensures { result ≡ source_gives good (slice_get game.now.sources place) }
+{
+    match game.sources.as_slice().get(place as usize) {
+        Some(source) => gives(source.products.as_slice(), good),
+        None => false,
+    }
+}
+
+// Whether the source at a place is reached and gives a good.
+fn mines(game: &Game, reached: &[bool], good: GoodId, place: u32) -> bool
+    requires { IsSound game.now }
+    ensures { result ≡ mines game.now reached.now good place }
+{
+    is_reached(game, reached, Kind::Source, place) && source_gives(game, good, place)
+}
+
+/// Whether a reached source gives a good.
+pub fn is_mined(game: &Game, reached: &[bool], good: GoodId) -> bool
+    requires { IsSound game.now }
+    ensures { result ≡ is_mined game.now reached.now good }
+{
+    let mut mined = false;
+    for place in 0..game.shape().sources {
+        let gives = mines(game, reached, good, place);
+        mined |= gives;
+    }
+    mined
 }
 
 fn mark_products(marks: &mut [bool], products: &[Product]) {

@@ -1,6 +1,7 @@
-//! What is wished for.
+//! What is wished for, and what meets it.
 use fractions::Ratio;
-use plan_base::{EntityId, GoodId, Items, NoMemory};
+use plan_base::{EntityId, GoodId, Items, NoMemory, RecipeId};
+use production_table::Table;
 
 /// Beacons round each machine that takes their effects, each of them full of one module.
 #[derive(Clone, Copy)]
@@ -13,35 +14,79 @@ pub struct WishBeacon {
     pub module: GoodId,
 }
 
-/// So much of a good a second, and how it is to be made.
+/// What a plan is to take least of.
+#[derive(Clone, Copy, Debug, PartialEq, Eq)]
+pub enum Cheapest {
+    /// What comes from outside, at its prices.
+    Cost,
+    /// Electric power.
+    Power,
+    Pollution,
+    Machines,
+}
+
+/// So much of some goods a second, and how they are to be made.
 #[derive(Drop)]
 pub struct Wish {
-    /// An item, a fluid, electricity or a unit of a technology.
-    pub good: GoodId,
-    /// Units a second.
-    pub rate: Ratio,
-    /// Machines that are taken before faster ones.
+    /// Items, fluids, electricity or units of technologies, each once, and the units a second of each, above 0.
+    pub wants: Items<(GoodId, Ratio)>,
+    /// Machines that are taken before others, an earlier one before a later one.
     pub by: Items<EntityId>,
-    /// The module that fills the slots of each machine that takes it.
-    pub module: Option<GoodId>,
+    /// The slots of each machine are filled with the first of these modules that it takes.
+    pub modules: Items<GoodId>,
     pub beacon: Option<WishBeacon>,
     /// The fuel of each burner that takes it.
     pub fuel: Option<GoodId>,
     /// What is taken as it is, with the price of one unit.
     pub imports: Items<(GoodId, Ratio)>,
+    /// Recipes that are no rows.
+    pub without: Items<RecipeId>,
+    /// What one of these recipes gives is made by no other recipe.
+    pub only: Items<RecipeId>,
+    /// The most rows.
+    pub rows: u32,
+    pub cheapest: Cheapest,
     /// Whether drills mine what sources give.
     pub dig: bool,
     /// Whether electric power is made in the table.
     pub power: bool,
 }
 
+/// Why no row gives a good.
+#[derive(Clone, Copy, Debug, PartialEq, Eq)]
+pub enum Reason {
+    /// The state doesn't reach it.
+    Unreached,
+    /// It is made by hand: no reached machine crafts the recipes that give it, of which this is the first.
+    ByHand(RecipeId),
+    /// What gives it takes heat, as this machine does, and can't be a row.
+    ByHeat(EntityId),
+    /// The wish excludes what gives it.
+    Excluded,
+    /// Nothing gives it that can be a row.
+    NoWay,
+}
+
+/// A good that can't be made.
+#[derive(Clone, Copy, Debug, PartialEq, Eq)]
+pub struct Unmade {
+    pub wished: GoodId,
+    /// The nearest good of those that it is made from that nothing gives, which may be itself.
+    pub good: GoodId,
+    pub reason: Reason,
+}
+
 /// Why there is no table for a wish.
 #[derive(Drop)]
 pub enum WishFault {
-    /// These goods are needed, and no row gives them.
-    Lacking(Items<GoodId>),
-    /// There would be more than 512 rows or goods. These goods are needed, and no rows for them were looked for yet.
-    Full(Items<GoodId>),
+    Unmade(Unmade),
+    /// No table that was tried has a plan. The prices that show it speak of these goods, each with an estimate of what one unit
+    /// takes, rounded to three digits.
+    NoPlan(Items<(GoodId, Ratio)>),
+    /// Each table that was tried meets the limits of the solver.
+    Unsolved,
+    /// The table that stands has no room.
+    Full,
     NoMemory,
 }
 
@@ -49,4 +94,17 @@ impl From<NoMemory> for WishFault {
     fn from(_: NoMemory) -> WishFault {
         WishFault::NoMemory
     }
+}
+
+/// A table that meets a wish.
+#[derive(Drop)]
+pub struct Met {
+    pub table: Table,
+    /// The goods at the rim, which could be made and are imported, in the order of goods. Their prices are estimates of what one unit
+    /// takes, rounded to three digits.
+    pub rim: Items<(GoodId, Ratio)>,
+    /// The watts that whole machines and their beacons draw by the plan, where the table makes its electric power.
+    pub draw: Option<Ratio>,
+    /// The watts that are wanted beside those of the wish, so that what whole machines draw is made.
+    pub reserve: Ratio,
 }

@@ -1,9 +1,14 @@
-//! A table for a wish: what is wanted of one good, with a row for each way by which the reached machines give what is needed for
-//! it, down to what is taken as it is.
+//! A table for a wish: what is wanted of some goods, with rows that make them, the nearest goods first and each by its cheapest way.
+//! What is further away is imported at an estimate. It is solved before it is answered.
 #![tactic(auto)]
 
 mod building;
+mod meeting;
+mod orders;
+mod power;
+mod pricing;
+mod trying;
 
-pub use building::wish_table;
-pub use wish_lines::{good_text, like_names, table_text};
-pub use wish_setups::{Wish, WishBeacon, WishFault};
+pub use meeting::{more_rows, wish_table};
+pub use wish_estimates::given_variants;
+pub use wish_setups::{Cheapest, Met, Reason, Unmade, Wish, WishBeacon, WishFault};

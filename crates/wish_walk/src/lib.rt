@@ -1,9 +1,11 @@
-//! The walk from a good that is wished for back to what is taken as it is, and what of its rows can run and is needed.
+//! The walk outward from what is wished for: the nearest goods first, each by its cheapest way, what is further away imported. What it finds
+//! is looked at later, so nothing is claimed of it but that it is safe and ends.
 #![tactic(auto)]
 
-mod pruning;
+mod found;
+mod further;
 mod walk;
-mod ways;
 
-pub use pruning::{Pruned, prune};
-pub use walk::{Found, Walk, part_of, walk_back};
+pub use found::{Found, Ground, part_of};
+pub use further::walk_further;
+pub use walk::{Walk, walk_on};

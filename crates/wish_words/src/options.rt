@@ -4,17 +4,16 @@ use std::alloc::{AllocError, Global};
 
 static BEACON_NAMES: [&str; 4] = ["MACHINE", "COUNT", "SHARE", "ITEM"];
 
-// A word that must be there.
-fn word<'a>(alloc: Global, id: &'a str, value: &'a str, help: &'a str) -> Arg<'a> {
-    Arg::new(alloc, id)
-        .value_name(value)
-        .required(true)
-        .help(help)
-}
+static WISH_NAMES: [&str; 2] = ["GOOD", "RATE"];
 
 // An option with a value behind its name.
 fn option<'a>(alloc: Global, id: &'a str, value: &'a str, help: &'a str) -> Arg<'a> {
     Arg::new(alloc, id).long(id).value_name(value).help(help)
+}
+
+// An option with a value behind its name, which may stand several times.
+fn options<'a>(alloc: Global, id: &'a str, value: &'a str, help: &'a str) -> Arg<'a> {
+    option(alloc, id, value, help).action(ArgAction::Append)
 }
 
 // An option with no value.
@@ -23,6 +22,22 @@ fn flag<'a>(alloc: Global, id: &'a str, help: &'a str) -> Arg<'a> {
         .long(id)
         .action(ArgAction::SetTrue)
         .help(help)
+}
+
+fn dump<'a>(alloc: Global) -> Arg<'a> {
+    Arg::new(alloc, "dump")
+        .value_name("DUMP")
+        .required(true)
+        .help("the file data-raw-dump.json")
+}
+
+fn wishes<'a>(alloc: Global) -> Arg<'a> {
+    Arg::new(alloc, "wish")
+        .value_names(WISH_NAMES.as_slice())
+        .num_args(1..)
+        .help(
+            "item:NAME, fluid:NAME, tech:NAME or special:electricity, and units a second, as 5, 1/3, 45/min or 2.5k/h",
+        )
 }
 
 fn beacon<'a>(alloc: Global) -> Arg<'a> {
@@ -35,44 +50,48 @@ fn beacon<'a>(alloc: Global) -> Arg<'a> {
         )
 }
 
-fn with_words<'a>(alloc: Global, command: Command<'a>) -> Result<Command<'a>, AllocError> {
+// What is wished for.
+fn with_wishes<'a>(alloc: Global, command: Command<'a>) -> Result<Command<'a>, AllocError> {
     command
-        .arg(word(alloc, "dump", "DUMP", "the file data-raw-dump.json"))?
-        .arg(word(
+        .arg(wishes(alloc))?
+        .arg(option(
             alloc,
-            "good",
-            "GOOD",
-            "item:NAME, fluid:NAME, tech:NAME or special:electricity",
+            "belt",
+            "ITEM",
+            "a good that has no rate fills this belt",
         ))?
-        .arg(word(
-            alloc,
-            "rate",
-            "RATE",
-            "units a second: a number or a fraction",
-        ))
+        .arg(option(alloc, "table", "NAME", "the name of the table").default_value("wish"))
 }
 
-fn with_files<'a>(alloc: Global, command: Command<'a>) -> Result<Command<'a>, AllocError> {
-    command
-        .arg(option(alloc, "script", "FILE", "lines that come first"))?
-        .arg(option(alloc, "table", "NAME", "the name of the table").default_value("wish"))
+// More rows for a table that stands.
+fn with_more<'a>(alloc: Global, command: Command<'a>) -> Result<Command<'a>, AllocError> {
+    let good = option(
+        alloc,
+        "rows-for",
+        "GOOD",
+        "more rows for a table: those that make this good",
+    )
+    .requires_arg("into")?;
+    let table = option(alloc, "into", "TABLE", "the table that gets more rows").requires_arg(
+        "rows-for",
+    )?;
+    command.arg(good)?.arg(table)
 }
 
 // How the machines are set up.
 fn with_machines<'a>(alloc: Global, command: Command<'a>) -> Result<Command<'a>, AllocError> {
     command
-        .arg(option(
+        .arg(options(
             alloc,
             "by",
             "MACHINE",
             "a machine to take before faster ones",
-        )
-        .action(ArgAction::Append))?
-        .arg(option(
+        ))?
+        .arg(options(
             alloc,
             "module",
             "ITEM",
-            "the module that fills each machine that takes it",
+            "the module that fills each machine that takes it; a second where the first isn't allowed",
         ))?
         .arg(beacon(alloc))?
         .arg(option(
@@ -83,33 +102,77 @@ fn with_machines<'a>(alloc: Global, command: Command<'a>) -> Result<Command<'a>,
         ))
 }
 
+// Which recipes are rows.
+fn with_recipes<'a>(alloc: Global, command: Command<'a>) -> Result<Command<'a>, AllocError> {
+    command
+        .arg(options(alloc, "without", "RECIPE", "a recipe that is no row"))?
+        .arg(options(
+            alloc,
+            "only",
+            "RECIPE",
+            "what this recipe gives is made by no other",
+        ))?
+        .arg(option(
+            alloc,
+            "rows",
+            "N",
+            "the most rows, 40 where no number is named",
+        ))?
+        .arg(option(
+            alloc,
+            "cheapest",
+            "WHAT",
+            "the plan takes least of this: power, pollution or machines",
+        ))
+}
+
 // Where the walk back ends.
 fn with_ends<'a>(alloc: Global, command: Command<'a>) -> Result<Command<'a>, AllocError> {
     command
-        .arg(option(
+        .arg(options(
             alloc,
             "import",
             "GOOD=PRICE",
             "take a good as it is, at a price of one unit",
-        )
-        .action(ArgAction::Append))?
+        ))?
         .arg(flag(alloc, "dig", "mine what sources give"))?
         .arg(flag(alloc, "power", "make the electric power in the table"))
 }
 
-/// The command.
+// The words and the options behind those of the files.
+fn with_rest<'a>(alloc: Global, command: Command<'a>) -> Result<Command<'a>, AllocError> {
+    let command = with_wishes(alloc, command)?;
+    let command = with_more(alloc, command)?;
+    let command = with_machines(alloc, command)?;
+    let command = with_recipes(alloc, command)?;
+    with_ends(alloc, command)
+}
+
+/// The command of the program, of this version.
 ///
 /// # Errors
 ///
 /// `AllocError` where memory could not be had.
-pub fn command<'a>(alloc: Global) -> Result<Command<'a>, AllocError> {
+pub fn command<'a>(alloc: Global, version: &'a str) -> Result<Command<'a>, AllocError> {
     let command = Command::new(alloc, "factoplan_table")
-        .version("0.6.0")
+        .version(version)
         .about(
-            "Prints the lines of a script for `factoplan run` that make a table of GOOD at RATE a second",
-        );
-    let command = with_words(alloc, command)?;
-    let command = with_files(alloc, command)?;
-    let command = with_machines(alloc, command)?;
-    with_ends(alloc, command)
+            "Prints the lines of a script for `factoplan run` that make a table of each GOOD at RATE a second",
+        )
+        .arg(dump(alloc))?
+        .arg(option(alloc, "script", "FILE", "lines that come first"))?;
+    with_rest(alloc, command)
+}
+
+/// The command of a question in a session, whose dump and script are known: its words are those of the program without DUMP and
+/// `--script`.
+///
+/// # Errors
+///
+/// `AllocError` where memory could not be had.
+pub fn question<'a>(alloc: Global) -> Result<Command<'a>, AllocError> {
+    let command = Command::new(alloc, "?wish").about(
+        "Tells the lines of a script that make a table of each GOOD at RATE a second",
+    );
+    with_rest(alloc, command)
 }

@@ -1,203 +1,129 @@
-//! What the words ask for.
+//! How the words are read.
+use crate::asked::{
+    Asked, AskedBeacon, AskedChoice, AskedImport, AskedMore, AskedSetup, AskedWish, Least,
+};
+use crate::faults::{Wanted, WordFault};
+use crate::rates::{is_writable, read_rate};
 use clap::ArgMatches;
 use fractions::{Ratio, read_ratio};
-use plan_base::{Kind, NoMemory};
-use script_reader::{Place, ScriptFault, count_at, object_at};
-use std::alloc::Global;
+use plan_base::NoMemory;
+use production_table::LIMIT;
+use script_reader::count_at;
+use std::alloc::{AllocFailed, Global};
 
-/// An object as a word names it, such as `item:iron-plate`.
-#[derive(Clone, Copy)]
-pub struct Named<'a> {
-    pub kind: Kind,
-    pub name: &'a str,
-}
+/// The most rows where the words name no number of them.
+const ROWS: u32 = 40;
 
-/// Beacons round each machine.
-#[derive(Clone, Copy)]
-pub struct AskedBeacon<'a> {
-    pub machine: Named<'a>,
-    pub count: u32,
-    pub share: u32,
-    pub item: Named<'a>,
-}
-
-/// A good that is taken as it is, at a price of one unit.
-#[derive(Clone, Copy)]
-pub struct AskedImport<'a> {
-    pub good: Named<'a>,
-    pub price: Ratio,
-}
-
-/// How each machine is set up.
-#[derive(Clone, Copy)]
-pub struct AskedSetup<'a> {
-    pub module: Option<Named<'a>>,
-    pub beacon: Option<AskedBeacon<'a>>,
-    pub fuel: Option<Named<'a>>,
-}
-
-/// What the words ask for.
-#[derive(Drop)]
-pub struct Asked<'a> {
-    pub dump: &'a str,
-    pub script: Option<&'a str>,
-    pub table: &'a str,
-    pub good: Named<'a>,
-    pub rate: Ratio,
-    pub by: Vec<Named<'a>>,
-    pub setup: AskedSetup<'a>,
-    pub imports: Vec<AskedImport<'a>>,
-    pub dig: bool,
-    pub power: bool,
-}
-
-/// What a word has to be.
-#[derive(Clone, Copy)]
-pub enum Wanted {
-    Good,
-    Machine,
-    Item,
-    Import,
-    Number,
-    /// A number above 0.
-    Rate,
-    /// A whole number from 0 to 65,535.
-    Count,
-}
-
-impl Wanted {
-    /// How it is written.
-    pub fn text(self) -> &'static str {
-        match self {
-            Wanted::Good => "good: item:NAME, fluid:NAME, tech:NAME or special:electricity",
-            Wanted::Machine => "machine:NAME",
-            Wanted::Item => "item:NAME",
-            Wanted::Import => "GOOD=PRICE",
-            Wanted::Number => "number or fraction",
-            Wanted::Rate => "number above 0",
-            Wanted::Count => "whole number from 0 to 65535",
-        }
+impl<'a, T: Drop> From<AllocFailed<T>> for WordFault<'a> {
+    fn from(_: AllocFailed<T>) -> WordFault<'a> {
+        WordFault::NoMemory
     }
 }
 
-/// Why the words ask for nothing.
-#[derive(Clone, Copy)]
-pub enum WordFault<'a> {
-    /// A word isn't what it has to be.
-    Bad(&'a str, Wanted),
-    NoMemory,
-}
-
-impl WordFault<'_> {
-    /// Writes what is to be said of the fault.
-    ///
-    /// # Errors
-    ///
-    /// `NoMemory` where memory could not be had, as in the fault of this name.
-    pub fn say(&self, said: &mut String) -> Result<(), NoMemory> {
-        match self {
-            WordFault::Bad(word, wanted) => {
-                let wanted = wanted.text();
-                write!(said, "{word} is no {wanted}")?;
-                Ok(())
-            }
-            WordFault::NoMemory => Err(NoMemory),
-        }
+impl<'a> From<NoMemory> for WordFault<'a> {
+    fn from(_: NoMemory) -> WordFault<'a> {
+        WordFault::NoMemory
     }
 }
 
-// The part of a word behind its first colon.
-fn name_in(word: &str) -> &str {
-    match word.split_once(':') {
-        Some((_, name)) => name,
-        None => word,
+// Whether a word among the wishes is a rate: it begins as a number does.
+fn is_rate(word: &str) -> bool {
+    match word.as_bytes() {
+        [first, ..] => first.is_ascii_digit() || *first == b'-' || *first == b'.',
+        [] => false,
     }
 }
 
-// The object that a word names, which may stand at a place.
-fn object_of<'a>(
-    alloc: Global,
-    word: &'a str,
-    place: Place,
-    wanted: Wanted,
-) -> Result<Named<'a>, WordFault<'a>> {
-    match object_at(alloc, word, place) {
-        Ok(object) => Ok(Named {
-            kind: object.kind,
-            name: name_in(word),
-        }),
-        Err(ScriptFault::NoMemory) => Err(WordFault::NoMemory),
-        Err(_) => Err(WordFault::Bad(word, wanted)),
-    }
-}
-
-fn good<'a>(alloc: Global, word: &'a str) -> Result<Named<'a>, WordFault<'a>> {
-    object_of(alloc, word, Place::TableGood, Wanted::Good)
-}
-
-fn machine<'a>(alloc: Global, word: &'a str) -> Result<Named<'a>, WordFault<'a>> {
-    object_of(alloc, word, Place::OneMachine, Wanted::Machine)
-}
-
-fn item<'a>(alloc: Global, word: &'a str) -> Result<Named<'a>, WordFault<'a>> {
-    object_of(alloc, word, Place::OneItem, Wanted::Item)
-}
-
-fn number(word: &str) -> Result<Ratio, WordFault<'_>> {
-    match read_ratio(word.as_bytes()) {
-        Ok(number) => Ok(number),
-        Err(_) => Err(WordFault::Bad(word, Wanted::Number)),
-    }
-}
-
-fn count(word: &str) -> Result<u32, WordFault<'_>> {
-    match count_at(word, 0, 65_535) {
-        Some(count) => Ok(count),
-        None => Err(WordFault::Bad(word, Wanted::Count)),
-    }
-}
-
-// The number of units a second.
-fn rate(word: &str) -> Result<Ratio, WordFault<'_>> {
-    let rate = number(word)?;
-    if rate.is_positive() {
-        Ok(rate)
-    } else {
-        Err(WordFault::Bad(word, Wanted::Rate))
-    }
-}
-
-fn add_machine<'a>(
-    alloc: Global,
-    word: &'a str,
-    machines: &mut Vec<Named<'a>>,
+fn add_wish<'a>(
+    good: &'a str,
+    rate: Option<Ratio>,
+    wishes: &mut Vec<AskedWish<'a>>,
 ) -> Result<(), WordFault<'a>> {
-    match machine(alloc, word) {
-        Ok(machine) => match machines.push(machine) {
-            Ok(()) => Ok(()),
-            Err(_) => Err(WordFault::NoMemory),
-        },
-        Err(fault) => Err(fault),
+    match wishes.push(AskedWish { good, rate }) {
+        Ok(()) => Ok(()),
+        Err(_) => Err(WordFault::NoMemory),
     }
 }
 
-fn machines<'a>(alloc: Global, words: Option<&[&'a str]>) -> Result<Vec<Named<'a>>, WordFault<'a>> {
-    let mut machines = Vec::new(alloc);
+// The good behind which no rate stood yet, where the last wish is one.
+fn last_without_rate<'a>(wishes: &mut Vec<AskedWish<'a>>) -> Option<&'a str> {
+    match wishes.pop() {
+        Some(wish) => match wish.rate {
+            None => Some(wish.good),
+            Some(_) => None,
+        },
+        None => None,
+    }
+}
+
+// Takes one word among the wishes: a good, or the rate of the good before it.
+fn take_wish<'a>(
+    alloc: Global,
+    word: &'a str,
+    wishes: &mut Vec<AskedWish<'a>>,
+) -> Result<(), WordFault<'a>> {
+    if !is_rate(word) {
+        return add_wish(word, None, wishes);
+    }
+    let rate = read_rate(alloc, word)?;
+    match last_without_rate(wishes) {
+        Some(good) => add_wish(good, Some(rate), wishes),
+        None => Err(WordFault::NoGood(word)),
+    }
+}
+
+fn read_wishes<'a>(
+    alloc: Global,
+    words: Option<&[&'a str]>,
+) -> Result<Vec<AskedWish<'a>>, WordFault<'a>> {
+    let mut wishes = Vec::new(alloc);
     if let Some(words) = words {
         for word in words {
-            add_machine(alloc, *word, &mut machines)?;
+            take_wish(alloc, *word, &mut wishes)?;
         }
     }
-    Ok(machines)
+    Ok(wishes)
 }
 
-fn import<'a>(alloc: Global, word: &'a str) -> Result<AskedImport<'a>, WordFault<'a>> {
-    let Some((good_word, price)) = word.rsplit_once('=') else {
-        return Err(WordFault::Bad(word, Wanted::Import));
+// The first good that has no rate.
+fn without_rate<'a>(wishes: &[AskedWish<'a>]) -> Option<&'a str> {
+    for wish in wishes {
+        if wish.rate.is_none() {
+            return Some(wish.good);
+        }
+    }
+    None
+}
+
+fn words_of<'a>(alloc: Global, words: Option<&[&'a str]>) -> Result<Vec<&'a str>, WordFault<'a>> {
+    let mut all = Vec::new(alloc);
+    if let Some(words) = words {
+        for word in words {
+            all.push(*word)?;
+        }
+    }
+    Ok(all)
+}
+
+fn price<'a>(alloc: Global, word: &'a str) -> Result<Ratio, WordFault<'a>> {
+    let Ok(price) = read_ratio(word.as_bytes()) else {
+        return Err(WordFault::Bad(word, Wanted::Price));
     };
-    let good = good(alloc, good_word)?;
-    let price = number(price)?;
-    Ok(AskedImport { good, price })
+    if !price.is_neg() && is_writable(alloc, &price)? {
+        Ok(price)
+    } else {
+        Err(WordFault::Bad(word, Wanted::Price))
+    }
+}
+
+fn read_import<'a>(alloc: Global, word: &'a str) -> Result<AskedImport<'a>, WordFault<'a>> {
+    match word.rsplit_once('=') {
+        Some((good, number)) => Ok(AskedImport {
+            good,
+            price: price(alloc, number)?,
+        }),
+        None => Err(WordFault::Bad(word, Wanted::Import)),
+    }
 }
 
 fn add_import<'a>(
@@ -205,7 +131,7 @@ fn add_import<'a>(
     word: &'a str,
     imports: &mut Vec<AskedImport<'a>>,
 ) -> Result<(), WordFault<'a>> {
-    match import(alloc, word) {
+    match read_import(alloc, word) {
         Ok(import) => match imports.push(import) {
             Ok(()) => Ok(()),
             Err(_) => Err(WordFault::NoMemory),
@@ -214,7 +140,7 @@ fn add_import<'a>(
     }
 }
 
-fn imports<'a>(
+fn read_imports<'a>(
     alloc: Global,
     words: Option<&[&'a str]>,
 ) -> Result<Vec<AskedImport<'a>>, WordFault<'a>> {
@@ -227,94 +153,97 @@ fn imports<'a>(
     Ok(imports)
 }
 
-fn optional_item<'a>(
-    alloc: Global,
-    word: Option<&'a str>,
-) -> Result<Option<Named<'a>>, WordFault<'a>> {
-    match word {
-        Some(word) => Ok(Some(item(alloc, word)?)),
-        None => Ok(None),
+fn count(word: &str) -> Result<u32, WordFault<'_>> {
+    match count_at(word, 0, 65_535) {
+        Some(count) => Ok(count),
+        None => Err(WordFault::Bad(word, Wanted::Count)),
     }
 }
 
-// How many beacons there are, and how many machines share each.
-fn counts<'a>(count_word: &'a str, share: &'a str) -> Result<(u32, u32), WordFault<'a>> {
-    let number = count(count_word)?;
-    let share = count(share)?;
-    Ok((number, share))
+fn rows(word: Option<&str>) -> Result<u32, WordFault<'_>> {
+    let Some(word) = word else {
+        return Ok(ROWS);
+    };
+    match count_at(word, 1, LIMIT as u32) {
+        Some(rows) => Ok(rows),
+        None => Err(WordFault::Bad(word, Wanted::Rows)),
+    }
 }
 
-fn beacon<'a>(
-    alloc: Global,
-    machine_word: &'a str,
-    count: &'a str,
-    share: &'a str,
-    item_word: &'a str,
-) -> Result<AskedBeacon<'a>, WordFault<'a>> {
-    let machine = machine(alloc, machine_word)?;
-    let (count, share) = counts(count, share)?;
-    let item = item(alloc, item_word)?;
-    Ok(AskedBeacon {
-        machine,
-        count,
-        share,
-        item,
-    })
+fn cheapest(word: Option<&str>) -> Result<Least, WordFault<'_>> {
+    let Some(word) = word else {
+        return Ok(Least::Cost);
+    };
+    if word == "power" {
+        Ok(Least::Power)
+    } else if word == "pollution" {
+        Ok(Least::Pollution)
+    } else if word == "machines" {
+        Ok(Least::Machines)
+    } else {
+        Err(WordFault::Bad(word, Wanted::Cheapest))
+    }
 }
 
-fn optional_beacon<'a>(
-    alloc: Global,
-    words: Option<&[&'a str]>,
-) -> Result<Option<AskedBeacon<'a>>, WordFault<'a>> {
+fn beacon<'a>(words: Option<&[&'a str]>) -> Result<Option<AskedBeacon<'a>>, WordFault<'a>> {
     match words {
-        Some([machine, count, share, item]) => {
-            match beacon(alloc, *machine, *count, *share, *item) {
-                Ok(beacon) => Ok(Some(beacon)),
-                Err(fault) => Err(fault),
-            }
-        }
+        Some([machine, count_word, share, item]) => Ok(Some(AskedBeacon {
+            machine: *machine,
+            count: count(*count_word)?,
+            share: count(*share)?,
+            item: *item,
+        })),
         _ => Ok(None),
     }
 }
 
 fn setup<'a>(alloc: Global, matches: &ArgMatches<'a>) -> Result<AskedSetup<'a>, WordFault<'a>> {
-    let module = optional_item(alloc, matches.get_str("module"))?;
-    let beacon = optional_beacon(alloc, matches.get_strs("beacon"))?;
-    let fuel = optional_item(alloc, matches.get_str("fuel"))?;
+    let modules = words_of(alloc, matches.get_strs("module"))?;
+    let beacon = beacon(matches.get_strs("beacon"))?;
     Ok(AskedSetup {
-        module,
+        modules,
         beacon,
-        fuel,
+        fuel: matches.get_str("fuel"),
     })
 }
 
-// The value of a word that must be there.
-fn value<'a>(matches: &ArgMatches<'a>, id: &str) -> &'a str {
-    matches.get_str(id).unwrap_or("")
+fn choice<'a>(alloc: Global, matches: &ArgMatches<'a>) -> Result<AskedChoice<'a>, WordFault<'a>> {
+    let rows = rows(matches.get_str("rows"))?;
+    let cheapest = cheapest(matches.get_str("cheapest"))?;
+    let without = words_of(alloc, matches.get_strs("without"))?;
+    let only = words_of(alloc, matches.get_strs("only"))?;
+    Ok(AskedChoice {
+        without,
+        only,
+        rows,
+        cheapest,
+    })
 }
 
-// What is asked for beside so much of a good.
-fn read_options<'a>(
-    alloc: Global,
-    matches: &ArgMatches<'a>,
-    good: Named<'a>,
-    rate: Ratio,
-) -> Result<Asked<'a>, WordFault<'a>> {
-    let by = machines(alloc, matches.get_strs("by"))?;
-    let imports = imports(alloc, matches.get_strs("import"))?;
-    let setup = setup(alloc, matches)?;
-    Ok(Asked {
-        dump: value(matches, "dump"),
-        script: matches.get_str("script"),
-        table: matches.get_str("table").unwrap_or("wish"),
-        good,
-        rate,
-        by,
-        setup,
-        imports,
-        dig: matches.get_flag("dig"),
-        power: matches.get_flag("power"),
-    })
+// The table that stands and the good for which it gets more rows.
+fn more<'a>(matches: &ArgMatches<'a>) -> Option<AskedMore<'a>> {
+    match (matches.get_str("rows-for"), matches.get_str("into")) {
+        (Some(good), Some(table)) => Some(AskedMore { good, table }),
+        _ => None,
+    }
+}
+
+// Whether so many goods are wished for, or more rows are, and each good has a rate.
+fn check_wishes<'a>(
+    wishes: &[AskedWish<'a>],
+    more: Option<AskedMore<'a>>,
+    belt: Option<&'a str>,
+) -> Result<(), WordFault<'a>> {
+    if more.is_some() && !wishes.is_empty() {
+        return Err(WordFault::Both);
+    }
+    if more.is_none() && wishes.is_empty() {
+        return Err(WordFault::NoWish);
+    }
+    match without_rate(wishes) {
+        Some(good) if belt.is_none() => Err(WordFault::NoRate(good)),
+        _ => Ok(()),
+    }
 }
 
 /// What the matched words of the command ask for.
@@ -323,7 +252,26 @@ fn read_options<'a>(
 ///
 /// The first word that can't stand where it does, or `NoMemory`.
 pub fn read_asked<'a>(alloc: Global, matches: &ArgMatches<'a>) -> Result<Asked<'a>, WordFault<'a>> {
-    let good = good(alloc, value(matches, "good"))?;
-    let rate = rate(value(matches, "rate"))?;
-    read_options(alloc, matches, good, rate)
+    let wishes = read_wishes(alloc, matches.get_strs("wish"))?;
+    let more = more(matches);
+    let belt = matches.get_str("belt");
+    check_wishes(wishes.as_slice(), more, belt)?;
+    let imports = read_imports(alloc, matches.get_strs("import"))?;
+    let by = words_of(alloc, matches.get_strs("by"))?;
+    let setup = setup(alloc, matches)?;
+    let choice = choice(alloc, matches)?;
+    Ok(Asked {
+        dump: matches.get_str("dump").unwrap_or(""),
+        script: matches.get_str("script"),
+        table: matches.get_str("table").unwrap_or("wish"),
+        wishes,
+        belt,
+        more,
+        by,
+        setup,
+        imports,
+        choice,
+        dig: matches.get_flag("dig"),
+        power: matches.get_flag("power"),
+    })
 }

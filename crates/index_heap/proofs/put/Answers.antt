@@ -1,6 +1,7 @@
 -- Each turn mends one place, and leaves at most the one above it.
 use Rattle.std.proofs.Common.{arith, ◌∙◌, ◌/◌, ◌<◌, length-set}
-use Rattle.index_heap.proofs.TreeLemmas.{climb-step, entry-set_other}
+use Rattle.std.proofs.lemmas.Bool.{OnTrue_at}
+use Rattle.index_heap.proofs.TreeLemmas.{climb-ends, climb-step, entry-set_other}
 use Rattle.index_heap.proofs.put.Goals as goal
 
 pub climb-preserved : goal.climb-preserved
@@ -14,3 +15,7 @@ climb-preserved c =
       here = entry-set_other c.climb.tree (c.climb.j / 2) c.args.at c.lesser_entry-least.result (λ e. omega (arith, c.requires.leaf)) ∙ c.climb.invariant.here;
       others = λ i le lt ne. entry-set_other c.climb.tree (c.climb.j / 2) i c.lesser_entry-least.result (λ e. omega arith) ∙ c.climb.invariant.others i le lt ne;
     }
+
+pub returns-then-is_same_entry-clause-after : goal.returns-then-is_same_entry-clause-after
+returns-then-is_same_entry-clause-after c =
+    climb-ends c.climb.tree c.args.n (c.climb.j / 2) c.climb.invariant.but (OnTrue_at c.if-is_same_entry.true c.is_same_entry.ensures ∙ c.lesser_entry-least.ensures)

@@ -1,6 +1,4 @@
-use Rattle.std.proofs.Common.{◌∙◌, sym, ap, arith}
-use Rattle.fractions.specs.Fraction.{Fraction, ◌/ʳ◌}
-use Rattle.pivot_solver.proofs.ManyRows.{number_of_row}
+use Rattle.std.proofs.Common.{◌∙◌, sym, arith}
 use Rattle.pivot_solver.proofs.Leaving.{ratio_of_row, beats_at_tie}
 use Rattle.pivot_solver.proofs.better.Goals as goal
 

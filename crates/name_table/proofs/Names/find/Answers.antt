@@ -1,10 +1,8 @@
-use Rattle.std.proofs.Common.{ap, ◌∙◌}
+use Rattle.std.proofs.Common.{sym, ◌∙◌, ap}
 use Rattle.name_table.specs.Names.{place_of}
-use Rattle.name_table.proofs.NamesLemmas.{found_named, found_within}
+use Rattle.name_table.proofs.NamesLemmas.{named_at}
 use Rattle.name_table.proofs.Names.find.Goals as goal
 
-pub returns-clause-within : goal.returns-clause-within
-returns-clause-within c = found_within _ _ _ (c.number_in.ensures ∙ c.self.invariant.2 c.args.name.now ∙ ap (λ names. place_of names c.args.name.now) c.self.view_is)
-
-pub returns-clause-named : goal.returns-clause-named
-returns-clause-named c = found_named _ _ _ (c.number_in.ensures ∙ c.self.invariant.2 c.args.name.now ∙ ap (λ names. place_of names c.args.name.now) c.self.view_is)
+pub returns-in-Some-clause-named : goal.returns-in-Some-clause-named
+returns-in-Some-clause-named c = named_at c.args.self.now c.args.name.now c.in-Some.place
+    (ap (λ names. place_of names c.args.name.now) (sym c.self.view_is) ∙ sym c.place_in.ensures.place ∙ c.in-Some.is)

@@ -1,7 +1,6 @@
 use Rattle.std.proofs.Common.{refl, sym, ap, ◌∙◌, arith, ℕ, List, length, length-append, get_or, ◌≡◌}
 use Rattle.std.proofs.lemmas.List.{get_or_read, with_items_is}
 use Rattle.std.specs.Vec.{with_item, with_items}
-use Rattle.fractions.specs.Fraction.{Fraction}
 use Rattle.linear_table.specs.Basis.{name_at}
 use Rattle.linear_table.specs.declared.Exchange.{Exchange}
 use Rattle.pivot_solver.proofs.Paths.{pivot_not_zero, pivoted_at, wide_at, path_onward, path_wide}

@@ -1,4 +1,4 @@
-use Rattle.std.proofs.Common.{◌-◌, [], refl}
+use Rattle.std.proofs.Common.{◌-◌, ◌∙◌, [], arith, refl}
 use Rattle.std.specs.Prelude.{Some}
 use Rattle.plan_io.specs.Store.{Shelf}
 use Rattle.script_runner.specs.Leaves.{Leaves}
@@ -41,3 +41,6 @@ returns-in-Ok-clause-begins g c =
     (λ (shelf : Shelf). BeginsFiles shelf (Some (Files (Check c.args.cert.now) names)) (g.S.Store.begun c.args.store.now) (g.S.Store.begun c.check_ready.new.store) c.check_ready.result)
     (g.S.Store.shelf c.args.store.now) (g.S.Store.shelf c.read_files.new.store) c.in-Ok.ensures.store.shelf (c.in-Ok.ensures.ready.script_is, c.in-Ok.ensures.begins)
     (λ both. c.check_ready.ensures.begins names (g.S.Store.begun c.args.store.now) both.0 both.1)
+
+pub returns-in-Ok-clause-slots : goal.returns-in-Ok-clause-slots
+returns-in-Ok-clause-slots g c k within = c.check_ready.ensures.slots k (omega (arith, within, c.in-Ok.ensures.begins.slots)) ∙ c.in-Ok.ensures.slots k within

@@ -29,7 +29,7 @@ returns-in-Err-clause-leaves g c = λ names first ready later.
 pub returns-in-Err-clause-begins : goal.returns-in-Err-clause-begins
 returns-in-Err-clause-begins g c = λ names first given begins.
     cert_begins_early (g.S.Store.shelf c.args.store.now) c.args.cert.now names first (g.S.Store.begun c.args.store.now) (g.S.Store.begun c.read_entries.new.store) c.in-Err.early c.tell.result c.tell.ensures.tells.text
-    (record { script = c.args.script.now; given = given; few = c.if-has_many_lines.ensures.few refl }) begins c.in-Err.ensures.calls c.in-Err.ensures.named c.in-Err.ensures.entries c.tell.ensures.tells.told
+    (record { script = c.args.script.now; given = given; few = c.if-has_many_lines.ensures.few refl }) begins c.in-Err.ensures.begins c.in-Err.ensures.entries c.tell.ensures.tells.told
 
 pub returns-in-Ok-clause-leaves : goal.returns-in-Ok-clause-leaves
 returns-in-Ok-clause-leaves g c = λ names first ready later.
@@ -42,4 +42,4 @@ returns-in-Ok-clause-begins g c = λ names first given begins.
     let leaves = c.check_lines.ensures.leaves in
     rw c.status_of-in-Ok.ensures
     (cert_begins_checked (g.S.Store.shelf c.args.store.now) c.args.cert.now names first (g.S.Store.begun c.args.store.now) (g.S.Store.begun c.read_entries.new.store) _ c.args.planner.now c.args.script.now leaves.text leaves.work c.check_lines.result
-    (record { script = c.args.script.now; given = given; few = c.if-has_many_lines.ensures.few refl }) begins c.in-Ok.ensures.calls c.in-Ok.ensures.named leaves.ends)
+    (record { script = c.args.script.now; given = given; few = c.if-has_many_lines.ensures.few refl }) begins c.in-Ok.ensures.begins leaves.ends)

@@ -1,16 +1,9 @@
 use Rattle.std.proofs.Common.{◌-◌, ℕ, List, subst, sym}
 use Rattle.std.specs.Prelude.{Some}
-use Rattle.state_changes.specs.States.{first_state}
-use Rattle.planner_core.specs.Lines.{IsSessionOf}
 use Rattle.run_inputs.specs.Ready.{IsReady}
 use Rattle.run_inputs.specs.Inputs.{IsScript}
 use Rattle.cli_words.specs.Words.{Files, Run}
 use Rattle.planner_cli.proofs.modes.check_ready.Goals as goal
-
-pub check_lent-requires-clause-session : goal.check_lent-requires-clause-session
-check_lent-requires-clause-session g c =
-    let game = c.requires.loaded.0 in
-    (first_state game, subst (IsSessionOf (first_state game)) (sym c.requires.loaded.1) (c.state_is_of_the_active_edits.ensures.first game))
 
 pub returns-clause-leaves : goal.returns-clause-leaves
 returns-clause-leaves g c = λ names first ready later.
@@ -20,6 +13,9 @@ pub returns-clause-begins : goal.returns-clause-begins
 returns-clause-begins g c = λ names first given begins.
     c.check_lent.ensures.begins names first (subst (λ (bytes : List ℕ). IsScript (g.S.Store.shelf c.args.store.now) (Some (Files Run names)) bytes) (sym c.deref.ensures.value) given) begins
 
+pub returns-clause-slots : goal.returns-clause-slots
+returns-clause-slots g c = c.check_lent.ensures.slots
+
 pub returns-clause-store : goal.returns-clause-store
 returns-clause-store g c = c.check_lent.ensures.store
 
@@ -28,6 +24,3 @@ returns-clause-sink g c = c.check_lent.ensures.sink
 
 pub returns-clause-later : goal.returns-clause-later
 returns-clause-later g c = c.check_lent.ensures.later
-
-pub check_lent-requires-clause-calls : goal.check_lent-requires-clause-calls
-check_lent-requires-clause-calls g c = c.requires.calls

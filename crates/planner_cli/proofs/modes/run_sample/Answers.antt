@@ -1,14 +1,9 @@
 use Rattle.std.proofs.Common.{◌≡◌, ◌-◌, ◌∙◌, ap₂, sym, subst, ℕ}
-use Rattle.std.specs.Prelude.{None, Some, false}
+use Rattle.std.specs.Prelude.{Some}
 use Rattle.run_inputs.specs.Told.{TellsSteps}
 use Rattle.cli_words.specs.Words.{Sample}
 use Rattle.planner_cli.proofs.EndingLemmas.{early_sample, keeps_both, leaves_sample, leaves_told, leaves_unanswered}
 use Rattle.planner_cli.proofs.modes.run_sample.Goals as goal
-
-pub answer-end-requires : goal.answer-end-requires
-answer-end-requires g c =
-    let ready = c.in-Ok.ensures.ready (record { tells = false; file = λ name. None; steady = false }) in
-    record { none_yet = c.requires.none_yet; loaded = (ready.game, ready.first_is) }
 
 pub returns-in-Err-clause-leaves : goal.returns-in-Err-clause-leaves
 returns-in-Err-clause-leaves g c = λ shelf.

@@ -1,4 +1,4 @@
-use Rattle.std.proofs.Common.{◌≡◌, ◌≤◌, ◌+◌, ◌-◌, vec_len}
+use Rattle.std.proofs.Common.{◌≡◌, ◌≢◌, ◌≤◌, ℕ, ◌+◌, ◌-◌, vec_len}
 use Rattle.std.specs.Io.KnownBytes.{Consumes}
 use Rattle.run_inputs.proofs.input.read_pieces.Given as goal
 
@@ -8,6 +8,7 @@ invariant-loop-bytes g l = record {
   size : vec_len l.bytes ≤ l.limit + 1;
   shelf : g.S.Store.shelf l.store ≡ g.S.Store.shelf l.initial.store;
   begun : g.S.Store.begun l.store ≡ g.S.Store.begun l.initial.store;
+  others : (k : ℕ) → k ≢ l.slot → g.S.Store.left l.store k ≡ g.S.Store.left l.initial.store k;
   later : g.S.Store.faults l.initial.store ≤ g.S.Store.faults l.store;
 }
 

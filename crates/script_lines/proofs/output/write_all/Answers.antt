@@ -11,5 +11,5 @@ loop-done-preserved g c = record {
   within = omega (arith, c.in_ok-done.ensures.bound, length-drop c.loop-done.done c.args.bytes.now);
   written = appends_piece _ _ _ c.args.bytes.now c.loop-done.done c.in_ok-done.field-0 c.loop-done.invariant.written c.in_ok-done.ensures.bytes;
   limit = cc (c.in_ok-done.ensures.limit, c.loop-done.invariant.limit);
-  later = omega (arith, c.in_ok-done.ensures.cause.later);
+  kept = cc (c.in_ok-done.ensures.cause.kept, c.loop-done.invariant.kept);
 }

@@ -7,7 +7,7 @@ invariant-loop-done g l = record {
   within : l.done ≤ length l.bytes;
   written : Appends (g.K.Sink.written l.initial.out) (g.K.Sink.written l.out) (take l.done l.bytes);
   limit : g.K.Sink.limit l.out ≡ g.K.Sink.limit l.initial.out;
-  later : g.K.Sink.faults l.initial.out ≤ g.K.Sink.faults l.out;
+  kept : g.K.Sink.faults l.out ≡ g.K.Sink.faults l.initial.out;
 }
 
 abbrev pub decreases-loop-done : goal.decreases-loop-done

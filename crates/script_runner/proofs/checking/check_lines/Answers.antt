@@ -4,9 +4,6 @@ use Rattle.script_lines.proofs.LinesLemmas.{no_lines}
 use Rattle.script_runner.proofs.TrialLemmas.{judging_cut, judging_ends, judging_next, judging_wants}
 use Rattle.script_runner.proofs.checking.check_lines.Goals as goal
 
-pub judge_line-requires : goal.judge_line-requires
-judge_line-requires g c = record { session = (c.requires.session.0, c.loop-rest.invariant.history c.requires.session.0 c.requires.session.1) }
-
 pub returns-in-Err-clause-leaves : goal.returns-in-Err-clause-leaves
 returns-in-Err-clause-leaves g c = judging_wants c.loop-rest.invariant.so_far c.judge_line.new.steps c.judge_line.ensures.later
 

@@ -10,9 +10,6 @@ loop-rest-init g c = record {
   history = λ base from. from;
 }
 
-pub answer_line-requires : goal.answer_line-requires
-answer_line-requires g c = record { session = (c.requires.session.0, c.loop-rest.invariant.history c.requires.session.0 c.requires.session.1) }
-
 pub returns-in-Err-clause-all : goal.returns-in-Err-clause-all
 returns-in-Err-clause-all g c = proving_part c.loop-rest.invariant.so_far c.requires.few c.loop-rest.solved.items refl
 

@@ -4,9 +4,6 @@ use Rattle.script_lines.proofs.LinesLemmas.{no_lines}
 use Rattle.script_runner.proofs.SoFarLemmas.{ends_cut, ends_done, ends_refused, ends_wanting, so_far_next}
 use Rattle.script_runner.proofs.report.answer_lines.Goals as goal
 
-pub answer_line-requires : goal.answer_line-requires
-answer_line-requires g c = record { session = (c.requires.session.0, c.loop-rest.invariant.history c.requires.session.0 c.requires.session.1) }
-
 pub returns-in-Err-clause-leaves : goal.returns-in-Err-clause-leaves
 returns-in-Err-clause-leaves g c = ends_wanting c.loop-rest.invariant.so_far c.requires.few c.answer_line.new.steps c.answer_line.ensures.later c.loop-rest.solved.items refl
 

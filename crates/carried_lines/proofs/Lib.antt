@@ -1,0 +1,3 @@
+pub mod LeadingLemmas
+pub mod JoinedLemmas
+pub mod MarkLemmas

@@ -1,0 +1,10 @@
+use Rattle.std.proofs.Common.{◌≡◌}
+use Rattle.kept_worlds.specs.Worlds.{is_reached}
+use Rattle.carried_lines.specs.Marks.{MarksOnly}
+use Rattle.carried_lines.proofs.reached.mark_kinds.Given as goal
+
+abbrev pub invariant-loop-kind : goal.invariant-loop-kind
+invariant-loop-kind g l = record {
+  same : l.planner ≡ l.initial.planner;
+  only : MarksOnly (is_reached l.initial.planner.state.book) l.initial.marks → MarksOnly (is_reached l.initial.planner.state.book) l.marks;
+}

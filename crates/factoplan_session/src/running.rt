@@ -1,0 +1,113 @@
+//! From the file of a dump to the end of a session.
+ghost use Rattle.state_changes.specs.States.{State};
+ghost use Rattle.planner_core.specs.Lines.{IsSessionOf};
+
+use plan_base::{NoMemory, Steps};
+use plan_io::HostSink;
+use planner_cli::{DUMP_LIMIT, Long, Ready, Status};
+use planner_core::Planner;
+use program_runs::{End, Names, end_by, loaded, whole_file};
+use run_inputs::tell;
+use session_lines::{Session, SessionEnd, serve};
+use session_wishes::TableWishes;
+use shown_fields::{ShownFields, read_shown};
+use std::alloc::Global;
+use std::io::Input;
+use std::rt::Files;
+
+// Marks the counter of the program.
+#[derive(Drop)]
+struct Program;
+
+// What is shown of the things of a dump; nothing where it can't be read again.
+fn shown_in<R: Files>(rt: &R, alloc: Global, dump: &str) -> Result<ShownFields, NoMemory> {
+    match whole_file(rt, alloc, dump, DUMP_LIMIT) {
+        Some(bytes) => read_shown(alloc, bytes.as_slice()),
+        None => Ok(ShownFields::new(alloc)),
+    }
+}
+
+// The status of a run that ends as a session.
+fn status_by(end: SessionEnd) -> Status {
+    match end {
+        SessionEnd::Done => Status::Done,
+        SessionEnd::SomeRefused => Status::SomeRefused,
+        SessionEnd::ReadFault => Status::ReadFault,
+        SessionEnd::WriteFault => Status::WriteFault,
+        SessionEnd::NoMemory => Status::NoMemory,
+        SessionEnd::TooManyLines => Status::TooLong(Long::ScriptLines),
+        SessionEnd::TooManyBytes => Status::TooLong(Long::ScriptBytes),
+    }
+}
+
+// Answers the lines of standard input by a planner.
+fn serve_lent<R: Print + Input, L>(
+    rt: &R,
+    alloc: Global,
+    planner: &mut Planner,
+    shown: ShownFields,
+    steps: &mut Steps<L>,
+) -> Status
+    requires { (base : State) × IsSessionOf base planner.old }
+{
+    let mut session = Session::new(alloc, shown, TableWishes {});
+    let mut input = rt.reader();
+    let mut out = HostSink::make(rt);
+    status_by(serve(alloc, planner, &mut session, &mut input, &mut out, steps))
+}
+
+fn serve_ready<R: Print + Input, L>(
+    rt: &R,
+    alloc: Global,
+    ready: Ready,
+    shown: ShownFields,
+    steps: &mut Steps<L>,
+) -> Status
+    requires { (base : State) × IsSessionOf base ready.planner }
+{
+    let Ready {
+        mut planner,
+        script: _,
+    } = ready;
+    serve_lent(rt, alloc, &mut planner, shown, steps)
+}
+
+fn shown_status<R: Files + Print + Input, L>(
+    rt: &R,
+    alloc: Global,
+    ready: Ready,
+    names: Names<'_>,
+    steps: &mut Steps<L>,
+) -> Status
+    requires { (base : State) × IsSessionOf base ready.planner }
+{
+    match shown_in(rt, alloc, names.dump) {
+        Ok(shown) => serve_ready(rt, alloc, ready, shown, steps),
+        Err(NoMemory) => Status::NoMemory,
+    }
+}
+
+// How the session ends.
+fn status_of<R: Files + Print + Input>(rt: &R, alloc: Global, names: Names<'_>) -> Status {
+    let mut steps = Steps::new(Program);
+    match loaded(rt, alloc, names, &mut steps) {
+        Ok(ready) => shown_status(rt, alloc, ready, names, &mut steps),
+        Err(status) => status,
+    }
+}
+
+// Writes the line of an end that has one, and answers how it ends.
+fn tell_end<R: Print>(alloc: Global, status: Status, out: &mut HostSink<'_, R>) -> Status {
+    match status {
+        Status::WriteFault => Status::WriteFault,
+        early => tell(alloc, early, out),
+    }
+}
+
+/// Answers the lines of standard input over a dump until they end, and tells on standard output why it ends before.
+pub fn session_of<R: Files + Print + Input>(rt: &R, alloc: Global, names: Names<'_>) -> End {
+    let status = status_of(rt, alloc, names);
+    let mut out = HostSink::make(rt);
+    let told = tell_end(alloc, status, &mut out);
+    end_by(rt, alloc, &told, names)
+}

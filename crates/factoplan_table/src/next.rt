@@ -1,0 +1,68 @@
+//! The command that goes on from what is printed.
+use std::alloc::{AllocError, Global};
+use wish_words::Asked;
+
+// Whether a byte of a word stands for itself in a shell.
+fn is_plain(byte: u8) -> bool {
+    byte.is_ascii_alphanumeric() || matches!(byte, b'/' | b'.' | b'-' | b'_' | b'+' | b'@')
+}
+
+fn is_control(byte: u8) -> bool {
+    byte < 32 || byte == 127
+}
+
+fn push_letter(letter: char, text: &mut String) -> Result<(), AllocError> {
+    if letter == '\'' {
+        text.push_str("'\\''")?;
+    } else {
+        text.push(letter)?;
+    }
+    Ok(())
+}
+
+// A word between quotes of a shell.
+fn quoted(alloc: Global, word: &str) -> Result<String, AllocError> {
+    let mut text = String::new(alloc);
+    text.push('\'')?;
+    for letter in word.chars() {
+        push_letter(letter, &mut text)?;
+    }
+    text.push('\'')?;
+    Ok(text)
+}
+
+// A word as a shell takes it, on one line.
+fn shell_word(alloc: Global, word: &str) -> Result<String, AllocError> {
+    if !word.is_empty() && word.bytes().all(|byte| is_plain(byte)) {
+        String::from_str(alloc, word)
+    } else if word.bytes().any(|byte| is_control(byte)) {
+        String::from_str(alloc, "DUMP")
+    } else {
+        quoted(alloc, word)
+    }
+}
+
+// The file that is to have what is printed: another than the script that is read.
+fn output(asked: &Asked<'_>) -> &'static str {
+    match asked.script {
+        Some(script) => {
+            if script == "wish.txt" {
+                "wish2.txt"
+            } else {
+                "wish.txt"
+            }
+        }
+        None => "wish.txt",
+    }
+}
+
+/// The words of the launcher that ask for more rows of the table, where what is printed was saved in a file that they name.
+///
+/// # Errors
+///
+/// `AllocError` where memory could not be had.
+pub fn command_for(alloc: Global, asked: &Asked<'_>) -> Result<String, AllocError> {
+    let dump = shell_word(alloc, asked.dump)?;
+    let output = output(asked);
+    format!(in alloc; "factoplan table {dump} --script {output}")
+}

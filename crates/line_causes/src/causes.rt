@@ -1,0 +1,342 @@
+// Why a line is refused, in words.
+ghost use Rattle.std.specs.Prelude.{◌≡◌, ◌++◌, IfOk, codes, string_bytes};
+ghost use Rattle.node_report.specs.Words.{printed_word};
+ghost use Rattle.line_causes.specs.Causes.{cause_text, code_of, code_words, done_by_text, kind_noun, no_row_text, quote_words, stands_text, warmer_text};
+ghost use Rattle.line_causes.specs.Forms.{slot_words};
+
+use crate::forms::{Slot, form_of, front_words, next_words, slot_code, slot_words};
+use line_words::QuoteFault;
+use plan_base::{Kind, Text};
+use plan_report::{RefusalCode, printed_word};
+use script_reader::CommandWord;
+use std::alloc::{AllocError, Global};
+
+/// Why a line is refused, as far as its words and the game tell. Each cause is one of a code.
+#[derive(Drop)]
+pub enum Cause {
+    /// What the code alone says.
+    Coded(RefusalCode),
+    /// The same, of what a word names.
+    Of {
+        word: Text,
+        code: RefusalCode,
+    },
+    /// The script begins with a byte order mark.
+    Mark,
+    /// No command is called so.
+    NoCommand(Text),
+    /// A comment stands behind a command.
+    Comment,
+    /// Something else stands behind so many words of a command.
+    Stands {
+        first: Text,
+        command: CommandWord,
+        at: usize,
+    },
+    /// A word is not what stands at such a place.
+    Unfit {
+        word: Text,
+        slot: Slot,
+    },
+    /// A word is badly quoted.
+    Quoting(QuoteFault),
+    /// Nothing of a kind has the name of a word.
+    NoObject {
+        kind: Kind,
+        word: Text,
+    },
+    /// An item is no module.
+    NoModule(Text),
+    /// A machine is no beacon.
+    NoBeacon(Text),
+    /// There is no table of a name.
+    NoTable(Text),
+    /// A table has no row of a label.
+    NoRow {
+        table: Text,
+        label: Text,
+    },
+    /// A good has no import, or no surplus.
+    NoPrice(Text),
+    /// A machine does not do an activity.
+    Undone {
+        machine: Text,
+        activity: Text,
+    },
+    /// The same, and another does.
+    DoneBy {
+        machine: Text,
+        activity: Text,
+        other: Text,
+    },
+    /// A machine does not give a fluid that it gives at a temperature.
+    Warmer {
+        fluid: Text,
+        machine: Text,
+        variant: Text,
+    },
+    /// A machine takes a fuel, and none is named; it takes this one.
+    Fuelless {
+        machine: Text,
+        fuel: Text,
+    },
+}
+
+/// Why a table has no plan, as far as one good tells it.
+#[derive(Drop)]
+pub enum Short {
+    /// No row or import gives the good.
+    Ungiven(Text),
+    /// No row or import gives the base, but some give this variant of it.
+    Warmer { base: Text, variant: Text },
+    /// Some give it, but at no rates as much as is taken and wanted of it.
+    Unmet(Text),
+}
+
+/// What a code says of a line, where no more is known.
+pub fn code_words(code: RefusalCode) -> &'static str
+    ensures { result.now ≡ code_words code }
+{
+    match code {
+        RefusalCode::Q1 => "the first word is no command",
+        RefusalCode::Q2 =>
+            "the line has too few words or too many, or another word stands for a fixed one",
+        RefusalCode::Q3 => "a word is no number of the kind that stands there",
+        RefusalCode::Q4 => "the line is not in UTF-8, or a word is badly quoted",
+        RefusalCode::Q5 => "a word names no object of a kind that stands there",
+        RefusalCode::X1 => "nothing has this name, or not of the kind that is needed",
+        RefusalCode::X2 => "all would be as before",
+        RefusalCode::X3 => "an amount or a time has to be above 0",
+        RefusalCode::X4 => "a list would have more than 1,024 entries",
+        RefusalCode::M1 => "there are 256 milestones already",
+        RefusalCode::M2 => "it is a milestone already",
+        RefusalCode::M3 => "it is no milestone",
+        RefusalCode::H1 => "nothing is there to undo",
+        RefusalCode::H2 => "nothing is there to do again",
+        RefusalCode::H3 =>
+            "a batch is open, and takes only edits that it can hold, end, cancel and quiet",
+        RefusalCode::H4 => "no batch is open",
+        RefusalCode::H5 => "the batch holds 1,024 edits already",
+        RefusalCode::P1 => "no table or row has this name, or the good has no such price",
+        RefusalCode::P2 => "a wanted rate or a price may not be below 0",
+        RefusalCode::P3 =>
+            "there are 64 tables already, or the table has 512 rows, wants, imports, surpluses or goods already",
+        RefusalCode::P4 => "a temperature that the row takes is not there",
+        RefusalCode::P5 => "the name is used already",
+        RefusalCode::K1 => "the machine does not do the activity",
+        RefusalCode::K2 => "the machine is fixed to another recipe",
+        RefusalCode::K3 => "the source needs this fluid, and the drill has no box for it",
+        RefusalCode::K4 => "a number of the rates of the row would pass 127 bits",
+        RefusalCode::K5 => "the machine gives nothing so",
+        RefusalCode::L1 => "the machine burns a fuel, and none is named",
+        RefusalCode::L2 => "the machine does not take this fuel",
+        RefusalCode::L3 => "a fuel is named, and the machine burns none",
+        RefusalCode::L4 => "the energy of the machine is not planned",
+        RefusalCode::U1 => "there are more modules than slots",
+        RefusalCode::U2 => "an effect of the module is not allowed here",
+        RefusalCode::U3 => "the module is not allowed on this recipe",
+        RefusalCode::B1 => "no machine shares the beacon",
+        RefusalCode::V1 => "a number of the solver would pass 127 bits",
+        RefusalCode::V2 => "the budget of exchanges is used up",
+    }
+}
+
+fn quote_words(fault: QuoteFault) -> &'static str
+    ensures { result.now ≡ quote_words fault }
+{
+    match fault {
+        QuoteFault::NotUtf8 => "the line is not in UTF-8",
+        QuoteFault::Within => "a quote stands within a word",
+        QuoteFault::Open => "a quote is not closed",
+        QuoteFault::Behind => "a word goes on behind its closing quote",
+        QuoteFault::Escape =>
+            "a backslash in quotes stands before none of n, t, r, quote and backslash",
+    }
+}
+
+// What a thing of a kind is called.
+fn kind_noun(kind: Kind) -> &'static str
+    ensures { result.now ≡ kind_noun kind }
+{
+    match kind {
+        Kind::Special => "special thing",
+        Kind::Item => "item",
+        Kind::Fluid => "fluid",
+        Kind::Recipe => "recipe",
+        Kind::Source => "source",
+        Kind::Machine => "machine",
+        Kind::Tech => "technology",
+    }
+}
+
+// What stands behind so many words of a command.
+fn stands_text(
+    alloc: Global,
+    first: &str,
+    command: CommandWord,
+    at: usize,
+) -> Result<String, AllocError>
+    ensures { IfOk result (λ text. string_bytes text ≡ stands_text first.now command at) }
+{
+    let form = form_of(command);
+    let first = printed_word(alloc, first)?;
+    let front = front_words(alloc, &form[..at.min(form.len())])?;
+    let next = next_words(form, at);
+    format!(in alloc; "behind {first}{front} stands {next}")
+}
+
+/// The code of a cause.
+pub fn code_of(cause: &Cause) -> RefusalCode
+    ensures { result ≡ code_of cause.now }
+{
+    match cause {
+        Cause::Coded(code) => *code,
+        Cause::Of { code, .. } => *code,
+        Cause::Mark | Cause::NoCommand(_) => RefusalCode::Q1,
+        Cause::Comment | Cause::Stands { .. } => RefusalCode::Q2,
+        Cause::Unfit { slot, .. } => slot_code(*slot),
+        Cause::Quoting(_) => RefusalCode::Q4,
+        Cause::NoObject { .. } | Cause::NoModule(_) | Cause::NoBeacon(_) => RefusalCode::X1,
+        Cause::NoTable(_) | Cause::NoRow { .. } | Cause::NoPrice(_) => RefusalCode::P1,
+        Cause::Undone { .. } | Cause::DoneBy { .. } | Cause::Warmer { .. } => RefusalCode::K1,
+        Cause::Fuelless { .. } => RefusalCode::L1,
+    }
+}
+
+// A word, and what is said of it.
+fn word_then(alloc: Global, word: &str, what: &str) -> Result<String, AllocError>
+    ensures { IfOk result (λ text. string_bytes text ≡ printed_word word.now ++ what.now) }
+{
+    let word = printed_word(alloc, word)?;
+    format!(in alloc; "{word}{what}")
+}
+
+// A text, and a word behind it.
+fn then_word(alloc: Global, front: &str, word: &str) -> Result<String, AllocError>
+    ensures { IfOk result (λ text. string_bytes text ≡ front.now ++ printed_word word.now) }
+{
+    let word = printed_word(alloc, word)?;
+    format!(in alloc; "{front}{word}")
+}
+
+// Two words, and what stands between them.
+fn between(alloc: Global, first: &str, middle: &str, last: &str) -> Result<String, AllocError>
+    ensures { IfOk result (λ text. string_bytes text ≡ printed_word first.now ++ (middle.now ++ printed_word last.now)) }
+{
+    let first = printed_word(alloc, first)?;
+    let last = printed_word(alloc, last)?;
+    format!(in alloc; "{first}{middle}{last}")
+}
+
+// What a code says, of a word.
+fn of_text(alloc: Global, word: &str, code: RefusalCode) -> Result<String, AllocError>
+    ensures { IfOk result (λ text. string_bytes text ≡ printed_word word.now ++ (codes ": " ++ code_words code)) }
+{
+    let word = printed_word(alloc, word)?;
+    let what = code_words(code);
+    format!(in alloc; "{word}: {what}")
+}
+
+fn unfit_text(alloc: Global, word: &str, slot: Slot) -> Result<String, AllocError>
+    ensures { IfOk result (λ text. string_bytes text ≡ printed_word word.now ++ (codes " is not " ++ slot_words slot)) }
+{
+    let word = printed_word(alloc, word)?;
+    let what = slot_words(slot);
+    format!(in alloc; "{word} is not {what}")
+}
+
+fn no_object_text(alloc: Global, kind: Kind, word: &str) -> Result<String, AllocError>
+    ensures { IfOk result (λ text. string_bytes text ≡ codes "no " ++ (kind_noun kind ++ (codes " is called " ++ printed_word word.now))) }
+{
+    let word = printed_word(alloc, word)?;
+    let noun = kind_noun(kind);
+    format!(in alloc; "no {noun} is called {word}")
+}
+
+// One text behind another.
+fn joined(alloc: Global, first: &str, second: &str) -> Result<String, AllocError>
+    ensures { IfOk result (λ text. string_bytes text ≡ first.now ++ second.now) }
+{
+    format!(in alloc; "{first}{second}")
+}
+
+fn no_row_text(alloc: Global, table: &str, label: &str) -> Result<String, AllocError>
+    ensures { IfOk result (λ text. string_bytes text ≡ no_row_text table.now label.now) }
+{
+    let front = then_word(alloc, "table ", table)?;
+    let end = then_word(alloc, " has no row ", label)?;
+    joined(alloc, front.as_str(), end.as_str())
+}
+
+fn done_by_text(
+    alloc: Global,
+    machine: &str,
+    activity: &str,
+    other: &str,
+) -> Result<String, AllocError>
+    ensures { IfOk result (λ text. string_bytes text ≡ done_by_text machine.now activity.now other.now) }
+{
+    let undone = between(alloc, machine, " does not do ", activity)?;
+    let other = printed_word(alloc, other)?;
+    format!(in alloc; "{undone}; {other} does")
+}
+
+fn warmer_text(
+    alloc: Global,
+    fluid: &str,
+    machine: &str,
+    variant: &str,
+) -> Result<String, AllocError>
+    ensures { IfOk result (λ text. string_bytes text ≡ warmer_text fluid.now machine.now variant.now) }
+{
+    let front = word_then(alloc, fluid, " has several temperatures; ")?;
+    let made = between(alloc, machine, " makes ", variant)?;
+    joined(alloc, front.as_str(), made.as_str())
+}
+
+/// What is said of a cause.
+///
+/// # Errors
+///
+/// `AllocError` where memory could not be had.
+pub fn cause_text(alloc: Global, cause: &Cause) -> Result<String, AllocError>
+    ensures { IfOk result (λ text. string_bytes text ≡ cause_text cause.now) }
+{
+    match cause {
+        Cause::Coded(code) => String::from_str(alloc, code_words(*code)),
+        Cause::Of { word, code } => of_text(alloc, word.as_str(), *code),
+        Cause::Mark => String::from_str(alloc, "the file begins with a byte order mark"),
+        Cause::NoCommand(word) => then_word(alloc, "no command is called ", word.as_str()),
+        Cause::Comment => String::from_str(alloc, "a comment stands on a line of its own"),
+        Cause::Stands { first, command, at } => stands_text(alloc, first.as_str(), *command, *at),
+        Cause::Unfit { word, slot } => unfit_text(alloc, word.as_str(), *slot),
+        Cause::Quoting(fault) => String::from_str(alloc, quote_words(*fault)),
+        Cause::NoObject { kind, word } => no_object_text(alloc, *kind, word.as_str()),
+        Cause::NoModule(word) => word_then(alloc, word.as_str(), " is no module"),
+        Cause::NoBeacon(word) => word_then(alloc, word.as_str(), " is no beacon"),
+        Cause::NoTable(word) => then_word(alloc, "no table is called ", word.as_str()),
+        Cause::NoRow { table, label } => no_row_text(alloc, table.as_str(), label.as_str()),
+        Cause::NoPrice(word) => word_then(alloc, word.as_str(), " has no such price"),
+        Cause::Undone { machine, activity } => {
+            between(alloc, machine.as_str(), " does not do ", activity.as_str())
+        }
+        Cause::DoneBy {
+            machine,
+            activity,
+            other,
+        } => done_by_text(alloc, machine.as_str(), activity.as_str(), other.as_str()),
+        Cause::Warmer {
+            fluid,
+            machine,
+            variant,
+        } => warmer_text(alloc, fluid.as_str(), machine.as_str(), variant.as_str()),
+        Cause::Fuelless { machine, fuel } => {
+            between(
+                alloc,
+                machine.as_str(),
+                " burns a fuel, such as ",
+                fuel.as_str(),
+            )
+        }
+    }
+}

@@ -1,0 +1,10 @@
+//! Why a line of a script is refused, in words: what each code says and what more is known of a cause, and what stands where on a line.
+//!
+//! The texts are in `specs/`: `Causes` (by the code of a refusal), `Forms` (what stands where on a line).
+#![tactic(auto)]
+
+mod causes;
+mod forms;
+
+pub use causes::{Cause, Short, cause_text, code_of, code_words};
+pub use forms::{Slot, form_of, slot_code};

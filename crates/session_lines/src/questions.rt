@@ -1,0 +1,315 @@
+//! Questions, and their answers.
+ghost use Rattle.std.specs.Prelude.{◌≡◌};
+ghost use Rattle.state_changes.specs.States.{State};
+ghost use Rattle.planner_core.specs.Lines.{IsSessionOf};
+
+use crate::answers::{Done, push_refusal, push_reply, push_text, refusal};
+use crate::flows::{push_flow_answer, push_why_not};
+use crate::forced::{Forced, Reading};
+use crate::limits::push_limits;
+use crate::state::push_state;
+use crate::wishes::{Wished, Wishes};
+use catalog_text::catalog_text;
+use plan_base::{NoMemory, Steps, Text};
+use plan_report::{RefusalCode, Reply};
+use planner_core::Planner;
+use planner_questions::{ask_rate, ask_solve};
+use script_reader::{Command, ScriptFault};
+use script_runner::reading_of;
+use shown_fields::ShownFields;
+use std::alloc::Global;
+
+// What a question asks for, by its first word.
+#[derive(Clone, Copy, Debug, PartialEq, Eq)]
+enum Asked {
+    Catalog,
+    State,
+    Flow,
+    WhyNot,
+    Limits,
+    Wish,
+}
+
+// The first word of a line, and what stands behind it.
+fn front_word(line: &[u8]) -> (&[u8], &[u8]) {
+    for (place, byte) in line.iter().enumerate() {
+        if *byte == b' ' || *byte == b'\t' {
+            return line.split_at(place);
+        }
+    }
+    (line, &[])
+}
+
+fn asked_by(word: &[u8]) -> Option<Asked> {
+    match word {
+        b"?catalog" => Some(Asked::Catalog),
+        b"?state" => Some(Asked::State),
+        b"?flow" => Some(Asked::Flow),
+        b"?why-not" => Some(Asked::WhyNot),
+        b"?limits" => Some(Asked::Limits),
+        b"?wish" => Some(Asked::Wish),
+        _ => None,
+    }
+}
+
+// Words behind the word of a command of a script, as a line of it.
+fn line_of(alloc: Global, command: &[u8], words: &[u8]) -> Result<Vec<u8>, NoMemory> {
+    let mut line = Vec::new(alloc);
+    line.extend_from_slice(command)?;
+    line.extend_from_slice(words)?;
+    Ok(line)
+}
+
+// What the words of a question are read as behind the word of a command of a script.
+fn read_as(alloc: Global, command: &[u8], words: &[u8]) -> Result<Reading, NoMemory> {
+    let line = line_of(alloc, command, words)?;
+    reading_of(alloc, line.as_slice())
+}
+
+// The code of what can't be read.
+fn fault_code(fault: ScriptFault) -> RefusalCode {
+    match fault {
+        ScriptFault::UnknownCommand => RefusalCode::Q1,
+        ScriptFault::WrongWords => RefusalCode::Q2,
+        ScriptFault::BadNumber => RefusalCode::Q3,
+        ScriptFault::BadQuoting => RefusalCode::Q4,
+        ScriptFault::BadObject => RefusalCode::Q5,
+        ScriptFault::NoMemory => RefusalCode::Q1,
+    }
+}
+
+// The refusal of words behind a question that takes none.
+fn unwanted(alloc: Global, words: &[u8]) -> Result<Option<Reply>, NoMemory> {
+    match read_as(alloc, b"milestones", words)? {
+        Ok(Some(Command::Milestones)) => Ok(None),
+        other => Ok(Some(unread(other))),
+    }
+}
+
+// The refusal of what can't be read.
+fn unread(reading: Reading) -> Reply {
+    match reading {
+        Err(fault) => refusal(fault_code(fault)),
+        Ok(_) => refusal(RefusalCode::Q2),
+    }
+}
+
+// The reply to the `solve` that a question stands for.
+fn solved<L>(
+    alloc: Global,
+    planner: &mut Planner,
+    words: &[u8],
+    steps: &mut Steps<L>,
+) -> Result<Reply, NoMemory>
+    requires { (base : State) × IsSessionOf base planner.old }
+    ensures stays { planner.new ≡ planner.old }
+{
+    match read_as(alloc, b"solve", words)? {
+        Ok(Some(Command::Solve { table, budget })) => ask_solve(planner, table, budget, steps),
+        other => Ok(unread(other)),
+    }
+}
+
+// The reply to the `rate` that a question stands for.
+fn rated<L>(
+    alloc: Global,
+    planner: &mut Planner,
+    words: &[u8],
+    steps: &mut Steps<L>,
+) -> Result<Reply, NoMemory>
+    requires { (base : State) × IsSessionOf base planner.old }
+    ensures stays { planner.new ≡ planner.old }
+{
+    match read_as(alloc, b"rate", words)? {
+        Ok(Some(Command::Rate { table, label })) => ask_rate(planner, table, label, steps),
+        other => Ok(unread(other)),
+    }
+}
+
+fn push_flow<L>(
+    alloc: Global,
+    out: &mut String,
+    planner: &mut Planner,
+    words: &[u8],
+    steps: &mut Steps<L>,
+) -> Done
+    requires { (base : State) × IsSessionOf base planner.old }
+    ensures stays { planner.new ≡ planner.old }
+{
+    let reply = solved(alloc, planner, words, steps)?;
+    push_flow_answer(alloc, out, planner, &reply)
+}
+
+fn push_reason<L>(
+    alloc: Global,
+    out: &mut String,
+    planner: &mut Planner,
+    words: &[u8],
+    steps: &mut Steps<L>,
+) -> Done
+    requires { (base : State) × IsSessionOf base planner.old }
+    ensures stays { planner.new ≡ planner.old }
+{
+    let reply = solved(alloc, planner, words, steps)?;
+    push_why_not(alloc, out, planner.game(), &reply)
+}
+
+fn push_rate<L>(
+    alloc: Global,
+    out: &mut String,
+    planner: &mut Planner,
+    words: &[u8],
+    steps: &mut Steps<L>,
+) -> Done
+    requires { (base : State) × IsSessionOf base planner.old }
+    ensures stays { planner.new ≡ planner.old }
+{
+    let reply = rated(alloc, planner, words, steps)?;
+    push_limits(alloc, out, planner.game(), &reply)
+}
+
+// The catalog, which no words ask for and no open batch hinders.
+fn push_catalog<L>(
+    alloc: Global,
+    out: &mut String,
+    planner: &mut Planner,
+    shown: &ShownFields,
+    words: &[u8],
+    steps: &mut Steps<L>,
+) -> Done
+    requires { (base : State) × IsSessionOf base planner.old }
+    ensures stays { planner.new ≡ planner.old }
+{
+    if let Some(refused) = unwanted(alloc, words)? {
+        return push_reply(alloc, out, &refused, planner.game());
+    }
+    match catalog_text(alloc, planner, shown, steps)? {
+        Some(text) => push_text(out, text.as_str()),
+        None => push_refusal(alloc, out, RefusalCode::H3, planner.game()),
+    }
+}
+
+fn push_forced(
+    alloc: Global,
+    out: &mut String,
+    planner: &Planner,
+    forced: &Forced,
+    words: &[u8],
+) -> Done {
+    match unwanted(alloc, words)? {
+        Some(refused) => push_reply(alloc, out, &refused, planner.game()),
+        None => push_state(out, forced),
+    }
+}
+
+// Why a wish isn't met, line by line.
+fn push_unmet(out: &mut String, said: &str) -> Done {
+    push_text(out, "? wish refused\n")?;
+    for line in said.lines() {
+        push_text(out, "  ")?;
+        push_text(out, line)?;
+        push_text(out, "\n")?;
+    }
+    Ok(())
+}
+
+fn push_wished(alloc: Global, out: &mut String, planner: &Planner, wished: &Wished) -> Done {
+    match wished {
+        Wished::Lines(lines) => push_text(out, lines.as_str()),
+        Wished::Refused(code) => push_refusal(alloc, out, *code, planner.game()),
+        Wished::Unmet(said) => push_unmet(out, said.as_str()),
+    }
+}
+
+// The lines that make a table for a wish.
+fn push_wish<W: Wishes, L>(
+    alloc: Global,
+    out: &mut String,
+    planner: &mut Planner,
+    shown: &ShownFields,
+    wishes: &W,
+    words: &[u8],
+    steps: &mut Steps<L>,
+) -> Done
+    requires { (base : State) × IsSessionOf base planner.old }
+    ensures stays { planner.new ≡ planner.old }
+{
+    let wished = wishes.answer_wish(alloc, planner, shown, words, steps)?;
+    push_wished(alloc, out, planner, &wished)
+}
+
+// The answer to what is asked.
+fn push_asked<W: Wishes, L>(
+    alloc: Global,
+    out: &mut String,
+    planner: &mut Planner,
+    forced: &Forced,
+    shown: &ShownFields,
+    wishes: &W,
+    asked: Asked,
+    words: &[u8],
+    steps: &mut Steps<L>,
+) -> Done
+    requires { (base : State) × IsSessionOf base planner.old }
+    ensures stays { planner.new ≡ planner.old }
+{
+    match asked {
+        Asked::Catalog => push_catalog(alloc, out, planner, shown, words, steps),
+        Asked::State => push_forced(alloc, out, planner, forced, words),
+        Asked::Flow => push_flow(alloc, out, planner, words, steps),
+        Asked::WhyNot => push_reason(alloc, out, planner, words, steps),
+        Asked::Limits => push_rate(alloc, out, planner, words, steps),
+        Asked::Wish => push_wish(alloc, out, planner, shown, wishes, words, steps),
+    }
+}
+
+// The refusal of a question that there isn't. It is no command of a script either.
+fn push_unknown(alloc: Global, out: &mut String, planner: &Planner, line: &[u8]) -> Done {
+    let refused = unread(reading_of(alloc, line)?);
+    push_reply(alloc, out, &refused, planner.game())
+}
+
+// The answer to a question.
+fn push_question<W: Wishes, L>(
+    alloc: Global,
+    out: &mut String,
+    planner: &mut Planner,
+    forced: &Forced,
+    shown: &ShownFields,
+    wishes: &W,
+    line: &[u8],
+    steps: &mut Steps<L>,
+) -> Done
+    requires { (base : State) × IsSessionOf base planner.old }
+    ensures stays { planner.new ≡ planner.old }
+{
+    let (word, words) = front_word(line);
+    match asked_by(word) {
+        Some(asked) => push_asked(
+            alloc, out, planner, forced, shown, wishes, asked, words, steps,
+        ),
+        None => push_unknown(alloc, out, planner, line),
+    }
+}
+
+/// Answers a question, which leaves the planner as it was.
+///
+/// # Errors
+///
+/// `NoMemory` where memory could not be had.
+pub fn answer_question<W: Wishes, L>(
+    alloc: Global,
+    planner: &mut Planner,
+    forced: &Forced,
+    shown: &ShownFields,
+    wishes: &W,
+    line: &[u8],
+    steps: &mut Steps<L>,
+) -> Result<Text, NoMemory>
+    requires { (base : State) × IsSessionOf base planner.old }
+    ensures stays { planner.new ≡ planner.old }
+{
+    let mut out = String::new(alloc);
+    push_question(alloc, &mut out, planner, forced, shown, wishes, line, steps)?;
+    Ok(Text::from_string(out))
+}

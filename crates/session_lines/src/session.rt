@@ -1,0 +1,364 @@
+//! A session: lines come in, and each is answered before the next.
+ghost use Rattle.std.specs.Prelude.{◌<◌, IfSome, length};
+ghost use Rattle.std.specs.Io.{ReadsAtMost};
+ghost use Rattle.state_changes.specs.States.{State};
+ghost use Rattle.planner_core.specs.Lines.{IsSessionOf};
+
+use crate::forced::Forced;
+use crate::questions::answer_question;
+use crate::script::{Told, answer_script};
+use crate::wishes::Wishes;
+use plan_base::{NoMemory, Steps, Text};
+use plan_io::Sink;
+use planner_core::Planner;
+use script_lines::{trim_return, write_all};
+use shown_fields::ShownFields;
+use std::alloc::{AllocError, Global};
+use std::io::Read;
+use std::str::from_utf8;
+
+/// The most lines that the script of a session may have.
+pub const LINES: u32 = 100_000;
+
+/// The most bytes that the lines of the script of a session may have, newlines among them, and that one line may have.
+pub const BYTES: usize = 16_777_216;
+
+// Input is read by pieces of this many bytes.
+const PIECE: usize = 65_536;
+
+/// How a session ends.
+#[derive(Clone, Copy, Debug, PartialEq, Eq)]
+pub enum SessionEnd {
+    /// The input ended, and no line of the script was refused.
+    Done,
+    /// The input ended, and some line of the script was refused.
+    SomeRefused,
+    ReadFault,
+    WriteFault,
+    NoMemory,
+    /// The script has more lines than it may have.
+    TooManyLines,
+    /// The lines of the script, or one line, have more bytes than they may have.
+    TooManyBytes,
+}
+
+/// What a session keeps beside its planner.
+#[derive(Drop)]
+pub struct Session<W> {
+    forced: Forced,
+    shown: ShownFields,
+    wishes: W,
+    /// How many lines of the script came.
+    number: u32,
+    /// How many bytes they have.
+    bytes: usize,
+    /// Whether some line of the script was refused.
+    refused: bool,
+}
+
+impl<W: Wishes> Session<W> {
+    /// A session before its first line.
+    pub fn new(alloc: Global, shown: ShownFields, wishes: W) -> Session<W> {
+        Session {
+            forced: Forced::new(alloc),
+            shown,
+            wishes,
+            number: 0,
+            bytes: 0,
+            refused: false,
+        }
+    }
+
+    // Notes what a line of the script did.
+    fn note(&mut self, told: &Told, number: u32, line: &[u8]) -> Result<(), NoMemory> {
+        if told.refused {
+            self.refused = true;
+            self.forced.note_refused(told.deed);
+            return Ok(());
+        }
+        let text = from_utf8(line).unwrap_or("");
+        self.forced.note(told.deed, number, text)
+    }
+
+    // Counts a line of the script of so many bytes. Answers its number.
+    fn count(&mut self, bytes: usize) -> Result<u32, SessionEnd> {
+        if self.number >= LINES {
+            return Err(SessionEnd::TooManyLines);
+        }
+        self.bytes = self.bytes.saturating_add(bytes);
+        if self.bytes > BYTES {
+            return Err(SessionEnd::TooManyBytes);
+        }
+        self.number += 1;
+        Ok(self.number)
+    }
+
+    /// How a session ends whose input has ended.
+    pub fn end(&self) -> SessionEnd {
+        if self.refused {
+            SessionEnd::SomeRefused
+        } else {
+            SessionEnd::Done
+        }
+    }
+}
+
+// Answers the line of a script with this number.
+fn answer_numbered<W: Wishes, L>(
+    alloc: Global,
+    planner: &mut Planner,
+    session: &mut Session<W>,
+    number: u32,
+    line: &[u8],
+    steps: &mut Steps<L>,
+) -> Result<Text, NoMemory>
+    requires { (base : State) × IsSessionOf base planner.old }
+    ensures { (base : State) × IsSessionOf base planner.new }
+{
+    let told = answer_script(alloc, planner, number, line, steps)?;
+    session.note(&told, number, line)?;
+    let Told {
+        text,
+        refused: _,
+        deed: _,
+    } = told;
+    Ok(text)
+}
+
+fn or_end(answer: Result<Text, NoMemory>) -> Result<Text, SessionEnd> {
+    match answer {
+        Ok(text) => Ok(text),
+        Err(NoMemory) => Err(SessionEnd::NoMemory),
+    }
+}
+
+fn is_question(line: &[u8]) -> bool {
+    match line.first() {
+        Some(first) => *first == b'?',
+        None => false,
+    }
+}
+
+// Answers a line, which came with so many bytes.
+fn answer<W: Wishes, L>(
+    alloc: Global,
+    planner: &mut Planner,
+    session: &mut Session<W>,
+    line: &[u8],
+    bytes: usize,
+    steps: &mut Steps<L>,
+) -> Result<Text, SessionEnd>
+    requires { (base : State) × IsSessionOf base planner.old }
+    ensures { (base : State) × IsSessionOf base planner.new }
+{
+    if is_question(line) {
+        let answer = answer_question(
+            alloc,
+            planner,
+            &session.forced,
+            &session.shown,
+            &session.wishes,
+            line,
+            steps,
+        );
+        return or_end(answer);
+    }
+    let number = session.count(bytes)?;
+    or_end(answer_numbered(alloc, planner, session, number, line, steps))
+}
+
+// An answer with the mark of its end.
+fn marked(alloc: Global, answer: &str) -> Result<Vec<u8>, AllocError> {
+    let mut bytes = answer.as_bytes().to_vec(alloc)?;
+    bytes.extend_from_slice(b".\n")?;
+    Ok(bytes)
+}
+
+fn write_marked<K: Sink>(alloc: Global, answer: &str, out: &mut K) -> Result<(), SessionEnd> {
+    let Ok(bytes) = marked(alloc, answer) else {
+        return Err(SessionEnd::NoMemory);
+    };
+    match write_all(out, bytes.as_slice()) {
+        Ok(()) => Ok(()),
+        Err(_) => Err(SessionEnd::WriteFault),
+    }
+}
+
+// Answers a line, and writes the answer.
+fn take_line<W: Wishes, K: Sink, L>(
+    alloc: Global,
+    planner: &mut Planner,
+    session: &mut Session<W>,
+    line: &[u8],
+    bytes: usize,
+    out: &mut K,
+    steps: &mut Steps<L>,
+) -> Result<(), SessionEnd>
+    requires { (base : State) × IsSessionOf base planner.old }
+    ensures { (base : State) × IsSessionOf base planner.new }
+{
+    let text = answer(alloc, planner, session, trim_return(line), bytes, steps)?;
+    write_marked(alloc, text.as_str(), out)
+}
+
+// Puts more bytes behind those of a line that hasn't ended.
+fn put_bytes(line: &mut Vec<u8>, more: &[u8]) -> Result<(), SessionEnd> {
+    if line.len() > BYTES || more.len() > BYTES - line.len() {
+        return Err(SessionEnd::TooManyBytes);
+    }
+    match line.extend_from_slice(more) {
+        Ok(()) => Ok(()),
+        Err(_) => Err(SessionEnd::NoMemory),
+    }
+}
+
+// The place of the first newline.
+fn newline_in(bytes: &[u8]) -> Option<usize>
+    ensures { IfSome result (λ place. place < length bytes.now) }
+{
+    bytes.iter().position(|byte| *byte == b'\n')
+}
+
+// Takes the rest of a line that ends with a newline.
+fn take_ended<W: Wishes, K: Sink, L>(
+    alloc: Global,
+    planner: &mut Planner,
+    session: &mut Session<W>,
+    line: &mut Vec<u8>,
+    rest: &[u8],
+    out: &mut K,
+    steps: &mut Steps<L>,
+) -> Result<(), SessionEnd>
+    requires { (base : State) × IsSessionOf base planner.old }
+    ensures { (base : State) × IsSessionOf base planner.new }
+{
+    put_bytes(line, rest)?;
+    let bytes = line.len().saturating_add(1);
+    take_line(alloc, planner, session, line.as_slice(), bytes, out, steps)?;
+    line.clear();
+    Ok(())
+}
+
+// Takes a piece of the input: the lines that end in it, and the front of the next.
+fn take_piece<W: Wishes, K: Sink, L>(
+    alloc: Global,
+    planner: &mut Planner,
+    session: &mut Session<W>,
+    line: &mut Vec<u8>,
+    piece: &[u8],
+    out: &mut K,
+    steps: &mut Steps<L>,
+) -> Result<(), SessionEnd>
+    requires { (base : State) × IsSessionOf base planner.old }
+    ensures { (base : State) × IsSessionOf base planner.new }
+{
+    let mut rest = piece;
+    // Each line that ends takes a byte at least.
+    for turn in 0..piece.len() {
+        let _turn = turn;
+        let Some(place) = newline_in(rest) else {
+            break;
+        };
+        let (front, behind) = rest.split_at(place);
+        take_ended(alloc, planner, session, line, front, out, steps)?;
+        rest = &behind[1..];
+    }
+    put_bytes(line, rest)
+}
+
+// Takes a last line that no newline ends.
+fn take_last<W: Wishes, K: Sink, L>(
+    alloc: Global,
+    planner: &mut Planner,
+    session: &mut Session<W>,
+    line: &[u8],
+    out: &mut K,
+    steps: &mut Steps<L>,
+) -> Result<(), SessionEnd>
+    requires { (base : State) × IsSessionOf base planner.old }
+{
+    if line.is_empty() {
+        return Ok(());
+    }
+    take_line(alloc, planner, session, line, line.len(), out, steps)
+}
+
+// How it ends when the input has ended.
+fn ended<W: Wishes>(session: &Session<W>, last: Result<(), SessionEnd>) -> SessionEnd {
+    match last {
+        Ok(()) => session.end(),
+        Err(end) => end,
+    }
+}
+
+// Reads a piece of the input.
+fn read_piece<I: Read>(input: &mut I, buffer: &mut [u8]) -> Result<usize, SessionEnd>
+    ensures { ReadsAtMost result buffer.new }
+{
+    match input.read(buffer) {
+        Ok(count) => Ok(count),
+        Err(_) => Err(SessionEnd::ReadFault),
+    }
+}
+
+// Reads the input piece by piece, and answers its lines.
+fn serve_by<W: Wishes, I: Read, K: Sink, L>(
+    alloc: Global,
+    planner: &mut Planner,
+    session: &mut Session<W>,
+    input: &mut I,
+    buffer: &mut [u8],
+    line: &mut Vec<u8>,
+    out: &mut K,
+    steps: &mut Steps<L>,
+) -> Result<(), SessionEnd>
+    requires { (base : State) × IsSessionOf base planner.old }
+    ensures { (base : State) × IsSessionOf base planner.new }
+{
+    for turn in 0..u64::MAX {
+        let _turn = turn;
+        let count = read_piece(input, buffer)?;
+        if count == 0 {
+            return Ok(());
+        }
+        take_piece(alloc, planner, session, line, &buffer[..count], out, steps)?;
+    }
+    Ok(())
+}
+
+fn room(alloc: Global) -> Result<Vec<u8>, AllocError> {
+    vec![in alloc; 0u8; PIECE]
+}
+
+/// Answers the lines of an input one after another, and writes each answer before the next line is answered.
+pub fn serve<W: Wishes, I: Read, K: Sink, L>(
+    alloc: Global,
+    planner: &mut Planner,
+    session: &mut Session<W>,
+    input: &mut I,
+    out: &mut K,
+    steps: &mut Steps<L>,
+) -> SessionEnd
+    requires { (base : State) × IsSessionOf base planner.old }
+{
+    let Ok(mut buffer) = room(alloc) else {
+        return SessionEnd::NoMemory;
+    };
+    let mut line = Vec::new(alloc);
+    match serve_by(
+        alloc,
+        planner,
+        session,
+        input,
+        buffer.as_mut_slice(),
+        &mut line,
+        out,
+        steps,
+    ) {
+        Ok(()) => {
+            let last = take_last(alloc, planner, session, line.as_slice(), out, steps);
+            ended(session, last)
+        }
+        Err(end) => end,
+    }
+}

@@ -1,0 +1,191 @@
+//! The lines that meet a wish, carried out before they are told.
+ghost use Rattle.std.specs.Prelude.{◌≡◌, ◌≤◌, ◌+◌, true, false, IfOk, None, OnOk, length, string_bytes};
+ghost use Rattle.state_changes.specs.States.{State};
+ghost use Rattle.planner_core.specs.Lines.{IsSessionOf};
+ghost use Rattle.script_lines.specs.Lines.{lines_of};
+ghost use Rattle.kept_worlds.specs.Worlds.{is_reached};
+ghost use Rattle.carried_lines.specs.Leading.{Continues};
+ghost use Rattle.carried_lines.specs.Marks.{MarksOnly};
+ghost use Rattle.wish_answers.specs.Meeting.{HasMet, MeetsWish};
+
+use crate::failures::Failure;
+use crate::finding::{Found, found_lines};
+use crate::standing::check_standing;
+use carried_lines::{Progress, reached_nodes, step_lines};
+use fractions::Ratio;
+use plan_base::Steps;
+use planner_core::Planner;
+use script_lines::line_count;
+use script_runner::LINE_LIMIT;
+use std::alloc::Global;
+use wish_setups::{Met, Wish};
+use wish_words::Asked;
+
+/// The lines that meet a wish, and how far the planner has come behind them.
+#[derive(Drop)]
+pub struct Answer {
+    pub lines: String,
+    pub done: Progress,
+}
+
+/// Whether a script would have too many lines with these behind those that were before.
+pub fn has_too_many(before: Progress, lines: &[u8]) -> bool
+    ensures { result ≡ false → before.count + length (lines_of lines.now) ≤ 100_000 }
+{
+    let room = LINE_LIMIT.saturating_sub(before.count as usize);
+    before.count as usize > LINE_LIMIT || line_count(lines) > room
+}
+
+/// Marks for each node whether a planner reaches it. No other is marked.
+///
+/// # Errors
+///
+/// `Refused` where a batch is open, which is said, or `NoMemory`.
+pub fn reached_in<L>(
+    alloc: Global,
+    planner: &mut Planner,
+    said: &mut String,
+    steps: &mut Steps<L>,
+) -> Result<Vec<bool>, Failure>
+    requires { (base : State) × IsSessionOf base planner.old }
+    ensures same { planner.new ≡ planner.old }
+    ensures only { IfOk result (λ marks. MarksOnly (is_reached planner.old.state.book) marks.items) }
+{
+    match reached_nodes(alloc, planner, steps)? {
+        Some(marks) => Ok(marks),
+        None => {
+            said.push_str("a batch is open behind the script")?;
+            Err(Failure::Refused)
+        }
+    }
+}
+
+// The lines for a wish, as they are found in the state of a planner.
+fn found_in(
+    alloc: Global,
+    planner: &Planner,
+    reached: &[bool],
+    asked: &Asked<'_>,
+    belt: Option<Ratio>,
+    command: &str,
+    said: &mut String,
+) -> Result<Found, Failure>
+    ensures { IfOk result (λ found. found.wish.power ≡ asked.now.power) }
+{
+    found_lines(
+        alloc,
+        planner.game(),
+        reached,
+        planner.tables(),
+        asked,
+        belt,
+        command,
+        said,
+    )
+}
+
+// Whether the new table that was asked for meets the wish, where more rows were not.
+fn check_found(
+    alloc: Global,
+    planner: &Planner,
+    reached: &[bool],
+    asked: &Asked<'_>,
+    wish: &Wish,
+    met: &mut Met,
+    said: &mut String,
+) -> Result<(), Failure>
+    ensures { OnOk result (asked.now.more ≡ None → HasMet planner.now reached.now asked.now.table.now wish.now) }
+{
+    if asked.more.is_some() {
+        return Ok(());
+    }
+    let checked = check_standing(alloc, planner, reached, asked.table, wish, met);
+    if let Err(Failure::Unmet) = checked {
+        said.push_str("the table that the lines make doesn't meet the wish")?;
+    }
+    checked
+}
+
+// Carries the lines out behind those that were before.
+fn carry_out<L>(
+    alloc: Global,
+    planner: &mut Planner,
+    lines: &str,
+    before: Progress,
+    said: &mut String,
+    steps: &mut Steps<L>,
+) -> Result<Progress, Failure>
+    requires session { (base : State) × IsSessionOf base planner.old }
+    ensures continues { IfOk result (λ done. Continues planner.old lines.now before planner.new done) }
+    ensures planned { IfOk result (λ done. done.planned ≡ true) }
+    ensures few { IfOk result (λ done. done.count ≤ 100_000) }
+    ensures counted { IfOk result (λ done. done.count ≡ before.count + length (lines_of lines.now)) }
+    ensures history { (base : State) → IsSessionOf base planner.old → IsSessionOf base planner.new }
+{
+    let lines = lines.as_bytes();
+    if has_too_many(before, lines) {
+        return Err(Failure::TooLong);
+    }
+    let Some(done) = step_lines(alloc, planner, lines, before, "output", said, steps)? else {
+        return Err(Failure::Refused);
+    };
+    if done.planned {
+        Ok(done)
+    } else {
+        said.push_str("the table has no plan behind its lines")?;
+        Err(Failure::Unmet)
+    }
+}
+
+/// The lines for the wish that the words ask for, which are carried out behind those that were before: none is refused, and the last is
+/// answered by a plan. A good without a rate is wished for at the rate of a belt. The words of a command stand in the comments before those
+/// that ask for more rows.
+///
+/// # Errors
+///
+/// Why there are none. What is to be said of it is written to `said`. Some lines may have been carried out then.
+pub fn answered_lines<L>(
+    alloc: Global,
+    planner: &mut Planner,
+    before: Progress,
+    asked: &Asked<'_>,
+    belt: Option<Ratio>,
+    command: &str,
+    said: &mut String,
+    steps: &mut Steps<L>,
+) -> Result<Answer, Failure>
+    requires session { (base : State) × IsSessionOf base planner.old }
+    ensures continues { IfOk result (λ answer. Continues planner.old (string_bytes answer.lines) before planner.new answer.done) }
+    ensures planned { IfOk result (λ answer. answer.done.planned ≡ true) }
+    ensures few { IfOk result (λ answer. answer.done.count ≤ 100_000) }
+    ensures counted { IfOk result (λ answer. answer.done.count ≡ before.count + length (lines_of (string_bytes answer.lines))) }
+    ensures met { IfOk result (λ answer. asked.now.more ≡ None → MeetsWish planner.old planner.new asked.now.table.now asked.now.power) }
+    ensures history { (base : State) → IsSessionOf base planner.old → IsSessionOf base planner.new }
+{
+    let reached = reached_in(alloc, planner, said, steps)?;
+    let found = found_in(
+        alloc,
+        planner,
+        reached.as_slice(),
+        asked,
+        belt,
+        command,
+        said,
+    )?;
+    let Found {
+        text,
+        wish,
+        mut met,
+    } = found;
+    let done = carry_out(alloc, planner, text.as_str(), before, said, steps)?;
+    check_found(
+        alloc,
+        planner,
+        reached.as_slice(),
+        asked,
+        &wish,
+        &mut met,
+        said,
+    )?;
+    Ok(Answer { lines: text, done })
+}

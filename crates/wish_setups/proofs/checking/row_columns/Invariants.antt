@@ -1,6 +1,0 @@
-use Rattle.std.proofs.Common.{◌≡◌, ◌++◌, drop, map}
-use Rattle.wish_setups.specs.Answers.{row_column}
-use Rattle.wish_setups.proofs.checking.row_columns.Given as goal
-
-abbrev pub invariant-loop-row : goal.invariant-loop-row
-invariant-loop-row l = l.columns.items ++ map (row_column l.game l.power) (drop l.row-index l.rows) ≡ map (row_column l.game l.power) l.rows

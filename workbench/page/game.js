@@ -1,0 +1,96 @@
+// The game as its catalog has it (docs/CATALOG.md), with what follows from it in one pass: what makes and uses a thing, what fits where.
+import { Frac } from './exact.js';
+
+export const KINDS = ['item', 'fluid', 'recipe', 'tech', 'machine', 'source', 'special'];
+export const PLURAL = { item: 'Items', fluid: 'Fluids', recipe: 'Recipes', tech: 'Technologies', machine: 'Machines', source: 'Mined',
+  special: 'Other' };
+export const EFFECTS = ['speed', 'productivity', 'consumption', 'pollution'];
+
+export const game = {
+  at: new Map(), ids: [], belts: [], packs: [], beacons: [], isGame: true,
+  get: id => game.at.get(id) || {},
+  /** Puts the ranks of `list` into all things, and the things in the order in which they come within reach. */
+  rank(ranks) {
+    for (const it of game.at.values()) it.rank = ranks.get(it.id) || null;
+    game.ids = [...game.at.values()].filter(it => it.id !== 'special:character').sort((a, b) => (a.rank || 1e9) - (b.rank || 1e9)
+      || byOrder(a, b)).map(it => it.id);
+    game.packs = [...new Set([...game.at.values()].filter(m => m.kind === 'lab').flatMap(m => m.inputs || []))].sort((a, b) =>
+      (rankOf(a) || 1e9) - (rankOf(b) || 1e9));
+    game.belts = [...game.at.values()].filter(it => Frac.of(it.belt || '')?.n).sort((a, b) => Frac.of(a.belt).number - Frac.of(b.belt).number);
+    game.stamp++;
+  },
+  stamp: 0,
+};
+export const get = game.get;
+const byOrder = (a, b) => {
+  const x = a.order || [], y = b.order || [];
+  for (let i = 0; i < 5; i++) if ((x[i] || '') !== (y[i] || '')) return (x[i] || '') < (y[i] || '') ? -1 : 1;
+  return 0;
+};
+
+/** Reads a catalog: for each thing what makes it, what uses it, what a machine does and what a technology leads to. */
+export function derive(catalog) {
+  game.at = new Map(KINDS.flatMap(k => catalog[k] || []).map(it => [it.id, it]));
+  for (const it of game.at.values()) Object.assign(it, { made: [], used: [], does: [], after: [] });
+  for (const it of game.at.values()) {
+    const kind = kindOf(it.id);
+    if (kind === 'recipe' || kind === 'source') for (const p of it.out || []) get(p.good).made?.push(it.id);
+    if (kind === 'recipe' || kind === 'tech' || kind === 'source') {
+      for (const p of it.in || []) for (const g of new Set([p.good, ...(p.fits || [])])) get(g).used?.push(it.id);
+    }
+    for (const m of it.by || []) get(m).does?.push(it.id);
+    for (const t of it.needs || []) get(t).after?.push(it.id);
+  }
+  game.isGame = [...game.at.values()].some(it => kindOf(it.id) !== 'special');
+  game.beacons = [...game.at.values()].filter(m => m.kind === 'beacon' && m.slots);
+}
+
+export const kindOf = id => id.slice(0, Math.max(0, id.indexOf(':')));
+export const rawOf = id => id.slice(id.indexOf(':') + 1);
+export const rankOf = id => get(id).rank || null;
+export const isReached = id => Boolean(rankOf(id));
+/** Whether it is a good that a table may have: a fluid of several temperatures is one only by its variants. */
+export const isGood = id => kindOf(id) === 'item' || (kindOf(id) === 'fluid' && !(get(id).variants || []).length);
+export const reached = ids => (ids || []).filter(isReached);
+const speedOf = id => Frac.of(get(id).speed || '1')?.number ?? 0;
+
+// ---- What fits a row ----
+
+const isLimited = (module, does) => {
+  const { only, not } = get(module).module || {};
+  return kindOf(does) === 'recipe' && Boolean((only && !only.includes(does)) || not?.includes(does));
+};
+/** The modules that a machine takes for what it does. */
+export const modulesFor = (by, does) => (get(by).modules || []).filter(m => !isLimited(m, does));
+/** The beacons that may stand round it, each with the modules that may be in it. */
+export function beaconsFor(by, does) {
+  const fits = modulesFor(by, does);
+  return game.beacons.map(m => ({ id: m.id, slots: m.slots, modules: (m.modules || []).filter(x => fits.includes(x)) })).filter(b => b.modules.length);
+}
+
+/** A row for an activity, by the fastest machine that is reached, with a label that no row has. */
+export function newRow(table, does) {
+  const able = reached(get(does).by).length ? reached(get(does).by) : get(does).by || [];
+  const [by] = [...able].sort((a, b) => (get(a).energy === 'burner') - (get(b).energy === 'burner') || speedOf(b) - speedOf(a));
+  if (!by) return null;
+  const base = rawOf(does);
+  let label = base;
+  for (let k = 2; table.rows.some(r => r.label === label); k++) label = `${base}-${k}`;
+  return fuelled(table, { label, does, by, fuel: null, modules: [], beacons: [], at: [] });
+}
+/** The row with a fuel that its machine takes: its own, one that the table burns already, or the first that is reached. */
+function fuelled(table, row) {
+  const fuels = get(row.by).energy === 'burner' ? get(row.by).fuels || [] : [];
+  if (fuels.includes(row.fuel)) return row;
+  return { ...row, fuel: table.rows.map(r => r.fuel).find(f => f && fuels.includes(f)) || reached(fuels)[0] || fuels[0] || null };
+}
+/** The row by another machine: modules, beacons and fuel stay where they fit. */
+export function byOther(table, row, by) {
+  const fits = modulesFor(by, row.does);
+  let room = get(by).slots || 0;
+  const modules = row.modules.filter(([m]) => fits.includes(m)).map(([m, n]) => { const k = Math.min(n, room); room -= k; return [m, k];
+    }).filter(([, n]) => n);
+  return fuelled(table, { ...row, by, modules, beacons: row.beacons.filter(b => b.modules.every(([m]) => fits.includes(m))) });
+}
+/** Where a row's fluid may have one of several temperatures. */
+export const choicesOf = row => (get(row.does).in || []).filter(p => p.fits?.length > 1);

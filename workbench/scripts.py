@@ -1,0 +1,139 @@
+"""The scripts of a folder. Each is saved whole or not at all, and only over the text that whoever saves it has seen."""
+import contextlib
+import hashlib
+import os
+import re
+import tempfile
+import threading
+
+from faults import Refused
+
+try:
+    import fcntl
+except ImportError:             # Windows: then two workbenches on one folder aren't kept apart
+    fcntl = None
+
+MOST_SCRIPT = 16 << 20
+MOST_FILES = 200
+# A name is no path: no slash, no leading dot, and the ending of a text.
+NAME = re.compile(r"(?![. ])[^/\\\0-\x1f\x7f]{1,100}\.txt\Z")
+PREFIX = ".workbench-"
+
+
+def version_of(data):
+    """The version of a script: the sum of its bytes, so that an editor beside the workbench counts as another tab."""
+    return hashlib.sha256(data).hexdigest()[:20]
+
+
+class Scripts:
+    """The scripts of a folder, by name."""
+
+    def __init__(self, folder, first):
+        self.folder, self.first = os.path.realpath(folder), first
+        self.lock = threading.Lock()
+
+    def path(self, name):
+        """The path of a name. A name that is none, and what is no plain file of the folder, is refused."""
+        if name != self.first and not NAME.match(name):
+            raise Refused(400, "a script's name ends with .txt and has no slash")
+        path = os.path.join(self.folder, name)
+        if os.path.islink(path) or (os.path.exists(path) and not os.path.isfile(path)):
+            raise Refused(404, "there is no such script")
+        return path
+
+    def names(self):
+        """The names of the scripts that are there, and of the one that the workbench was started with."""
+        with os.scandir(self.folder) as found:
+            there = [it.name for it in found if NAME.match(it.name) and it.is_file(follow_symlinks=False)]
+        return sorted({*there[:MOST_FILES], self.first})
+
+    def read(self, name):
+        """The bytes of a script: none where there is no file yet."""
+        try:
+            with open(self.path(name), "rb") as file:
+                data = file.read(MOST_SCRIPT + 1)
+        except FileNotFoundError:
+            return b""
+        if len(data) > MOST_SCRIPT:
+            raise Refused(413, "the script has more than %d bytes" % MOST_SCRIPT)
+        return data
+
+    def save(self, name, data, version):
+        """Saves a script over that of the version: the new version, or None where the file is another by now, which is left as it is."""
+        if len(data) > MOST_SCRIPT:
+            raise Refused(413, "the script has more than %d bytes" % MOST_SCRIPT)
+        path = self.path(name)
+        with self.lock, alone_in(self.folder):
+            old = self.read(name)
+            if version_of(old) != version:
+                return None
+            if old != data and not put_in_place(path, data, version):
+                return None
+            return version_of(data)
+
+    def create(self, name, data):
+        """A new script. A name that is there already is refused."""
+        path = self.path(name)
+        with self.lock, alone_in(self.folder):
+            if os.path.lexists(path):
+                raise Refused(409, "there is a script of this name")
+            put_in_place(path, data, version_of(b""))
+        return version_of(data)
+
+
+@contextlib.contextmanager
+def alone_in(folder):
+    """Keeps other workbenches of the folder out while a script is saved."""
+    holder = os.open(folder, os.O_RDONLY)
+    try:
+        if fcntl:
+            fcntl.flock(holder, fcntl.LOCK_EX)
+        yield
+    finally:
+        os.close(holder)
+
+
+def put_in_place(path, data, version):
+    """Writes beside, syncs, and puts it in the place of the file. What stood there is held by a second name until it is known to be that
+    of the version: where an editor wrote meanwhile its text comes back, and False is answered."""
+    folder = os.path.dirname(path)
+    made, new = tempfile.mkstemp(prefix=PREFIX, dir=folder)
+    held = new + "~"
+    try:
+        with os.fdopen(made, "wb") as file:
+            file.write(data)
+            file.flush()
+            os.fsync(file.fileno())
+        os.chmod(new, mode_of(path))
+        with contextlib.suppress(OSError):      # (where no file is yet, and on disks that know no second names)
+            os.link(path, held)
+        os.replace(new, path)
+        if os.path.exists(held):
+            with open(held, "rb") as file:
+                theirs = file.read()
+            if version_of(theirs) != version:
+                os.replace(held, path)
+                return False
+        sync(folder)
+        return True
+    finally:
+        for path in (new, held):
+            with contextlib.suppress(FileNotFoundError):
+                os.unlink(path)
+
+
+def mode_of(path):
+    """The permissions of the file that is there, or those of a new one."""
+    try:
+        return os.stat(path).st_mode & 0o777
+    except FileNotFoundError:
+        return 0o644
+
+
+def sync(folder):
+    """The folder's own entries, too, survive a cut of power."""
+    holder = os.open(folder, os.O_RDONLY)
+    try:
+        os.fsync(holder)
+    finally:
+        os.close(holder)

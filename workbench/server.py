@@ -1,0 +1,167 @@
+"""The door: what comes over the network, and who is let in.
+
+It listens on 127.0.0.1 alone. A page of another site, a name of others that leads here, and whoever doesn't hold the token get nothing.
+"""
+import hmac
+import http.server
+import json
+import os
+import re
+import socket
+import threading
+import urllib.parse
+
+from bench import CALLS
+from faults import Refused
+
+HERE = os.path.dirname(os.path.abspath(__file__))
+ADDRESS = "127.0.0.1"
+MOST_ASKED = 48 << 20           # a script of 16 MB whose letters JSON writes with escapes
+MOST_OPEN = 64                  # connections at once
+PATIENCE = 30                   # seconds for a request to come
+KINDS = {".html": "text/html", ".css": "text/css", ".js": "text/javascript"}
+HEADERS = {
+    "Content-Security-Policy": "default-src 'none'; script-src 'self'; style-src 'self'; img-src 'self' data:; connect-src 'self'; "
+                               "base-uri 'none'; form-action 'none'; frame-ancestors 'none'",
+    "X-Content-Type-Options": "nosniff",
+    "Referrer-Policy": "no-referrer",
+    "Cache-Control": "no-store",
+    "Cross-Origin-Resource-Policy": "same-origin",
+    "Cross-Origin-Opener-Policy": "same-origin",
+}
+
+
+def page_files():
+    """The files of the page by their paths: these and no others are given out."""
+    folder = os.path.join(HERE, "page")
+    files = {"/" + name: os.path.join(folder, name) for name in os.listdir(folder) if os.path.splitext(name)[1] in KINDS}
+    return {"/": files["/index.html"], **files}
+
+
+class Handler(http.server.BaseHTTPRequestHandler):
+    """One connection."""
+    server_version, sys_version, protocol_version, timeout = "workbench", "", "HTTP/1.1", PATIENCE
+
+    def log_message(self, *_):
+        """Nothing is logged: what is asked is the user's."""
+
+    def answer(self, status, data, kind, **more):
+        self.send_response(status)
+        for key, value in {**HEADERS, **more, "Content-Type": kind, "Content-Length": str(len(data))}.items():
+            self.send_header(key.replace("_", "-"), value)
+        if status >= 400:
+            self.send_header("Connection", "close")
+            self.close_connection = True
+        self.end_headers()
+        if self.command != "HEAD":
+            self.wfile.write(data)
+
+    # ---- Who is let in ----
+
+    def names_us(self):
+        """Whether the request is for this address by its own name: a name of others that was made to lead here is none."""
+        return self.headers.get_all("Host", []) in [[name] for name in self.server.names]
+
+    def is_of_our_page(self):
+        """Whether no other page sent it."""
+        origin = self.headers.get("Origin")
+        return ((origin is None or origin in ["http://" + name for name in self.server.names])
+                and self.headers.get("Sec-Fetch-Site", "none") in ("none", "same-origin"))
+
+    def has_token(self, given):
+        return hmac.compare_digest((given or "").encode("utf-8", "replace"), self.server.token.encode())
+
+    # ---- Files and pictures ----
+
+    def do_GET(self):
+        path, parts = self.path.split("?")[0], self.path.split("/")
+        if not self.names_us() or not self.is_of_our_page():
+            return self.answer(403, b"not from here", "text/plain")
+        if path in self.server.files:
+            with open(self.server.files[path], "rb") as file:
+                kind = KINDS[os.path.splitext(self.server.files[path])[1]]
+                return self.answer(200, file.read(), kind + "; charset=utf-8")
+        if len(parts) == 5 and parts[1] == "picture" and self.has_token(parts[2]):
+            data = self.server.bench.pictures.picture(parts[3], urllib.parse.unquote(parts[4]))
+            if data is not None:
+                return self.answer(200, data, "image/png", Cache_Control="private, max-age=3600")
+        return self.answer(404, b"nothing here", "text/plain")
+
+    do_HEAD = do_GET
+
+    # ---- Calls ----
+
+    def do_POST(self):
+        try:
+            status, reply = 200, self.called()
+        except Refused as fault:
+            status, reply = fault.status, {"error": fault.why}
+        except (OSError, ValueError) as fault:
+            status, reply = 500, {"error": str(fault)}
+        self.answer(status, json.dumps(reply).encode(), "application/json")
+
+    def called(self):
+        """The answer to a call. What is refused isn't read."""
+        if not self.names_us() or not self.is_of_our_page() or self.headers.get("Origin") is None:
+            raise Refused(403, "not from here")
+        if not self.has_token(self.headers.get("X-Workbench-Token")):
+            raise Refused(403, "without the token")
+        if self.headers.get("Content-Type") != "application/json" or self.headers.get("Transfer-Encoding"):
+            raise Refused(415, "no JSON")
+        length = self.headers.get("Content-Length") or ""
+        if not re.match(r"[0-9]{1,12}\Z", length):
+            raise Refused(411, "no length")
+        if int(length) > MOST_ASKED:
+            raise Refused(413, "too long")
+        call = re.match(r"/api/([a-z]+)\Z", self.path)
+        if not call or call.group(1) not in CALLS:
+            raise Refused(404, "nothing here")
+        try:
+            asked = json.loads(self.rfile.read(int(length)))
+        except (ValueError, RecursionError):
+            raise Refused(400, "no JSON")
+        if not isinstance(asked, dict):
+            raise Refused(400, "no JSON object")
+        return getattr(self.server.bench, "do_" + call.group(1))(asked)
+
+
+class Server(http.server.ThreadingHTTPServer):
+    """The listener, with the token that each call must hold."""
+    daemon_threads = True
+    request_queue_size = 32
+
+    def __init__(self, port, bench, token):
+        super().__init__((ADDRESS, port), Handler)
+        self.bench, self.token, self.files = bench, token, page_files()
+        self.names = ["%s:%d" % (name, self.server_port) for name in (ADDRESS, "localhost")]
+        self.room = threading.BoundedSemaphore(MOST_OPEN)
+
+    def process_request(self, request, client_address):
+        """Who comes while too many are in is turned away."""
+        if not self.room.acquire(blocking=False):
+            return self.shutdown_request(request)
+        super().process_request(request, client_address)
+
+    def process_request_thread(self, request, client_address):
+        try:
+            super().process_request_thread(request, client_address)
+        finally:
+            self.room.release()
+
+    def shutdown_request(self, request):
+        """What was sent with a refused request is read, where little of it came, so that the answer isn't lost with the connection."""
+        try:
+            request.shutdown(socket.SHUT_WR)
+            request.settimeout(0.2)
+            left = 1 << 22
+            while left > 0:
+                data = request.recv(1 << 16)
+                if not data:
+                    break
+                left -= len(data)
+        except OSError:
+            pass
+        self.close_request(request)
+
+    def handle_error(self, *_):
+        """A browser that went away is no fault."""
