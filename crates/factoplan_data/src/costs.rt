@@ -1,0 +1,83 @@
+//! What a unit of each reached good takes behind the last line of a script, as an estimate.
+ghost use Rattle.state_changes.specs.States.{State};
+ghost use Rattle.planner_core.specs.Lines.{IsSessionOf};
+ghost use Rattle.game_types.specs.Sound.{IsSound};
+
+use crate::fault::{PlanFault, end_by_fault};
+use crate::lines::{carry_out, close_batch};
+use carried_lines::reached_nodes;
+use game_types::Game;
+use good_costs::{costs_of, csv_text, json_text};
+use plan_base::{NoMemory, Steps};
+use planner_cli::Ready;
+use planner_core::Planner;
+use program_runs::{End, Names, written};
+use std::alloc::Global;
+use std::rt::Files;
+
+/// How costs are written.
+#[derive(Clone, Copy, Debug, PartialEq, Eq)]
+pub enum Form {
+    Csv,
+    Json,
+}
+
+fn text_for(alloc: Global, game: &Game, reached: &[bool], form: Form) -> Result<Vec<u8>, NoMemory>
+    requires { IsSound game.now }
+{
+    let costs = costs_of(alloc, game, reached)?;
+    match form {
+        Form::Csv => csv_text(alloc, game, costs.as_slice()),
+        Form::Json => json_text(alloc, game, costs.as_slice()),
+    }
+}
+
+// The costs in the state of a planner in which no batch is open.
+fn text_in<L>(
+    alloc: Global,
+    planner: &mut Planner,
+    form: Form,
+    steps: &mut Steps<L>,
+) -> Result<Vec<u8>, NoMemory> {
+    match reached_nodes(alloc, planner, steps)? {
+        Some(reached) => text_for(alloc, planner.game(), reached.as_slice(), form),
+        None => Ok(Vec::new(alloc)),
+    }
+}
+
+// The costs behind a script, and whether some line of it is refused.
+fn text_behind<L>(
+    alloc: Global,
+    planner: &mut Planner,
+    script: &[u8],
+    form: Form,
+    steps: &mut Steps<L>,
+) -> Result<(Vec<u8>, bool), PlanFault>
+    requires { (base : State) × IsSessionOf base planner.old }
+{
+    let refused = carry_out(alloc, planner, script, steps)?;
+    close_batch(planner, steps)?;
+    let text = text_in(alloc, planner, form, steps)?;
+    Ok((text, refused))
+}
+
+/// Writes the costs behind a script, and answers how the run ends.
+pub fn costs_end<R: Files + Print, L>(
+    rt: &R,
+    alloc: Global,
+    ready: Ready,
+    names: Names<'_>,
+    form: Form,
+    steps: &mut Steps<L>,
+) -> End
+    requires { (base : State) × IsSessionOf base ready.planner }
+{
+    let Ready {
+        mut planner,
+        script,
+    } = ready;
+    match text_behind(alloc, &mut planner, script.as_slice(), form, steps) {
+        Ok((text, refused)) => written(rt, alloc, text.as_slice(), u8::from(refused), names),
+        Err(fault) => end_by_fault(rt, alloc, fault, names),
+    }
+}

@@ -1,0 +1,123 @@
+//! The replies to the lines of a script, as JSON Lines.
+ghost use Rattle.std.specs.Prelude.{◌≡◌, IfOk, string_bytes};
+ghost use Rattle.state_changes.specs.States.{State};
+ghost use Rattle.planner_core.specs.Lines.{IsSessionOf};
+ghost use Rattle.factoplan_data.specs.Told.{IsToldAs, TellsLine};
+
+use plan_base::{NoMemory, Steps};
+use plan_report::Reply;
+use planner_cli::{Long, Ready, Status};
+use planner_core::Planner;
+use program_runs::{End, LINES, Names, end_by};
+use report_json::line_text;
+use script_runner::{
+    has_many_lines, is_refusal, reading_of, reply_to, split_line, trim_return,
+};
+use std::alloc::Global;
+use std::io;
+use std::io::Write;
+use std::rt::Files;
+use std::str::from_utf8;
+
+// The text of the reply to a line. There is none where nothing is replied.
+fn reply_text(
+    alloc: Global,
+    planner: &Planner,
+    number: u32,
+    line: &[u8],
+    reply: &Reply,
+) -> Result<String, NoMemory>
+    ensures { IfOk result (λ text. IsToldAs planner.now number reply.now (string_bytes text)) }
+{
+    match reply {
+        Reply::Nothing => Ok(String::new(alloc)),
+        _ => line_text(alloc, planner.game(), number, from_utf8(line).ok(), reply),
+    }
+}
+
+// Answers a line: the text of its reply, and whether it is a refusal.
+fn answered<L>(
+    alloc: Global,
+    planner: &mut Planner,
+    number: u32,
+    line: &[u8],
+    steps: &mut Steps<L>,
+) -> Result<(String, bool), NoMemory>
+    ensures told { IfOk result (λ told. TellsLine number line.now planner.old planner.new (string_bytes told.0) told.1) }
+    ensures history { (base : State) → IsSessionOf base planner.old → IsSessionOf base planner.new }
+{
+    let reading = reading_of(alloc, line)?;
+    let reply = reply_to(planner, number, reading, steps)?;
+    let text = reply_text(alloc, planner, number, line, &reply)?;
+    Ok((text, is_refusal(&reply)))
+}
+
+// Writes a text to standard output.
+fn write_out<R: Print>(rt: &R, text: &str) -> Result<(), Status> {
+    let mut out = io::writer(rt);
+    match out.write_all(text.as_bytes()) {
+        Ok(()) => Ok(()),
+        Err(_) => Err(Status::WriteFault),
+    }
+}
+
+// Answers a line and writes its reply. Answers whether it is a refusal.
+fn write_line<R: Print, L>(
+    rt: &R,
+    alloc: Global,
+    planner: &mut Planner,
+    number: u32,
+    line: &[u8],
+    steps: &mut Steps<L>,
+) -> Result<bool, Status>
+    ensures { (base : State) → IsSessionOf base planner.old → IsSessionOf base planner.new }
+{
+    match answered(alloc, planner, number, line, steps) {
+        Ok((text, refused)) => {
+            write_out(rt, text.as_str())?;
+            Ok(refused)
+        }
+        Err(NoMemory) => Err(Status::NoMemory),
+    }
+}
+
+// Answers the lines of a script, and writes each reply before the next line is answered. Answers whether some line is refused.
+fn write_lines<R: Print, L>(
+    rt: &R,
+    alloc: Global,
+    planner: &mut Planner,
+    script: &[u8],
+    steps: &mut Steps<L>,
+) -> Result<bool, Status> {
+    if has_many_lines(script) {
+        return Err(Status::TooLong(Long::ScriptLines));
+    }
+    let mut rest = script;
+    let mut number: u32 = 0;
+    let mut refused = false;
+    while !rest.is_empty() && number < LINES {
+        number += 1;
+        let (line, more) = split_line(rest);
+        rest = more;
+        refused |= write_line(rt, alloc, planner, number, trim_return(line), steps)?;
+    }
+    Ok(refused)
+}
+
+/// Writes the replies to a script over its planner, and answers how the run ends.
+pub fn json_end<R: Files + Print, L>(
+    rt: &R,
+    alloc: Global,
+    ready: Ready,
+    names: Names<'_>,
+    steps: &mut Steps<L>,
+) -> End {
+    let Ready {
+        mut planner,
+        script,
+    } = ready;
+    match write_lines(rt, alloc, &mut planner, script.as_slice(), steps) {
+        Ok(refused) => End::quiet(u8::from(refused)),
+        Err(status) => end_by(rt, alloc, &status, names),
+    }
+}

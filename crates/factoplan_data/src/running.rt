@@ -1,0 +1,117 @@
+//! The runs of the program, from its words to its end.
+use crate::asked::{
+    asked_files, asked_form, asked_table, costs_command, csv_command, files_of_costs,
+    first_command, json_command, words_behind,
+};
+use crate::costs::{Form, costs_end};
+use crate::json::json_end;
+use crate::table::table_end;
+use clap::ArgMatches;
+use plan_base::{NoMemory, Steps, Text};
+use program_runs::{End, Names, end_by, end_by_words, loaded};
+use std::alloc::Global;
+use std::rt::Files;
+
+// Marks the counter of the program.
+#[derive(Drop)]
+struct Program;
+
+// The number of an end by wrong words.
+const WRONG_WORDS: u8 = 2;
+
+fn json_run<R: Files + Print>(rt: &R, alloc: Global, names: Names<'_>) -> End {
+    let mut steps = Steps::new(Program);
+    match loaded(rt, alloc, names, &mut steps) {
+        Ok(ready) => json_end(rt, alloc, ready, names, &mut steps),
+        Err(status) => end_by(rt, alloc, &status, names),
+    }
+}
+
+// The replies to a script.
+fn json<R: Files + Print + Eprint>(rt: &R, alloc: Global, words: &[Text]) -> Result<End, NoMemory> {
+    let words = words_behind(alloc, words)?;
+    let command = json_command(alloc)?;
+    match command.try_get_matches_from(words.as_slice()) {
+        Ok(matches) => Ok(json_run(rt, alloc, asked_files(&matches))),
+        Err(error) => Ok(end_by_words(rt, &error)),
+    }
+}
+
+fn csv_run<R: Files + Print>(rt: &R, alloc: Global, names: Names<'_>, table: &str) -> End {
+    let mut steps = Steps::new(Program);
+    match loaded(rt, alloc, names, &mut steps) {
+        Ok(ready) => table_end(rt, alloc, ready, names, table, &mut steps),
+        Err(status) => end_by(rt, alloc, &status, names),
+    }
+}
+
+fn csv_asked<R: Files + Print>(rt: &R, alloc: Global, matches: &ArgMatches<'_>) -> End {
+    csv_run(rt, alloc, asked_files(matches), asked_table(matches))
+}
+
+// The plan of a table.
+fn csv<R: Files + Print + Eprint>(rt: &R, alloc: Global, words: &[Text]) -> Result<End, NoMemory> {
+    let words = words_behind(alloc, words)?;
+    let command = csv_command(alloc)?;
+    match command.try_get_matches_from(words.as_slice()) {
+        Ok(matches) => Ok(csv_asked(rt, alloc, &matches)),
+        Err(error) => Ok(end_by_words(rt, &error)),
+    }
+}
+
+fn costs_run<R: Files + Print>(rt: &R, alloc: Global, names: Names<'_>, form: Form) -> End {
+    let mut steps = Steps::new(Program);
+    match loaded(rt, alloc, names, &mut steps) {
+        Ok(ready) => costs_end(rt, alloc, ready, names, form, &mut steps),
+        Err(status) => end_by(rt, alloc, &status, names),
+    }
+}
+
+fn costs_asked<R: Files + Print>(rt: &R, alloc: Global, matches: &ArgMatches<'_>) -> End {
+    costs_run(rt, alloc, files_of_costs(matches), asked_form(matches))
+}
+
+// What a unit of each good takes.
+fn costs<R: Files + Print + Eprint>(
+    rt: &R,
+    alloc: Global,
+    words: &[Text],
+) -> Result<End, NoMemory> {
+    let words = words_behind(alloc, words)?;
+    let command = costs_command(alloc)?;
+    match command.try_get_matches_from(words.as_slice()) {
+        Ok(matches) => Ok(costs_asked(rt, alloc, &matches)),
+        Err(error) => Ok(end_by_words(rt, &error)),
+    }
+}
+
+// The run of words of which none says what is to be written.
+fn other<R: Print + Eprint>(rt: &R, alloc: Global, words: &[Text]) -> Result<End, NoMemory> {
+    let command = first_command(alloc)?;
+    match command.try_get_matches_from(words) {
+        Ok(_) => Ok(End::saying(
+            alloc,
+            "factoplan_data: the first word is json, csv or costs\n",
+            WRONG_WORDS,
+        )),
+        Err(error) => Ok(end_by_words(rt, &error)),
+    }
+}
+
+/// The run of the program, of which the first word is its name.
+///
+/// # Errors
+///
+/// `NoMemory` where memory could not be had for the words.
+pub fn run<R: Files + Print + Eprint>(
+    rt: &R,
+    alloc: Global,
+    words: &[Text],
+) -> Result<End, NoMemory> {
+    match words {
+        [_, first, rest @ ..] if first.as_str() == "json" => json(rt, alloc, rest),
+        [_, first, rest @ ..] if first.as_str() == "csv" => csv(rt, alloc, rest),
+        [_, first, rest @ ..] if first.as_str() == "costs" => costs(rt, alloc, rest),
+        _ => other(rt, alloc, words),
+    }
+}

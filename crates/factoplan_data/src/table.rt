@@ -1,0 +1,147 @@
+//! The plan of a table behind the last line of a script, as comma-separated values.
+ghost use Rattle.std.specs.Prelude.{◌<◌, IfSome, length};
+ghost use Rattle.state_changes.specs.States.{State};
+ghost use Rattle.planner_core.specs.Lines.{IsSessionOf};
+ghost use Rattle.game_types.specs.Sound.{IsSound};
+
+use crate::fault::{PlanFault, end_by_fault};
+use crate::lines::{carry_out, close_batch};
+use game_types::Game;
+use linear_table::SolveAnswer;
+use plan_base::{NoMemory, Steps, Text};
+use plan_records::{Solved, plan_text};
+use plan_report::{RefusalCode, Reply};
+use planner_cli::Ready;
+use planner_core::Planner;
+use production_table::Table;
+use program_runs::{End, Names, step, written};
+use script_reader::Command;
+use std::alloc::Global;
+use std::rt::Files;
+
+// The most exchanges of columns.
+const BUDGET: u32 = 20_000;
+
+// Solves a table.
+fn solved<L>(
+    alloc: Global,
+    planner: &mut Planner,
+    name: &str,
+    steps: &mut Steps<L>,
+) -> Result<Reply, NoMemory>
+    requires { (base : State) × IsSessionOf base planner.old }
+{
+    let number = 0;
+    let table = Text::copy(alloc, name)?;
+    let solve = Command::Solve {
+        table,
+        budget: BUDGET,
+    };
+    step(planner, number, solve, steps)
+}
+
+// Why an answer of the solver is no plan.
+fn fault_of_answer(answer: &SolveAnswer) -> PlanFault {
+    match answer {
+        SolveAnswer::Infeasible(_) => PlanFault::NoPlan,
+        _ => PlanFault::Unsolved,
+    }
+}
+
+// Why a refusal is no plan.
+fn fault_of_code(code: RefusalCode) -> PlanFault {
+    match code {
+        RefusalCode::P1 => PlanFault::NoTable,
+        _ => PlanFault::Unsolved,
+    }
+}
+
+// The place of the table of a name.
+fn place_of(tables: &[Table], name: &str) -> Option<usize>
+    ensures { IfSome result (λ place. place < length tables.now) }
+{
+    tables.iter().position(|table| table.name.as_str() == name)
+}
+
+// The text of a plan, where there is a table of its name.
+fn text_among(
+    alloc: Global,
+    game: &Game,
+    tables: &[Table],
+    name: &str,
+    solved: &Solved<'_>,
+) -> Result<Vec<u8>, PlanFault>
+    requires { IsSound game.now }
+{
+    match place_of(tables, name) {
+        Some(place) => Ok(plan_text(alloc, game, &tables[place], solved)?),
+        None => Err(PlanFault::NoTable),
+    }
+}
+
+// The text of a reply that is a plan.
+fn text_of(alloc: Global, planner: &Planner, reply: &Reply) -> Result<Vec<u8>, PlanFault> {
+    match reply {
+        Reply::Solved {
+            table,
+            labels: _,
+            goods,
+            columns,
+            rows,
+            total,
+            answer: SolveAnswer::Planned(plan),
+        } => text_among(
+            alloc,
+            planner.game(),
+            planner.tables(),
+            table.as_str(),
+            &Solved {
+                goods: goods.as_slice(),
+                columns: columns.as_slice(),
+                rows: rows.as_slice(),
+                total,
+                plan,
+            },
+        ),
+        Reply::Solved { answer, .. } => Err(fault_of_answer(answer)),
+        Reply::Refused { code, .. } => Err(fault_of_code(*code)),
+        _ => Err(PlanFault::Unsolved),
+    }
+}
+
+// The plan of a table behind the last line of a script, for which the table is solved anew.
+fn table_text<L>(
+    alloc: Global,
+    planner: &mut Planner,
+    script: &[u8],
+    name: &str,
+    steps: &mut Steps<L>,
+) -> Result<Vec<u8>, PlanFault>
+    requires { (base : State) × IsSessionOf base planner.old }
+{
+    let _refused = carry_out(alloc, planner, script, steps)?;
+    close_batch(planner, steps)?;
+    let reply = solved(alloc, planner, name, steps)?;
+    text_of(alloc, planner, &reply)
+}
+
+/// Writes the plan of a table behind a script, and answers how the run ends.
+pub fn table_end<R: Files + Print, L>(
+    rt: &R,
+    alloc: Global,
+    ready: Ready,
+    names: Names<'_>,
+    table: &str,
+    steps: &mut Steps<L>,
+) -> End
+    requires { (base : State) × IsSessionOf base ready.planner }
+{
+    let Ready {
+        mut planner,
+        script,
+    } = ready;
+    match table_text(alloc, &mut planner, script.as_slice(), table, steps) {
+        Ok(text) => written(rt, alloc, text.as_slice(), 0, names),
+        Err(fault) => end_by_fault(rt, alloc, fault, names),
+    }
+}

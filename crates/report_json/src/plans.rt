@@ -1,0 +1,576 @@
+//! What the solver says of a table.
+ghost use Rattle.std.specs.Prelude.{◌≡◌, [], IfOk, OnOk, slice_index_or, string_bytes};
+ghost use Rattle.std.specs.List.{zip};
+ghost use Rattle.game_types.specs.Sound.{IsSound};
+ghost use Rattle.plan_report.specs.Plans.{column_kind};
+ghost use Rattle.plan_report.specs.declared.reply.RefusalCode.TheVariants as codes_of;
+ghost use Rattle.serde_json.specs.Data.{no_members};
+ghost use Rattle.serde_json.specs.View.{items_view, members_view, view};
+ghost use Rattle.catalog_members.specs.Members.{items_tree};
+ghost use Rattle.report_json.specs.Replies.{column_id, exchange_value, price_value, row_value, stream_value, streams_tree, with_answer, with_column, with_exchange, with_infeasible, with_out_of_budget, with_place, with_plan, with_prices, with_row, with_rows, with_solved, with_stream, with_streams, with_too_wide, with_trail, with_uses};
+
+use crate::numbers::{put_figure, put_number};
+use crate::refusals::put_code;
+use crate::values::{good_id, push, put_good, put_kind, put_list, put_whole, value_of};
+use catalog_members::{Members, put_object, put_text};
+use fractions::Ratio;
+use game_types::Game;
+use linear_table::{Column, Exchange, Place, Plan, SolveAnswer};
+use plan_base::{GoodId, NoMemory, Text};
+use plan_report::{Figures, RefusalCode};
+use serde_json::{Map, Value};
+use std::alloc::Global;
+
+// ---- rows
+
+#[tactic(auto, unfolding(crate::specs::Replies::with_uses))]
+fn put_uses(members: &mut Members, alloc: Global, figures: &Figures) -> Result<(), NoMemory>
+    ensures { OnOk result (members_view members.new.entries ≡ with_uses figures.now (members_view members.old.entries)) }
+{
+    put_figure(members, alloc, "power", &figures.power)?;
+    put_figure(members, alloc, "drain", &figures.drain)?;
+    put_figure(members, alloc, "beacons", &figures.beacons)?;
+    put_figure(members, alloc, "pollution", &figures.pollution)
+}
+
+#[tactic(auto, unfolding(crate::specs::Replies::with_row))]
+fn put_row(
+    members: &mut Members,
+    alloc: Global,
+    label: &str,
+    rate: &Ratio,
+    figures: &Figures,
+) -> Result<(), NoMemory>
+    ensures { OnOk result (members_view members.new.entries ≡ with_row label.now rate.now figures.now (members_view members.old.entries)) }
+{
+    put_text(members, alloc, "row", label)?;
+    put_number(members, alloc, "rate", rate)?;
+    put_figure(members, alloc, "machines", &figures.machines)?;
+    put_figure(members, alloc, "count", &figures.count)?;
+    put_uses(members, alloc, figures)
+}
+
+fn row_value(
+    alloc: Global,
+    label: &str,
+    rate: &Ratio,
+    figures: &Figures,
+) -> Result<Value, NoMemory>
+    ensures { IfOk result (λ value. view value ≡ row_value (label.now, (rate.now, figures.now))) }
+{
+    let mut members = Map::new(alloc);
+    put_row(&mut members, alloc, label, rate, figures)?;
+    Ok(value_of(members))
+}
+
+fn row_values(
+    alloc: Global,
+    labels: &[Text],
+    rates: &[Ratio],
+    rows: &[Figures],
+) -> Result<Vec<Value>, NoMemory>
+    ensures { IfOk result (λ list. items_view list.items ≡ items_tree row_value (zip labels.now (zip rates.now rows.now))) }
+{
+    let mut list = Vec::new(alloc);
+    for (label, (rate, figures)) in labels.iter().zip(rates.iter().zip(rows)) {
+        push(
+            &mut list,
+            row_value(alloc, label.as_str(), rate, figures)?,
+        )?;
+    }
+    Ok(list)
+}
+
+#[tactic(auto, unfolding(crate::specs::Replies::with_rows))]
+fn put_rows(
+    members: &mut Members,
+    alloc: Global,
+    labels: &[Text],
+    rates: &[Ratio],
+    rows: &[Figures],
+) -> Result<(), NoMemory>
+    ensures { OnOk result (members_view members.new.entries ≡ with_rows labels.now rates.now rows.now (members_view members.old.entries)) }
+{
+    let list = row_values(alloc, labels, rates, rows)?;
+    put_list(members, alloc, "rows", list)
+}
+
+// ---- imports and surpluses
+
+#[tactic(auto, unfolding(crate::specs::Replies::with_stream))]
+fn put_stream(
+    members: &mut Members,
+    alloc: Global,
+    game: &Game,
+    kind: &str,
+    good: GoodId,
+    rate: &Ratio,
+) -> Result<(), NoMemory>
+    requires { IsSound game.now }
+    ensures { OnOk result (members_view members.new.entries ≡ with_stream game.now kind.now good rate.now (members_view members.old.entries)) }
+{
+    put_kind(members, alloc, kind)?;
+    put_good(members, alloc, "good", game, good)?;
+    put_number(members, alloc, "rate", rate)
+}
+
+fn stream_value(
+    alloc: Global,
+    game: &Game,
+    kind: &str,
+    good: GoodId,
+    rate: &Ratio,
+) -> Result<Value, NoMemory>
+    requires { IsSound game.now }
+    ensures { IfOk result (λ value. view value ≡ stream_value game.now kind.now good rate.now) }
+{
+    let mut members = Map::new(alloc);
+    put_stream(&mut members, alloc, game, kind, good, rate)?;
+    Ok(value_of(members))
+}
+
+// The value of an import or a surplus. A row has its own elsewhere, and a single good has none.
+fn stream_of(
+    alloc: Global,
+    game: &Game,
+    column: &Column,
+    rate: &Ratio,
+) -> Result<Option<Value>, NoMemory>
+    requires { IsSound game.now }
+{
+    match column {
+        Column::Import(good) => Ok(Some(stream_value(alloc, game, "import", *good, rate)?)),
+        Column::Surplus(good) => Ok(Some(stream_value(alloc, game, "surplus", *good, rate)?)),
+        Column::Line(_) => Ok(None),
+        Column::Unit(_) => Ok(None),
+    }
+}
+
+fn push_stream(list: &mut Vec<Value>, stream: Option<Value>) -> Result<(), NoMemory> {
+    match stream {
+        Some(value) => push(list, value),
+        None => Ok(()),
+    }
+}
+
+fn stream_values(
+    alloc: Global,
+    game: &Game,
+    columns: &[Column],
+    rates: &[Ratio],
+) -> Result<Vec<Value>, NoMemory>
+    requires { IsSound game.now }
+    ensures { IfOk result (λ list. items_view list.items ≡ streams_tree game.now (zip columns.now rates.now)) }
+{
+    let mut list = Vec::new(alloc);
+    for (column, rate) in columns.iter().zip(rates) {
+        let stream = stream_of(alloc, game, column, rate)?;
+        push_stream(&mut list, stream)?;
+    }
+    Ok(list)
+}
+
+#[tactic(auto, unfolding(crate::specs::Replies::with_streams))]
+fn put_streams(
+    members: &mut Members,
+    alloc: Global,
+    game: &Game,
+    columns: &[Column],
+    rates: &[Ratio],
+) -> Result<(), NoMemory>
+    requires { IsSound game.now }
+    ensures { OnOk result (members_view members.new.entries ≡ with_streams game.now columns.now rates.now (members_view members.old.entries)) }
+{
+    let list = stream_values(alloc, game, columns, rates)?;
+    put_list(members, alloc, "streams", list)
+}
+
+// ---- prices
+
+fn price_value(
+    alloc: Global,
+    game: &Game,
+    good: GoodId,
+    price: &Ratio,
+) -> Result<Value, NoMemory>
+    requires { IsSound game.now }
+    ensures { IfOk result (λ value. view value ≡ price_value game.now (good, price.now)) }
+{
+    let mut members = Map::new(alloc);
+    put_good(&mut members, alloc, "good", game, good)?;
+    put_number(&mut members, alloc, "price", price)?;
+    Ok(value_of(members))
+}
+
+fn price_values(
+    alloc: Global,
+    game: &Game,
+    goods: &[GoodId],
+    prices: &[Ratio],
+) -> Result<Vec<Value>, NoMemory>
+    requires { IsSound game.now }
+    ensures { IfOk result (λ list. items_view list.items ≡ items_tree (price_value game.now) (zip goods.now prices.now)) }
+{
+    let mut list = Vec::new(alloc);
+    for (good, price) in goods.iter().zip(prices) {
+        push(&mut list, price_value(alloc, game, *good, price)?)?;
+    }
+    Ok(list)
+}
+
+#[tactic(auto, unfolding(crate::specs::Replies::with_prices))]
+fn put_prices(
+    members: &mut Members,
+    alloc: Global,
+    game: &Game,
+    goods: &[GoodId],
+    prices: &[Ratio],
+) -> Result<(), NoMemory>
+    requires { IsSound game.now }
+    ensures { OnOk result (members_view members.new.entries ≡ with_prices game.now goods.now prices.now (members_view members.old.entries)) }
+{
+    let list = price_values(alloc, game, goods, prices)?;
+    put_list(members, alloc, "prices", list)
+}
+
+// ---- a plan
+
+fn total_members(alloc: Global, total: &Figures) -> Result<Members, NoMemory>
+    ensures { IfOk result (λ inner. members_view inner.entries ≡ with_uses total.now no_members) }
+{
+    let mut members = Map::new(alloc);
+    put_uses(&mut members, alloc, total)?;
+    Ok(members)
+}
+
+#[tactic(auto, unfolding(crate::specs::Replies::with_plan))]
+fn put_plan(
+    members: &mut Members,
+    alloc: Global,
+    game: &Game,
+    labels: &[Text],
+    goods: &[GoodId],
+    columns: &[Column],
+    rows: &[Figures],
+    total: &Figures,
+    plan: &Plan,
+) -> Result<(), NoMemory>
+    requires { IsSound game.now }
+    ensures { OnOk result (members_view members.new.entries ≡ with_plan game.now labels.now goods.now columns.now rows.now total.now plan.now (members_view members.old.entries)) }
+{
+    let rates = plan.rates.as_slice();
+    let prices = plan.prices.as_slice();
+    put_kind(members, alloc, "plan")?;
+    put_number(members, alloc, "cost", &plan.cost)?;
+    put_rows(members, alloc, labels, rates, rows)?;
+    put_streams(members, alloc, game, columns, rates)?;
+    put_prices(members, alloc, game, goods, prices)?;
+    let total = total_members(alloc, total)?;
+    put_object(members, alloc, "total", total)
+}
+
+#[tactic(auto, unfolding(crate::specs::Replies::with_infeasible))]
+fn put_infeasible(
+    members: &mut Members,
+    alloc: Global,
+    game: &Game,
+    goods: &[GoodId],
+    prices: &[Ratio],
+) -> Result<(), NoMemory>
+    requires { IsSound game.now }
+    ensures { OnOk result (members_view members.new.entries ≡ with_infeasible game.now goods.now prices.now (members_view members.old.entries)) }
+{
+    put_kind(members, alloc, "infeasible")?;
+    put_prices(members, alloc, game, goods, prices)
+}
+
+// ---- what is past the limits
+
+fn column_kind(column: Column) -> &'static str
+    ensures { result.now ≡ column_kind column }
+{
+    match column {
+        Column::Line(_) => "row",
+        Column::Import(_) => "import",
+        Column::Surplus(_) => "surplus",
+        Column::Unit(_) => "unit",
+    }
+}
+
+// The label of a row, empty past the last.
+fn label_at(labels: &[Text], row: u32) -> &str
+    ensures { result.now ≡ slice_index_or labels.now row [] }
+{
+    match labels.get(row as usize) {
+        Some(label) => label.as_str(),
+        None => "",
+    }
+}
+
+// The name of a column: the label of its row, or its good.
+fn column_id(
+    alloc: Global,
+    game: &Game,
+    labels: &[Text],
+    column: Column,
+) -> Result<String, NoMemory>
+    requires { IsSound game.now }
+    ensures { IfOk result (λ text. string_bytes text ≡ column_id game.now labels.now column) }
+{
+    match column {
+        Column::Line(row) => Ok(String::from_str(alloc, label_at(labels, row))?),
+        Column::Import(good) => good_id(alloc, game, good),
+        Column::Surplus(good) => good_id(alloc, game, good),
+        Column::Unit(good) => good_id(alloc, game, good),
+    }
+}
+
+#[tactic(auto, unfolding(crate::specs::Replies::with_column))]
+fn put_column(
+    members: &mut Members,
+    alloc: Global,
+    game: &Game,
+    labels: &[Text],
+    column: Column,
+) -> Result<(), NoMemory>
+    requires { IsSound game.now }
+    ensures { OnOk result (members_view members.new.entries ≡ with_column game.now labels.now column (members_view members.old.entries)) }
+{
+    put_text(members, alloc, "column", column_kind(column))?;
+    let name = column_id(alloc, game, labels, column)?;
+    put_text(members, alloc, "name", name.as_str())
+}
+
+fn column_members(
+    alloc: Global,
+    game: &Game,
+    labels: &[Text],
+    column: Column,
+) -> Result<Members, NoMemory>
+    requires { IsSound game.now }
+    ensures { IfOk result (λ inner. members_view inner.entries ≡ with_column game.now labels.now column no_members) }
+{
+    let mut members = Map::new(alloc);
+    put_column(&mut members, alloc, game, labels, column)?;
+    Ok(members)
+}
+
+#[tactic(auto, unfolding(crate::specs::Replies::with_exchange))]
+fn put_exchange(
+    members: &mut Members,
+    alloc: Global,
+    game: &Game,
+    labels: &[Text],
+    exchange: Exchange,
+) -> Result<(), NoMemory>
+    requires { IsSound game.now }
+    ensures { OnOk result (members_view members.new.entries ≡ with_exchange game.now labels.now exchange (members_view members.old.entries)) }
+{
+    let enter = column_members(alloc, game, labels, exchange.enter)?;
+    put_object(members, alloc, "enter", enter)?;
+    let leave = column_members(alloc, game, labels, exchange.leave)?;
+    put_object(members, alloc, "leave", leave)
+}
+
+fn exchange_members(
+    alloc: Global,
+    game: &Game,
+    labels: &[Text],
+    exchange: Exchange,
+) -> Result<Members, NoMemory>
+    requires { IsSound game.now }
+    ensures { IfOk result (λ inner. members_view inner.entries ≡ with_exchange game.now labels.now exchange no_members) }
+{
+    let mut members = Map::new(alloc);
+    put_exchange(&mut members, alloc, game, labels, exchange)?;
+    Ok(members)
+}
+
+fn exchange_value(
+    alloc: Global,
+    game: &Game,
+    labels: &[Text],
+    exchange: Exchange,
+) -> Result<Value, NoMemory>
+    requires { IsSound game.now }
+    ensures { IfOk result (λ value. view value ≡ exchange_value game.now labels.now exchange) }
+{
+    let members = exchange_members(alloc, game, labels, exchange)?;
+    Ok(value_of(members))
+}
+
+#[tactic(auto, using(catalog_members::proofs::Listing::none_written, catalog_members::proofs::Listing::one_written, catalog_members::proofs::Listing::all_written))]
+fn exchange_values(
+    alloc: Global,
+    game: &Game,
+    labels: &[Text],
+    trail: &[Exchange],
+) -> Result<Vec<Value>, NoMemory>
+    requires { IsSound game.now }
+    ensures { IfOk result (λ list. items_view list.items ≡ items_tree (exchange_value game.now labels.now) trail.now) }
+{
+    let mut list = Vec::new(alloc);
+    for exchange in trail {
+        push(
+            &mut list,
+            exchange_value(alloc, game, labels, *exchange)?,
+        )?;
+    }
+    Ok(list)
+}
+
+#[tactic(auto, unfolding(crate::specs::Replies::with_trail))]
+fn put_trail(
+    members: &mut Members,
+    alloc: Global,
+    game: &Game,
+    labels: &[Text],
+    trail: &[Exchange],
+) -> Result<(), NoMemory>
+    requires { IsSound game.now }
+    ensures { OnOk result (members_view members.new.entries ≡ with_trail game.now labels.now trail.now (members_view members.old.entries)) }
+{
+    let list = exchange_values(alloc, game, labels, trail)?;
+    put_list(members, alloc, "trail", list)
+}
+
+#[tactic(auto, unfolding(crate::specs::Replies::with_place))]
+fn put_place(
+    members: &mut Members,
+    alloc: Global,
+    game: &Game,
+    labels: &[Text],
+    place: Place,
+) -> Result<(), NoMemory>
+    requires { IsSound game.now }
+    ensures { OnOk result (members_view members.new.entries ≡ with_place game.now labels.now place (members_view members.old.entries)) }
+{
+    match place {
+        Place::Entry { column, row } => {
+            put_text(members, alloc, "number", "entry")?;
+            put_column(members, alloc, game, labels, column)?;
+            put_whole(members, alloc, "row", u64::from(row))
+        }
+        Place::Value { row } => {
+            put_text(members, alloc, "number", "value")?;
+            put_whole(members, alloc, "row", u64::from(row))
+        }
+        Place::Reduced { column } => {
+            put_text(members, alloc, "number", "reduced")?;
+            put_column(members, alloc, game, labels, column)
+        }
+        Place::Total => put_text(members, alloc, "number", "total"),
+    }
+}
+
+fn place_members(
+    alloc: Global,
+    game: &Game,
+    labels: &[Text],
+    place: Place,
+) -> Result<Members, NoMemory>
+    requires { IsSound game.now }
+    ensures { IfOk result (λ inner. members_view inner.entries ≡ with_place game.now labels.now place no_members) }
+{
+    let mut members = Map::new(alloc);
+    put_place(&mut members, alloc, game, labels, place)?;
+    Ok(members)
+}
+
+#[tactic(auto, unfolding(crate::specs::Replies::with_too_wide))]
+fn put_too_wide(
+    members: &mut Members,
+    alloc: Global,
+    game: &Game,
+    labels: &[Text],
+    trail: &[Exchange],
+    next: Exchange,
+    place: Place,
+) -> Result<(), NoMemory>
+    requires { IsSound game.now }
+    ensures { OnOk result (members_view members.new.entries ≡ with_too_wide game.now labels.now trail.now next place (members_view members.old.entries)) }
+{
+    put_code(members, alloc, RefusalCode::V1)?;
+    put_trail(members, alloc, game, labels, trail)?;
+    let next = exchange_members(alloc, game, labels, next)?;
+    put_object(members, alloc, "next", next)?;
+    let place = place_members(alloc, game, labels, place)?;
+    put_object(members, alloc, "place", place)
+}
+
+#[tactic(auto, unfolding(crate::specs::Replies::with_out_of_budget))]
+fn put_out_of_budget(
+    members: &mut Members,
+    alloc: Global,
+    game: &Game,
+    labels: &[Text],
+    trail: &[Exchange],
+) -> Result<(), NoMemory>
+    requires { IsSound game.now }
+    ensures { OnOk result (members_view members.new.entries ≡ with_out_of_budget game.now labels.now trail.now (members_view members.old.entries)) }
+{
+    put_code(members, alloc, RefusalCode::V2)?;
+    put_trail(members, alloc, game, labels, trail)
+}
+
+// ---- every answer
+
+#[tactic(auto, unfolding(crate::specs::Replies::with_answer))]
+fn put_answer(
+    members: &mut Members,
+    alloc: Global,
+    game: &Game,
+    labels: &[Text],
+    goods: &[GoodId],
+    columns: &[Column],
+    rows: &[Figures],
+    total: &Figures,
+    answer: &SolveAnswer,
+) -> Result<(), NoMemory>
+    requires { IsSound game.now }
+    ensures { OnOk result (members_view members.new.entries ≡ with_answer game.now labels.now goods.now columns.now rows.now total.now answer.now (members_view members.old.entries)) }
+{
+    match answer {
+        SolveAnswer::Planned(plan) => put_plan(
+            members, alloc, game, labels, goods, columns, rows, total, plan,
+        ),
+        SolveAnswer::Infeasible(prices) => {
+            put_infeasible(members, alloc, game, goods, prices.as_slice())
+        }
+        SolveAnswer::TooWide { trail, next, place } => put_too_wide(
+            members,
+            alloc,
+            game,
+            labels,
+            trail.as_slice(),
+            *next,
+            *place,
+        ),
+        SolveAnswer::OutOfBudget { trail } => {
+            put_out_of_budget(members, alloc, game, labels, trail.as_slice())
+        }
+    }
+}
+
+/// Puts what the solver says of a table.
+#[tactic(auto, unfolding(crate::specs::Replies::with_solved))]
+pub fn put_solved(
+    members: &mut Members,
+    alloc: Global,
+    game: &Game,
+    table: &str,
+    labels: &[Text],
+    goods: &[GoodId],
+    columns: &[Column],
+    rows: &[Figures],
+    total: &Figures,
+    answer: &SolveAnswer,
+) -> Result<(), NoMemory>
+    requires { IsSound game.now }
+    ensures { OnOk result (members_view members.new.entries ≡ with_solved game.now table.now labels.now goods.now columns.now rows.now total.now answer.now (members_view members.old.entries)) }
+{
+    put_answer(
+        members, alloc, game, labels, goods, columns, rows, total, answer,
+    )?;
+    put_text(members, alloc, "table", table)
+}
