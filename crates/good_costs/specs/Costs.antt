@@ -42,4 +42,4 @@ abbrev pub cost_fields : Game → Cost → List (List ℕ)
 cost_fields g cost = good_id g cost.0 ∷ estimate_fields cost.1
 
 unfoldable pub costs_text : Game → List Cost → List ℕ
-costs_text g costs = codes "good,estimate,estimate_decimal\n" ++ flat_map (λ cost. row_text default_writer (cost_fields g cost)) costs
+costs_text g costs = codes "good,estimate,estimate_decimal\n" ++ flat_map (row_text default_writer) (map (cost_fields g) costs)

@@ -1,5 +1,5 @@
 //! Costs as text.
-ghost use Rattle.std.specs.Prelude.{◌≡◌, ◌++◌, ◌∷◌, [], IfOk, OnOk, Some, string_bytes};
+ghost use Rattle.std.specs.Prelude.{◌≡◌, ◌++◌, ◌∷◌, [], IfOk, OnOk, Some, map, string_bytes};
 ghost use Rattle.std.specs.List.{flat_map};
 ghost use Rattle.csv.specs.Records.{fields_of};
 ghost use Rattle.game_types.specs.Sound.{IsSound};
@@ -72,9 +72,10 @@ fn cost_text(alloc: Global, game: &Game, cost: &Cost) -> Result<Vec<u8>, NoMemor
     record_text(alloc, &record)
 }
 
+#[tactic(auto, using(node_report::proofs::Texts::text_first, node_report::proofs::Texts::text_more, node_report::proofs::Texts::text_end))]
 fn records_text(alloc: Global, game: &Game, costs: &[Cost]) -> Result<Vec<u8>, NoMemory>
     requires { IsSound game.now }
-    ensures { IfOk result (λ text. text.items ≡ flat_map (λ cost. record_text (cost_fields game.now cost)) costs.now) }
+    ensures { IfOk result (λ text. text.items ≡ flat_map record_text (map (cost_fields game.now) costs.now)) }
 {
     let mut text = Vec::new(alloc);
     for cost in costs {

@@ -104,13 +104,13 @@ fn join(text: &mut String, piece: &str) -> Result<(), NoMemory>
 fn module_text(
     alloc: Global,
     game: &Game,
-    module: GoodId,
-    count: u32,
+    pair: &(GoodId, u32),
 ) -> Result<String, NoMemory>
     requires { IsSound game.now }
-    ensures { IfOk result (λ text. string_bytes text ≡ module_text game.now (module, count)) }
+    ensures { IfOk result (λ text. string_bytes text ≡ module_text game.now pair.now) }
 {
-    let module = good_id(alloc, game, module)?;
+    let module = good_id(alloc, game, pair.0)?;
+    let count = pair.1;
     Ok(format!(in alloc; "{count} {module}")?)
 }
 
@@ -124,8 +124,8 @@ fn modules_text(
     ensures { IfOk result (λ text. string_bytes text ≡ modules_text game.now modules.now) }
 {
     let mut text = String::new(alloc);
-    for (module, count) in modules {
-        let piece = module_text(alloc, game, *module, *count)?;
+    for pair in modules {
+        let piece = module_text(alloc, game, pair)?;
         join(&mut text, piece.as_str())?;
     }
     Ok(text)

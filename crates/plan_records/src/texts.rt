@@ -3,7 +3,7 @@ ghost use Rattle.std.specs.Prelude.{◌≡◌, ◌++◌, [], IfOk, OnOk, map};
 ghost use Rattle.std.specs.List.{flat_map, zip};
 ghost use Rattle.csv.specs.Records.{fields_of};
 ghost use Rattle.game_types.specs.Sound.{IsSound};
-ghost use Rattle.plan_records.specs.Records.{flow_record, head_text, price_of, row_of, streams_of, total_record, want_of};
+ghost use Rattle.plan_records.specs.Records.{flow_record, head_text, price_of, price_record, row_of, row_record, streams_of, total_record, want_of};
 ghost use Rattle.plan_records.specs.Texts.{plan_text, record_text, records_text};
 
 use crate::records::{flow_record, price_record, row_record, total_record};
@@ -47,6 +47,33 @@ pub fn record_text(alloc: Global, record: &StringRecord) -> Result<Vec<u8>, NoMe
     }
 }
 
+fn row_text(
+    alloc: Global,
+    game: &Game,
+    row: &TableRow,
+    rate: &Ratio,
+    figures: &Figures,
+) -> Result<Vec<u8>, NoMemory>
+    requires { IsSound game.now }
+    ensures { IfOk result (λ text. text.items ≡ record_text (row_record game.now row.now rate.now figures.now)) }
+{
+    let record = row_record(alloc, game, row, rate, figures)?;
+    record_text(alloc, &record)
+}
+
+fn price_text(
+    alloc: Global,
+    game: &Game,
+    good: GoodId,
+    price: &Ratio,
+) -> Result<Vec<u8>, NoMemory>
+    requires { IsSound game.now }
+    ensures { IfOk result (λ text. text.items ≡ record_text (price_record game.now good price.now)) }
+{
+    let record = price_record(alloc, game, good, price)?;
+    record_text(alloc, &record)
+}
+
 fn rows_text(
     alloc: Global,
     game: &Game,
@@ -59,21 +86,7 @@ fn rows_text(
 {
     let mut text = Vec::new(alloc);
     for (row, (rate, figures)) in table.iter().zip(rates.iter().zip(rows)) {
-        let record = row_record(alloc, game, row, rate, figures)?;
-        let line = record_text(alloc, &record)?;
-        text.extend_from_slice(line.as_slice())?;
-    }
-    Ok(text)
-}
-
-fn wants_text(alloc: Global, game: &Game, wants: &[(GoodId, Ratio)]) -> Result<Vec<u8>, NoMemory>
-    requires { IsSound game.now }
-    ensures { IfOk result (λ text. text.items ≡ records_text (map (want_of game.now) wants.now)) }
-{
-    let mut text = Vec::new(alloc);
-    for (good, rate) in wants {
-        let record = flow_record(alloc, game, "want", *good, rate)?;
-        let line = record_text(alloc, &record)?;
+        let line = row_text(alloc, game, row, rate, figures)?;
         text.extend_from_slice(line.as_slice())?;
     }
     Ok(text)
@@ -91,6 +104,19 @@ fn flow_text(
 {
     let record = flow_record(alloc, game, section, good, rate)?;
     record_text(alloc, &record)
+}
+
+#[tactic(auto, using(node_report::proofs::Texts::text_first, node_report::proofs::Texts::text_more, node_report::proofs::Texts::text_end))]
+fn wants_text(alloc: Global, game: &Game, wants: &[(GoodId, Ratio)]) -> Result<Vec<u8>, NoMemory>
+    requires { IsSound game.now }
+    ensures { IfOk result (λ text. text.items ≡ records_text (map (want_of game.now) wants.now)) }
+{
+    let mut text = Vec::new(alloc);
+    for want in wants {
+        let line = flow_text(alloc, game, "want", want.0, &want.1)?;
+        text.extend_from_slice(line.as_slice())?;
+    }
+    Ok(text)
 }
 
 // The record of an import or a surplus. A row has its own elsewhere, and a single good has none.
@@ -139,8 +165,7 @@ fn prices_text(
 {
     let mut text = Vec::new(alloc);
     for (good, price) in goods.iter().zip(prices) {
-        let record = price_record(alloc, game, *good, price)?;
-        let line = record_text(alloc, &record)?;
+        let line = price_text(alloc, game, *good, price)?;
         text.extend_from_slice(line.as_slice())?;
     }
     Ok(text)

@@ -9,7 +9,7 @@ use Rattle.report_json.specs.Numbers.{decimal_of, nearest, thousandths_of}
 
 -- a whole number between bounds is the quotient
 quotient_is : (q n d : ℕ) → 2 * (q * d) ≤ n → n < 2 * (q * d) + 2 * d → n / (2 * d) ≡ q
-quotient_is q n d low high = div-eq_of_lt-le {q} (2 * d) {n} (grind arith) (grind arith)
+quotient_is q n d low high = div-eq_of_lt-le {k = q} (2 * d) {m = n} (grind arith) (grind arith)
 
 whole_is : (w p : ℕ) → p < 1000 → (1000 * w + p) / 1000 ≡ w
 whole_is w p below = omega arith

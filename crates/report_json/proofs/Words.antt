@@ -1,11 +1,12 @@
 -- Whoever reads the object of a reply gets the words of the reply.
-use Rattle.std.proofs.Common.{◌≡◌, ◌∙◌, ℕ, Bool, true, false, List, [], ◌∷◌, ◌++◌, Option, Some, None, length, map, refl, sym, ap, ap₂, codes, decimal}
-use Rattle.std.specs.Prelude.{⊤, if◌then◌else◌, slice_index_or}
+use Rattle.std.proofs.Common.{◌≡◌, ◌∙◌, ℕ, suc, ◌+◌, ◌-◌, Bool, true, false, List, [], ◌∷◌, ◌++◌, Option, Some, None, length, map, refl, sym, ap, ap₂, codes, decimal}
+use Rattle.std.specs.Prelude.{⊤, ◌==◌, if◌then◌else◌, nat_lt, slice_index_or}
 use Rattle.std.specs.List.{flat_map, zip}
 use Rattle.fractions.specs.Fraction.{Fraction}
 use Rattle.plan_base.specs.declared.ids.GoodId.{GoodId}
 use Rattle.plan_base.specs.declared.ids.NodeId.{NodeId}
 use Rattle.plan_base.specs.declared.shape.Kind.{Kind}
+use Rattle.plan_base.specs.declared.shape.Kind.TheVariants.{Special, Tech}
 use Rattle.game_types.specs.declared.effects.EffectKind.{EffectKind}
 use Rattle.game_types.specs.declared.effects.EffectKind.TheVariants.{Speed, Productivity, Consumption, Pollution}
 use Rattle.game_types.specs.declared.effects.Effects.{Effects}
@@ -19,9 +20,9 @@ use Rattle.linear_table.specs.declared.Place.TheVariants.{Entry, Value, Reduced,
 use Rattle.linear_table.specs.declared.SolveAnswer.{SolveAnswer}
 use Rattle.linear_table.specs.declared.SolveAnswer.TheVariants.{Planned, Infeasible, TooWide, OutOfBudget}
 use Rattle.node_report.specs.Layout.{Line}
-use Rattle.node_report.specs.Nodes.{good_word, node_word}
+use Rattle.node_report.specs.Nodes.{good_word, name_at, node_word, solid_and_fluid}
 use Rattle.node_report.specs.Questions.{forbidden_lines, group_line, ranked_line, why_line}
-use Rattle.node_report.specs.Words.{printed_word}
+use Rattle.node_report.specs.Words.{object_word, printed_word}
 use Rattle.script_reader.specs.Fields.{kind_word}
 use Rattle.fractions.specs.Print.{printed}
 use Rattle.linear_table.specs.declared.Plan.{Plan}
@@ -35,9 +36,10 @@ use Rattle.plan_report.specs.declared.reply.RefusalCode.{RefusalCode}
 use Rattle.plan_report.specs.declared.reply.Reply.{Reply}
 use Rattle.plan_report.specs.declared.reply.Reply.TheVariants.{Ok, Nothing, Held, Reach, List as Listed, Why, Missing, Mask, Milestones, Summary, Rate, Solved, Refused}
 use Rattle.serde_json.specs.Data.{Data, no_members, object}
-use Rattle.catalog_members.specs.Members.{id_text, id_value, items_tree, with_amount, with_id, with_object, with_text}
+use Rattle.serde_json.specs.View.{items_of}
+use Rattle.catalog_members.specs.Members.{id_text, id_value, with_amount, with_id, with_object, with_text}
 use Rattle.report_json.specs.Reading.{column_in, exact_in, exchange_in, figure_in, figures_in, group_in, lines_of, listed, place_in, price_in, ranked_in, row_in, stream_in, support_in, use_keys, word_in}
-use Rattle.report_json.specs.Replies.{column_id, detail_items, exchange_value, group_value, price_value, ranked_value, reply_value, row_value, streams_tree, support_value, with_answer, with_at, with_code, with_column, with_effects, with_exchange, with_history, with_infeasible, with_listed, with_mask, with_milestones, with_missing, with_out_of_budget, with_place, with_plan, with_prices, with_ranked, with_rate, with_reach, with_refused, with_reply, with_row, with_rows, with_solved, with_stream, with_streams, with_summary, with_takes, with_too_wide, with_trail, with_uses, with_why}
+use Rattle.report_json.specs.Replies.{column_id, detail_items, exchange_value, group_value, price_value, ranked_value, reply_value, row_value, stream_value, streams_of, support_value, with_answer, with_at, with_code, with_column, with_effects, with_exchange, with_history, with_infeasible, with_listed, with_mask, with_milestones, with_missing, with_out_of_budget, with_place, with_plan, with_prices, with_ranked, with_rate, with_reach, with_refused, with_reply, with_row, with_rows, with_solved, with_stream, with_streams, with_summary, with_takes, with_too_wide, with_trail, with_uses, with_why}
 use Rattle.report_json.specs.Values.{figure_value, good_id, with_figure, with_flag, with_good, with_kind, with_list, with_node, with_nodes, with_number, with_parts, with_whole}
 
 -- what a proof unfolds to compute the members of an object
@@ -46,13 +48,13 @@ unfolding id_text node_word with_amount with_id with_object with_text with_answe
 all_members = tt
 
 -- ---- lists
-read_all : {A B : Type 0} (tree : A → Data) (read : Data → B) (line : A → B) → ((x : A) → read (tree x) ≡ line x) → (xs : List A) → map read (listed (items_tree tree xs)) ≡ map line xs
+read_all : {A B : Type 0} (tree : A → Data) (read : Data → B) (line : A → B) → ((x : A) → read (tree x) ≡ line x) → (xs : List A) → map read (listed (items_of (map tree xs))) ≡ map line xs
 read_all tree read line each [] = refl
 read_all tree read line each (x ∷ xs) = ap₂ (λ l ls. l ∷ ls) (each x) (read_all tree read line each xs)
 
-length_listed : {A : Type 0} (tree : A → Data) (xs : List A) → length (listed (items_tree tree xs)) ≡ length xs
+length_listed : {A : Type 0} (tree : A → Data) (xs : List A) → length (listed (items_of (map tree xs))) ≡ length xs
 length_listed tree [] = refl
-length_listed tree (x ∷ xs) = ap (λ (n : ℕ). n + 1) (length_listed tree xs)
+length_listed tree (x ∷ xs) = ap suc (length_listed tree xs)
 
 -- ---- names
 node_is : (g : Game) (node : NodeId) → word_in (id_value g node) ≡ node_word g node
@@ -67,9 +69,16 @@ by_tests false false x y z u v w p q r = r
 
 good_is : (g : Game) (good : GoodId) → printed_word (good_id g good) ≡ good_word g good
 unfolding all_members good_id good_word
-good_is g good = by_tests _ _ _ _ _ _ _ _ refl refl refl
+good_is g good =
+    by_tests (nat_lt good.0 (solid_and_fluid g)) (good.0 == solid_and_fluid g) (id_text g (record { 0 = 3 + good.0 }))
+    (kind_word Special ++ 58 ∷ codes "electricity")
+    (kind_word Tech ++ 58 ∷ name_at g Tech (good.0 - (solid_and_fluid g + 1)))
+    (node_word g (record { 0 = 3 + good.0 }))
+    (object_word Special (codes "electricity"))
+    (object_word Tech (name_at g Tech (good.0 - (solid_and_fluid g + 1))))
+    refl refl refl
 
-nodes_are : (g : Game) (nodes : List NodeId) → map word_in (listed (items_tree (id_value g) nodes)) ≡ map (node_word g) nodes
+nodes_are : (g : Game) (nodes : List NodeId) → map word_in (listed (items_of (map (id_value g) nodes))) ≡ map (node_word g) nodes
 nodes_are g nodes = read_all (id_value g) word_in (node_word g) (node_is g) nodes
 
 -- ---- questions
@@ -135,7 +144,7 @@ stream_is : (g : Game) (kind : List ℕ) (good : GoodId) (rate : Fraction) → s
 unfolding all_members
 stream_is g kind good rate = ap (λ w. kind ∷ w ∷ printed rate ∷ []) (good_is g good)
 
-streams_are : (g : Game) (columns : List (Column × Fraction)) → map stream_in (listed (streams_tree g columns)) ≡ flat_map (stream_lines g) columns
+streams_are : (g : Game) (columns : List (Column × Fraction)) → map stream_in (listed (items_of (flat_map (streams_of g) columns))) ≡ flat_map (stream_lines g) columns
 streams_are g [] = refl
 streams_are g ((TableRow row, rate) ∷ columns) = streams_are g columns
 streams_are g ((Import good, rate) ∷ columns) = ap₂ (λ l ls. l ∷ ls) (stream_is g (codes "import") good rate) (streams_are g columns)
@@ -146,7 +155,7 @@ price_is : (g : Game) (good : GoodId × Fraction) → price_in (price_value g go
 unfolding all_members
 price_is g good = ap (λ w. codes "price" ∷ w ∷ printed good.1 ∷ []) (good_is g good.0)
 
-prices_are : (g : Game) (goods : List GoodId) (prices : List Fraction) → map price_in (listed (items_tree (price_value g) (zip goods prices))) ≡ price_lines g goods prices
+prices_are : (g : Game) (goods : List GoodId) (prices : List Fraction) → map price_in (listed (items_of (map (price_value g) (zip goods prices)))) ≡ price_lines g goods prices
 prices_are g goods prices = read_all (price_value g) price_in (price_line g) (price_is g) (zip goods prices)
 
 -- the parts of a plan
@@ -159,11 +168,11 @@ plan_back : (g : Game) (table : List ℕ) (labels : List (List ℕ)) (goods : Li
 unfolding all_members
 plan_back g table labels goods columns rows total plan =
     plan_parts (codes "plan" ∷ printed_word table ∷ codes "cost" ∷ printed plan.cost ∷ [])
-    (map row_in (listed (items_tree row_value (zip labels (zip plan.rates rows)))))
+    (map row_in (listed (items_of (map row_value (zip labels (zip plan.rates rows))))))
     (map row_line (zip labels (zip plan.rates rows)))
-    (map stream_in (listed (streams_tree g (zip columns plan.rates))))
+    (map stream_in (listed (items_of (flat_map (streams_of g) (zip columns plan.rates)))))
     (flat_map (stream_lines g) (zip columns plan.rates))
-    (map price_in (listed (items_tree (price_value g) (zip goods plan.prices))))
+    (map price_in (listed (items_of (map (price_value g) (zip goods plan.prices)))))
     (price_lines g goods plan.prices)
     (figures_in use_keys (object (with_uses total no_members)))
     (use_words total)
@@ -196,7 +205,7 @@ place_is g labels (Value row) = refl
 place_is g labels (Reduced column) = ap (λ w. codes "reduced" ∷ column_kind column ∷ w ∷ []) (name_is g labels column)
 place_is g labels Total = refl
 
-trail_is : (g : Game) (labels : List (List ℕ)) (trail : List Exchange) → map exchange_in (listed (items_tree (exchange_value g labels) trail)) ≡ map (exchange_line g labels) trail
+trail_is : (g : Game) (labels : List (List ℕ)) (trail : List Exchange) → map exchange_in (listed (items_of (map (exchange_value g labels) trail))) ≡ map (exchange_line g labels) trail
 trail_is g labels trail = read_all (exchange_value g labels) exchange_in (exchange_line g labels) (exchange_is g labels) trail
 
 wide_parts : (head : Line) (a a' : List Line) (n n' p p' : Line) → a ≡ a' → n ≡ n' → p ≡ p' → head ∷ (a ++ ((codes "next" ∷ n) ∷ p ∷ [])) ≡ head ∷ (a' ++ ((codes "next" ∷ n') ∷ p' ∷ []))
@@ -207,7 +216,7 @@ wide_back : (g : Game) (table : List ℕ) (labels : List (List ℕ)) (goods : Li
 unfolding all_members
 wide_back g table labels goods columns rows total trail next place =
     wide_parts (codes "refused" ∷ codes "V1" ∷ printed_word table ∷ [])
-    (map exchange_in (listed (items_tree (exchange_value g labels) trail)))
+    (map exchange_in (listed (items_of (map (exchange_value g labels) trail))))
     (map (exchange_line g labels) trail)
     (exchange_in (exchange_value g labels next))
     (exchange_line g labels next)

@@ -1,6 +1,6 @@
 -- Each reply as an object of JSON, as docs/DATA.md lists the members. Each function of this file puts members into those that are there.
-use Rattle.std.specs.Prelude.{ℕ, Bool, List, [], ◌∷◌, ◌++◌, Option, Some, None, codes, slice_index_or}
-use Rattle.std.specs.List.{zip}
+use Rattle.std.specs.Prelude.{ℕ, Bool, List, [], ◌∷◌, ◌++◌, Option, Some, None, codes, map, slice_index_or}
+use Rattle.std.specs.List.{flat_map, zip}
 use Rattle.fractions.specs.Fraction.{Fraction}
 use Rattle.plan_base.specs.declared.ids.GoodId.{GoodId}
 use Rattle.plan_base.specs.declared.ids.NodeId.{NodeId}
@@ -27,7 +27,8 @@ use Rattle.plan_report.specs.declared.reply.RefusalCode.TheVariants.{V1, V2}
 use Rattle.plan_report.specs.declared.reply.Reply.{Reply}
 use Rattle.plan_report.specs.declared.reply.Reply.TheVariants.{Ok, Nothing, Held, Reach, List as Listed, Why, Missing, Mask, Milestones, Summary, Rate, Solved, Refused}
 use Rattle.serde_json.specs.Data.{Data, item, Items, Members, no_items, no_members, number, object, string, unsigned}
-use Rattle.catalog_members.specs.Members.{id_text, items_tree, with_object, with_text}
+use Rattle.serde_json.specs.View.{items_of}
+use Rattle.catalog_members.specs.Members.{id_text, with_object, with_text}
 use Rattle.report_json.specs.Values.{good_id, with_figure, with_flag, with_good, with_kind, with_list, with_node, with_nodes, with_number, with_whole}
 
 -- ---- questions about nodes
@@ -42,13 +43,13 @@ unfoldable pub with_reach : Game → NodeId → ℕ → Members → Members
 with_reach g node rank ms = with_ranked g node rank (with_kind (codes "reach") ms)
 
 unfoldable pub with_listed : Game → Kind → List (NodeId × ℕ) → Members → Members
-with_listed g kind nodes ms = with_list (codes "nodes") (items_tree (ranked_value g) nodes) (with_text (codes "of") (kind_word kind) (with_kind (codes "list") ms))
+with_listed g kind nodes ms = with_list (codes "nodes") (items_of (map (ranked_value g) nodes)) (with_text (codes "of") (kind_word kind) (with_kind (codes "list") ms))
 
 abbrev pub support_value : Game → NodeId × ℕ × Bool → Data
 support_value g node = object (with_flag (codes "granted") node.2 (with_ranked g node.0 node.1 no_members))
 
 unfoldable pub with_why : Game → NodeId → List (NodeId × ℕ × Bool) → Members → Members
-with_why g node nodes ms = with_list (codes "by") (items_tree (support_value g) nodes) (with_node g node (with_kind (codes "why") ms))
+with_why g node nodes ms = with_list (codes "by") (items_of (map (support_value g) nodes)) (with_node g node (with_kind (codes "why") ms))
 
 -- a group of nodes of which all are needed, or any
 abbrev pub group_value : Game → Bool × List NodeId → Data
@@ -56,7 +57,7 @@ group_value g group = object (with_nodes (codes "nodes") g group.1 (with_flag (c
 
 unfoldable pub with_missing : Game → NodeId → Bool → Bool → List (Bool × List NodeId) → Members → Members
 with_missing g node reached forbidden groups ms =
-    with_list (codes "groups") (items_tree (group_value g) groups)
+    with_list (codes "groups") (items_of (map (group_value g) groups))
     (with_flag (codes "forbidden") forbidden
     (with_flag (codes "reached") reached
     (with_node g node (with_kind (codes "missing") ms))))
@@ -131,28 +132,24 @@ with_stream g kind good rate ms = with_number (codes "rate") rate (with_good (co
 abbrev pub stream_value : Game → List ℕ → GoodId → Fraction → Data
 stream_value g kind good rate = object (with_stream g kind good rate no_members)
 
--- an import or a surplus at its rate before further ones; the rows stand elsewhere
-abbrev pub streams_then : Game → Column × Fraction → Items → Items
-streams_then g (TableRow row, rate) rest = rest
-streams_then g (Import good, rate) rest = item (stream_value g (codes "import") good rate) rest
-streams_then g (Surplus good, rate) rest = item (stream_value g (codes "surplus") good rate) rest
-streams_then g (Single good, rate) rest = rest
-
-abbrev pub streams_tree : Game → List (Column × Fraction) → Items
-streams_tree g [] = no_items
-streams_tree g (column ∷ columns) = streams_then g column (streams_tree g columns)
+-- an import or a surplus at its rate; the rows stand elsewhere
+abbrev pub streams_of : Game → Column × Fraction → List Data
+streams_of g (TableRow row, rate) = []
+streams_of g (Import good, rate) = stream_value g (codes "import") good rate ∷ []
+streams_of g (Surplus good, rate) = stream_value g (codes "surplus") good rate ∷ []
+streams_of g (Single good, rate) = []
 
 abbrev pub price_value : Game → GoodId × Fraction → Data
 price_value g good = object (with_number (codes "price") good.1 (with_good (codes "good") g good.0 no_members))
 
 unfoldable pub with_prices : Game → List GoodId → List Fraction → Members → Members
-with_prices g goods prices ms = with_list (codes "prices") (items_tree (price_value g) (zip goods prices)) ms
+with_prices g goods prices ms = with_list (codes "prices") (items_of (map (price_value g) (zip goods prices))) ms
 
 unfoldable pub with_rows : List (List ℕ) → List Fraction → List Figures → Members → Members
-with_rows labels rates rows ms = with_list (codes "rows") (items_tree row_value (zip labels (zip rates rows))) ms
+with_rows labels rates rows ms = with_list (codes "rows") (items_of (map row_value (zip labels (zip rates rows)))) ms
 
 unfoldable pub with_streams : Game → List Column → List Fraction → Members → Members
-with_streams g columns rates ms = with_list (codes "streams") (streams_tree g (zip columns rates)) ms
+with_streams g columns rates ms = with_list (codes "streams") (items_of (flat_map (streams_of g) (zip columns rates))) ms
 
 unfoldable pub with_plan : Game → List (List ℕ) → List GoodId → List Column → List Figures → Figures → Plan → Members → Members
 with_plan g labels goods columns rows total plan ms =
@@ -187,7 +184,7 @@ abbrev pub exchange_value : Game → List (List ℕ) → Exchange → Data
 exchange_value g labels e = object (with_exchange g labels e no_members)
 
 unfoldable pub with_trail : Game → List (List ℕ) → List Exchange → Members → Members
-with_trail g labels trail ms = with_list (codes "trail") (items_tree (exchange_value g labels) trail) ms
+with_trail g labels trail ms = with_list (codes "trail") (items_of (map (exchange_value g labels) trail)) ms
 
 -- the number that is past the limits
 unfoldable pub with_place : Game → List (List ℕ) → Place → Members → Members

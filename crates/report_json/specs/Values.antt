@@ -1,6 +1,6 @@
 -- The members that replies are put together from. Each function of this file puts a member into those that are there. What is not so
 -- has its member all the same: a list may be empty, and a figure past the limits of fractions is `null`.
-use Rattle.std.specs.Prelude.{ℕ, ◌+◌, ◌-◌, ◌==◌, Bool, List, [], ◌∷◌, ◌++◌, Option, Some, None, codes, if◌then◌else◌, nat_lt}
+use Rattle.std.specs.Prelude.{ℕ, ◌+◌, ◌-◌, ◌==◌, Bool, List, [], ◌∷◌, ◌++◌, Option, Some, None, codes, if◌then◌else◌, map, nat_lt}
 use Rattle.fractions.specs.Fraction.{Fraction}
 use Rattle.fractions.specs.Print.{printed}
 use Rattle.plan_base.specs.declared.ids.GoodId.{GoodId}
@@ -10,7 +10,8 @@ use Rattle.script_reader.specs.Fields.{kind_word}
 use Rattle.game_types.specs.declared.games.Game.{Game}
 use Rattle.node_report.specs.Nodes.{name_at, solid_and_fluid}
 use Rattle.serde_json.specs.Data.{array, boolean, Data, Items, Members, no_members, null, number, object, put, string, unsigned}
-use Rattle.catalog_members.specs.Members.{id_text, id_value, items_tree, with_amount, with_id, with_object, with_text}
+use Rattle.serde_json.specs.View.{items_of}
+use Rattle.catalog_members.specs.Members.{id_text, id_value, with_amount, with_id, with_object, with_text}
 use Rattle.report_json.specs.Numbers.{decimal_of}
 
 -- ---- single members
@@ -47,7 +48,7 @@ unfoldable pub with_node : Game → NodeId → Members → Members
 with_node g node ms = with_id (codes "node") g node ms
 
 unfoldable pub with_nodes : List ℕ → Game → List NodeId → Members → Members
-with_nodes key g nodes ms = with_list key (items_tree (id_value g) nodes) ms
+with_nodes key g nodes ms = with_list key (items_of (map (id_value g) nodes)) ms
 
 -- A good of a table by its name. Behind the items and the fluids stands electric power, and behind it each technology.
 unfoldable pub good_id : Game → GoodId → List ℕ

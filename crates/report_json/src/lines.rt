@@ -19,7 +19,7 @@ use std::alloc::Global;
 
 #[tactic(auto, unfolding(crate::specs::Lines::with_line))]
 fn put_line(members: &mut Members, alloc: Global, words: Option<&str>) -> Result<(), NoMemory>
-    ensures { OnOk result (members_view members.new.entries ≡ with_line (option_map (λ w. w.now) words) (members_view members.old.entries)) }
+    ensures { OnOk result (members_view members.new.entries ≡ with_line (option_map (λ w. w.now) words.entry) (members_view members.old.entries)) }
 {
     match words {
         Some(words) => put_text(members, alloc, "command", words),
@@ -45,7 +45,7 @@ fn object_text(
     reply: &Reply,
 ) -> Result<String, NoMemory>
     requires { IsSound game.now }
-    ensures { IfOk result (λ text. IsTextOf (line_value game.now number (option_map (λ w. w.now) words) reply.now) (string_bytes text)) }
+    ensures { IfOk result (λ text. IsTextOf (line_value game.now number (option_map (λ w. w.now) words.entry) reply.now) (string_bytes text)) }
 {
     let mut members = Map::new(alloc);
     put_whole(&mut members, alloc, "line", u64::from(number))?;
@@ -68,7 +68,7 @@ pub fn line_text(
     reply: &Reply,
 ) -> Result<String, NoMemory>
     requires { IsSound game.now }
-    ensures { IfOk result (λ text. IsJsonLine (line_value game.now number (option_map (λ w. w.now) words) reply.now) (string_bytes text)) }
+    ensures { IfOk result (λ text. IsJsonLine (line_value game.now number (option_map (λ w. w.now) words.entry) reply.now) (string_bytes text)) }
 {
     let mut text = object_text(alloc, game, number, words, reply)?;
     text.push('\n')?;

@@ -1,8 +1,8 @@
 //! Lists of nodes.
-ghost use Rattle.std.specs.Prelude.{◌≡◌, IfOk, OnOk};
+ghost use Rattle.std.specs.Prelude.{◌≡◌, IfOk, OnOk, map};
 ghost use Rattle.game_types.specs.Sound.{IsSound};
 ghost use Rattle.serde_json.specs.View.{items_view, members_view, view};
-ghost use Rattle.catalog_members.specs.Members.{id_value, items_tree};
+ghost use Rattle.catalog_members.specs.Members.{id_value};
 ghost use Rattle.report_json.specs.Values.{with_nodes};
 
 use crate::values::{push, put_list};
@@ -20,10 +20,10 @@ fn id_value(alloc: Global, game: &Game, node: NodeId) -> Result<Value, NoMemory>
     Ok(Value::String(text))
 }
 
-#[tactic(auto, using(catalog_members::proofs::Listing::none_written, catalog_members::proofs::Listing::one_written, catalog_members::proofs::Listing::all_written))]
+#[tactic(auto, using(crate::proofs::Listing::none_told, crate::proofs::Listing::one_told, crate::proofs::Listing::all_told))]
 fn id_values(alloc: Global, game: &Game, nodes: &[NodeId]) -> Result<Vec<Value>, NoMemory>
     requires { IsSound game.now }
-    ensures { IfOk result (λ list. items_view list.items ≡ items_tree (id_value game.now) nodes.now) }
+    ensures { IfOk result (λ list. map view list.items ≡ map (id_value game.now) nodes.now) }
 {
     let mut list = Vec::new(alloc);
     for node in nodes {

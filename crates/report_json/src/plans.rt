@@ -1,13 +1,12 @@
 //! What the solver says of a table.
-ghost use Rattle.std.specs.Prelude.{◌≡◌, [], IfOk, OnOk, slice_index_or, string_bytes};
-ghost use Rattle.std.specs.List.{zip};
+ghost use Rattle.std.specs.Prelude.{◌≡◌, ◌++◌, ◌∷◌, [], IfOk, OnOk, map, slice_index_or, string_bytes};
+ghost use Rattle.std.specs.List.{flat_map, zip};
 ghost use Rattle.game_types.specs.Sound.{IsSound};
 ghost use Rattle.plan_report.specs.Plans.{column_kind};
 ghost use Rattle.plan_report.specs.declared.reply.RefusalCode.TheVariants as codes_of;
 ghost use Rattle.serde_json.specs.Data.{no_members};
 ghost use Rattle.serde_json.specs.View.{items_view, members_view, view};
-ghost use Rattle.catalog_members.specs.Members.{items_tree};
-ghost use Rattle.report_json.specs.Replies.{column_id, exchange_value, price_value, row_value, stream_value, streams_tree, with_answer, with_column, with_exchange, with_infeasible, with_out_of_budget, with_place, with_plan, with_prices, with_row, with_rows, with_solved, with_stream, with_streams, with_too_wide, with_trail, with_uses};
+ghost use Rattle.report_json.specs.Replies.{column_id, exchange_value, price_value, row_value, stream_value, streams_of, with_answer, with_column, with_exchange, with_infeasible, with_out_of_budget, with_place, with_plan, with_prices, with_row, with_rows, with_solved, with_stream, with_streams, with_too_wide, with_trail, with_uses};
 
 use crate::numbers::{put_figure, put_number};
 use crate::refusals::put_code;
@@ -63,13 +62,14 @@ fn row_value(
     Ok(value_of(members))
 }
 
+#[tactic(auto, using(crate::proofs::Listing::one_given))]
 fn row_values(
     alloc: Global,
     labels: &[Text],
     rates: &[Ratio],
     rows: &[Figures],
 ) -> Result<Vec<Value>, NoMemory>
-    ensures { IfOk result (λ list. items_view list.items ≡ items_tree row_value (zip labels.now (zip rates.now rows.now))) }
+    ensures { IfOk result (λ list. map view list.items ≡ map row_value (zip labels.now (zip rates.now rows.now))) }
 {
     let mut list = Vec::new(alloc);
     for (label, (rate, figures)) in labels.iter().zip(rates.iter().zip(rows)) {
@@ -129,27 +129,38 @@ fn stream_value(
     Ok(value_of(members))
 }
 
-// The value of an import or a surplus. A row has its own elsewhere, and a single good has none.
-fn stream_of(
+// Puts an import or a surplus behind others.
+fn push_stream(
+    list: &mut Vec<Value>,
+    alloc: Global,
+    game: &Game,
+    kind: &str,
+    good: GoodId,
+    rate: &Ratio,
+) -> Result<(), NoMemory>
+    requires { IsSound game.now }
+    ensures { OnOk result (map view list.new.items ≡ map view list.old.items ++ stream_value game.now kind.now good rate.now ∷ []) }
+{
+    let value = stream_value(alloc, game, kind, good, rate)?;
+    push(list, value)
+}
+
+// Puts a column behind others where it is an import or a surplus. A row stands elsewhere, and there is no single good.
+fn push_column(
+    list: &mut Vec<Value>,
     alloc: Global,
     game: &Game,
     column: &Column,
     rate: &Ratio,
-) -> Result<Option<Value>, NoMemory>
+) -> Result<(), NoMemory>
     requires { IsSound game.now }
+    ensures { OnOk result (map view list.new.items ≡ map view list.old.items ++ streams_of game.now (column.now, rate.now)) }
 {
     match column {
-        Column::Import(good) => Ok(Some(stream_value(alloc, game, "import", *good, rate)?)),
-        Column::Surplus(good) => Ok(Some(stream_value(alloc, game, "surplus", *good, rate)?)),
-        Column::Line(_) => Ok(None),
-        Column::Unit(_) => Ok(None),
-    }
-}
-
-fn push_stream(list: &mut Vec<Value>, stream: Option<Value>) -> Result<(), NoMemory> {
-    match stream {
-        Some(value) => push(list, value),
-        None => Ok(()),
+        Column::Import(good) => push_stream(list, alloc, game, "import", *good, rate),
+        Column::Surplus(good) => push_stream(list, alloc, game, "surplus", *good, rate),
+        Column::Line(_) => Ok(()),
+        Column::Unit(_) => Ok(()),
     }
 }
 
@@ -160,12 +171,11 @@ fn stream_values(
     rates: &[Ratio],
 ) -> Result<Vec<Value>, NoMemory>
     requires { IsSound game.now }
-    ensures { IfOk result (λ list. items_view list.items ≡ streams_tree game.now (zip columns.now rates.now)) }
+    ensures { IfOk result (λ list. map view list.items ≡ flat_map (streams_of game.now) (zip columns.now rates.now)) }
 {
     let mut list = Vec::new(alloc);
     for (column, rate) in columns.iter().zip(rates) {
-        let stream = stream_of(alloc, game, column, rate)?;
-        push_stream(&mut list, stream)?;
+        push_column(&mut list, alloc, game, column, rate)?;
     }
     Ok(list)
 }
@@ -202,6 +212,7 @@ fn price_value(
     Ok(value_of(members))
 }
 
+#[tactic(auto, using(crate::proofs::Listing::one_given))]
 fn price_values(
     alloc: Global,
     game: &Game,
@@ -209,7 +220,7 @@ fn price_values(
     prices: &[Ratio],
 ) -> Result<Vec<Value>, NoMemory>
     requires { IsSound game.now }
-    ensures { IfOk result (λ list. items_view list.items ≡ items_tree (price_value game.now) (zip goods.now prices.now)) }
+    ensures { IfOk result (λ list. map view list.items ≡ map (price_value game.now) (zip goods.now prices.now)) }
 {
     let mut list = Vec::new(alloc);
     for (good, price) in goods.iter().zip(prices) {
@@ -399,7 +410,7 @@ fn exchange_value(
     Ok(value_of(members))
 }
 
-#[tactic(auto, using(catalog_members::proofs::Listing::none_written, catalog_members::proofs::Listing::one_written, catalog_members::proofs::Listing::all_written))]
+#[tactic(auto, using(crate::proofs::Listing::none_told, crate::proofs::Listing::one_told, crate::proofs::Listing::all_told))]
 fn exchange_values(
     alloc: Global,
     game: &Game,
@@ -407,7 +418,7 @@ fn exchange_values(
     trail: &[Exchange],
 ) -> Result<Vec<Value>, NoMemory>
     requires { IsSound game.now }
-    ensures { IfOk result (λ list. items_view list.items ≡ items_tree (exchange_value game.now labels.now) trail.now) }
+    ensures { IfOk result (λ list. map view list.items ≡ map (exchange_value game.now labels.now) trail.now) }
 {
     let mut list = Vec::new(alloc);
     for exchange in trail {

@@ -1,8 +1,7 @@
 //! The replies to questions about nodes, and the summary.
-ghost use Rattle.std.specs.Prelude.{◌≡◌, IfOk, OnOk};
+ghost use Rattle.std.specs.Prelude.{◌≡◌, IfOk, OnOk, map};
 ghost use Rattle.game_types.specs.Sound.{IsSound};
 ghost use Rattle.serde_json.specs.View.{items_view, members_view, view};
-ghost use Rattle.catalog_members.specs.Members.{items_tree};
 ghost use Rattle.report_json.specs.Replies.{group_value, ranked_value, support_value, with_history, with_listed, with_mask, with_milestones, with_missing, with_ranked, with_reach, with_summary, with_why};
 
 use crate::lists::put_nodes;
@@ -45,27 +44,27 @@ pub fn put_reach(
     put_ranked(members, alloc, game, node, rank)
 }
 
-fn ranked_value(alloc: Global, game: &Game, node: NodeId, rank: u32) -> Result<Value, NoMemory>
+fn ranked_value(alloc: Global, game: &Game, pair: &(NodeId, u32)) -> Result<Value, NoMemory>
     requires { IsSound game.now }
-    ensures { IfOk result (λ value. view value ≡ ranked_value game.now (node, rank)) }
+    ensures { IfOk result (λ value. view value ≡ ranked_value game.now pair.now) }
 {
     let mut members = Map::new(alloc);
-    put_ranked(&mut members, alloc, game, node, rank)?;
+    put_ranked(&mut members, alloc, game, pair.0, pair.1)?;
     Ok(value_of(members))
 }
 
-#[tactic(auto, using(catalog_members::proofs::Listing::none_written, catalog_members::proofs::Listing::one_written, catalog_members::proofs::Listing::all_written))]
+#[tactic(auto, using(crate::proofs::Listing::none_told, crate::proofs::Listing::one_told, crate::proofs::Listing::all_told))]
 fn ranked_values(
     alloc: Global,
     game: &Game,
     nodes: &[(NodeId, u32)],
 ) -> Result<Vec<Value>, NoMemory>
     requires { IsSound game.now }
-    ensures { IfOk result (λ list. items_view list.items ≡ items_tree (ranked_value game.now) nodes.now) }
+    ensures { IfOk result (λ list. map view list.items ≡ map (ranked_value game.now) nodes.now) }
 {
     let mut list = Vec::new(alloc);
-    for (node, rank) in nodes {
-        push(&mut list, ranked_value(alloc, game, *node, *rank)?)?;
+    for pair in nodes {
+        push(&mut list, ranked_value(alloc, game, pair)?)?;
     }
     Ok(list)
 }
@@ -91,34 +90,29 @@ pub fn put_listed(
 fn support_value(
     alloc: Global,
     game: &Game,
-    node: NodeId,
-    rank: u32,
-    granted: bool,
+    support: &(NodeId, u32, bool),
 ) -> Result<Value, NoMemory>
     requires { IsSound game.now }
-    ensures { IfOk result (λ value. view value ≡ support_value game.now (node, rank, granted)) }
+    ensures { IfOk result (λ value. view value ≡ support_value game.now support.now) }
 {
     let mut members = Map::new(alloc);
-    put_ranked(&mut members, alloc, game, node, rank)?;
-    put_flag(&mut members, alloc, "granted", granted)?;
+    put_ranked(&mut members, alloc, game, support.0, support.1)?;
+    put_flag(&mut members, alloc, "granted", support.2)?;
     Ok(value_of(members))
 }
 
-#[tactic(auto, using(catalog_members::proofs::Listing::none_written, catalog_members::proofs::Listing::one_written, catalog_members::proofs::Listing::all_written))]
+#[tactic(auto, using(crate::proofs::Listing::none_told, crate::proofs::Listing::one_told, crate::proofs::Listing::all_told))]
 fn support_values(
     alloc: Global,
     game: &Game,
     nodes: &[(NodeId, u32, bool)],
 ) -> Result<Vec<Value>, NoMemory>
     requires { IsSound game.now }
-    ensures { IfOk result (λ list. items_view list.items ≡ items_tree (support_value game.now) nodes.now) }
+    ensures { IfOk result (λ list. map view list.items ≡ map (support_value game.now) nodes.now) }
 {
     let mut list = Vec::new(alloc);
-    for (node, rank, granted) in nodes {
-        push(
-            &mut list,
-            support_value(alloc, game, *node, *rank, *granted)?,
-        )?;
+    for support in nodes {
+        push(&mut list, support_value(alloc, game, support)?)?;
     }
     Ok(list)
 }
@@ -144,30 +138,29 @@ pub fn put_why(
 fn group_value(
     alloc: Global,
     game: &Game,
-    all: bool,
-    nodes: &[NodeId],
+    group: &(bool, Items<NodeId>),
 ) -> Result<Value, NoMemory>
     requires { IsSound game.now }
-    ensures { IfOk result (λ value. view value ≡ group_value game.now (all, nodes.now)) }
+    ensures { IfOk result (λ value. view value ≡ group_value game.now group.now) }
 {
     let mut members = Map::new(alloc);
-    put_flag(&mut members, alloc, "all", all)?;
-    put_nodes(&mut members, alloc, "nodes", game, nodes)?;
+    put_flag(&mut members, alloc, "all", group.0)?;
+    put_nodes(&mut members, alloc, "nodes", game, group.1.as_slice())?;
     Ok(value_of(members))
 }
 
-#[tactic(auto, using(catalog_members::proofs::Listing::none_written, catalog_members::proofs::Listing::one_written, catalog_members::proofs::Listing::all_written))]
+#[tactic(auto, using(crate::proofs::Listing::none_told, crate::proofs::Listing::one_told, crate::proofs::Listing::all_told))]
 fn group_values(
     alloc: Global,
     game: &Game,
     groups: &[(bool, Items<NodeId>)],
 ) -> Result<Vec<Value>, NoMemory>
     requires { IsSound game.now }
-    ensures { IfOk result (λ list. items_view list.items ≡ items_tree (group_value game.now) groups.now) }
+    ensures { IfOk result (λ list. map view list.items ≡ map (group_value game.now) groups.now) }
 {
     let mut list = Vec::new(alloc);
-    for (all, nodes) in groups {
-        push(&mut list, group_value(alloc, game, *all, nodes.as_slice())?)?;
+    for group in groups {
+        push(&mut list, group_value(alloc, game, group)?)?;
     }
     Ok(list)
 }
