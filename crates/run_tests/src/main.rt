@@ -1,4 +1,5 @@
-//! Tests of stores and sinks. The program copies a file to the standard output, by pieces of 16 bytes.
+//! Tests of stores and sinks, of samples, and of whole runs over files in memory, also over slow ones, and where each of their calls fails once.
+//! The program copies a file to the standard output, by pieces of 16 bytes.
 #![tactic(auto)]
 
 ghost use Rattle.std.specs.Prelude.{◌≡◌, ◌<◌, IsTrue};
@@ -7,7 +8,21 @@ use plan_io::{Failed, HostSink, HostStore, Sink, Store};
 use std::process::ExitCode;
 
 #[cfg(test)]
-mod tests;
+mod memory;
+#[cfg(test)]
+mod pieces;
+#[cfg(test)]
+mod runs;
+#[cfg(test)]
+mod samples;
+#[cfg(test)]
+mod slow_runs;
+#[cfg(test)]
+mod stores;
+#[cfg(test)]
+mod texts;
+#[cfg(test)]
+mod trials;
 
 // Copies the next piece of a file. Answers whether there was one.
 fn copy_piece<S: Store, K: Sink>(store: &mut S, slot: u32, out: &mut K) -> Result<bool, Failed>
