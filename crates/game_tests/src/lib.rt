@@ -1,14 +1,8 @@
-//! Tests of what a dump is read as, of the records of a game, and of the rates of machines.
+//! Tests of the records of a game, of the rates of machines, and of the script's lines.
 #![tactic(auto)]
 
 #[cfg(test)]
 mod copies;
-#[cfg(test)]
-mod crafts;
-#[cfg(test)]
-mod drafts;
-#[cfg(test)]
-mod faults;
 #[cfg(test)]
 mod fields;
 #[cfg(test)]
@@ -16,6 +10,6 @@ mod fitting;
 #[cfg(test)]
 mod games;
 #[cfg(test)]
-mod rates;
+mod lines;
 #[cfg(test)]
-mod trees;
+mod rates;
