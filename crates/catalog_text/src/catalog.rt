@@ -7,7 +7,6 @@ ghost use Rattle.game_types.specs.Nodes.{shape_of};
 ghost use Rattle.game_types.specs.Sound.{IsSound};
 ghost use Rattle.depend_index.specs.Indexed.{IsIndex};
 ghost use Rattle.state_changes.specs.States.{State};
-ghost use Rattle.planner_core.specs.Lines.{IsSessionOf};
 ghost use Rattle.planner_questions.specs.Told.{mask_of, places_of};
 ghost use Rattle.serde_json.specs.Written.{comma_if};
 ghost use Rattle.catalog_members.specs.Members.{id_text};
@@ -58,7 +57,6 @@ fn mask_places<L>(
     node: NodeId,
     steps: &mut Steps<L>,
 ) -> Result<Vec<usize>, NoMemory>
-    requires session { (base : State) × IsSessionOf base planner.old }
     requires free { planner.old.batch ≡ None }
     requires milestones { milestones.now ≡ planner.old.state.milestones }
     requires node { node.0 < node_count (shape_of planner.old.state.book.game) }
@@ -88,7 +86,6 @@ fn thing_of<L>(
     number: u32,
     steps: &mut Steps<L>,
 ) -> Result<Thing, NoMemory>
-    requires session { (base : State) × IsSessionOf base planner.old }
     requires free { planner.old.batch ≡ None }
     requires milestones { milestones.now ≡ planner.old.state.milestones }
     requires number { number < count_of (shape_of planner.old.state.book.game) kind }
@@ -156,7 +153,6 @@ fn write_thing<L>(
     text: &mut String,
     steps: &mut Steps<L>,
 ) -> Result<(), NoMemory>
-    requires session { (base : State) × IsSessionOf base planner.old }
     requires free { planner.old.batch ≡ None }
     requires sources { AreSources planner.old.state sources.now.index.now sources.now.milestones.now }
     requires number { number < count_of (shape_of planner.old.state.book.game) kind }
@@ -178,7 +174,6 @@ fn write_things<L>(
     text: &mut String,
     steps: &mut Steps<L>,
 ) -> Result<(), NoMemory>
-    requires session { (base : State) × IsSessionOf base planner.old }
     requires free { planner.old.batch ≡ None }
     requires sources { AreSources planner.old.state sources.now.index.now sources.now.milestones.now }
     requires count { count ≡ count_of (shape_of planner.old.state.book.game) kind }
@@ -201,7 +196,6 @@ fn write_section<L>(
     text: &mut String,
     steps: &mut Steps<L>,
 ) -> Result<(), NoMemory>
-    requires session { (base : State) × IsSessionOf base planner.old }
     requires free { planner.old.batch ≡ None }
     requires sources { AreSources planner.old.state sources.now.index.now sources.now.milestones.now }
     ensures stays { planner.new ≡ planner.old }
@@ -267,7 +261,6 @@ fn write_front<L>(
     text: &mut String,
     steps: &mut Steps<L>,
 ) -> Result<(), NoMemory>
-    requires session { (base : State) × IsSessionOf base planner.old }
     requires free { planner.old.batch ≡ None }
     requires sources { AreSources planner.old.state sources.now.index.now sources.now.milestones.now }
     ensures stays { planner.new ≡ planner.old }
@@ -303,7 +296,6 @@ fn write_back<L>(
     text: &mut String,
     steps: &mut Steps<L>,
 ) -> Result<(), NoMemory>
-    requires session { (base : State) × IsSessionOf base planner.old }
     requires free { planner.old.batch ≡ None }
     requires sources { AreSources planner.old.state sources.now.index.now sources.now.milestones.now }
     ensures stays { planner.new ≡ planner.old }
@@ -356,7 +348,6 @@ fn text_from<L>(
     sources: &Sources<'_>,
     steps: &mut Steps<L>,
 ) -> Result<String, NoMemory>
-    requires session { (base : State) × IsSessionOf base planner.old }
     requires free { planner.old.batch ≡ None }
     requires sources { AreSources planner.old.state sources.now.index.now sources.now.milestones.now }
     ensures stays { planner.new ≡ planner.old }
@@ -377,7 +368,6 @@ fn text_behind<L>(
     shown: &ShownFields,
     steps: &mut Steps<L>,
 ) -> Result<String, NoMemory>
-    requires session { (base : State) × IsSessionOf base planner.old }
     requires free { planner.old.batch ≡ None }
     requires milestones { milestones.now ≡ planner.old.state.milestones }
     ensures stays { planner.new ≡ planner.old }
@@ -403,7 +393,6 @@ pub fn catalog_text<L>(
     shown: &ShownFields,
     steps: &mut Steps<L>,
 ) -> Result<Option<String>, NoMemory>
-    requires session { (base : State) × IsSessionOf base planner.old }
     ensures stays { planner.new ≡ planner.old }
     ensures catalog { IfOk result (λ told. IfSome told (λ text. IsCatalog planner.old.state (string_bytes text))) }
 {

@@ -1,6 +1,4 @@
 //! From the files of a run to the catalog.
-ghost use Rattle.state_changes.specs.States.{State};
-ghost use Rattle.planner_core.specs.Lines.{IsSessionOf};
 
 use catalog_text::catalog_text;
 use plan_base::{NoMemory, Steps};
@@ -25,8 +23,6 @@ fn take_line<L>(
     line: &[u8],
     steps: &mut Steps<L>,
 ) -> Result<bool, Status>
-    requires { (base : State) × IsSessionOf base planner.old }
-    ensures { (base : State) × IsSessionOf base planner.new }
 {
     match answered(alloc, planner, number, line, steps) {
         Ok(reply) => Ok(is_refusal(&reply)),
@@ -41,8 +37,6 @@ fn take_lines<L>(
     script: &[u8],
     steps: &mut Steps<L>,
 ) -> Result<bool, Status>
-    requires { (base : State) × IsSessionOf base planner.old }
-    ensures { (base : State) × IsSessionOf base planner.new }
 {
     let mut rest = script;
     let mut number: u32 = 0;
@@ -61,8 +55,6 @@ fn take_lines<L>(
 
 // Closes a batch that is open. What it holds isn't done.
 fn close_batch<L>(planner: &mut Planner, steps: &mut Steps<L>) -> Result<(), Status>
-    requires { (base : State) × IsSessionOf base planner.old }
-    ensures { (base : State) × IsSessionOf base planner.new }
 {
     match step(planner, 0, Command::Cancel, steps) {
         Ok(_) => Ok(()),
@@ -77,7 +69,6 @@ fn text_of<L>(
     shown: &ShownFields,
     steps: &mut Steps<L>,
 ) -> Result<String, Status>
-    requires { (base : State) × IsSessionOf base planner.old }
 {
     match catalog_text(alloc, planner, shown, steps) {
         Ok(Some(text)) => Ok(text),
@@ -94,7 +85,6 @@ fn text_behind<L>(
     shown: &ShownFields,
     steps: &mut Steps<L>,
 ) -> Result<(String, bool), Status>
-    requires { (base : State) × IsSessionOf base planner.old }
 {
     let refused = take_lines(alloc, planner, script, steps)?;
     close_batch(planner, steps)?;
@@ -108,7 +98,6 @@ fn text_of_ready<L>(
     shown: &ShownFields,
     steps: &mut Steps<L>,
 ) -> Result<(String, bool), Status>
-    requires { (base : State) × IsSessionOf base ready.planner }
 {
     let Ready {
         mut planner,
@@ -134,7 +123,6 @@ fn written_ready<R: Files + Print, L>(
     names: Names<'_>,
     steps: &mut Steps<L>,
 ) -> End
-    requires { (base : State) × IsSessionOf base ready.planner }
 {
     match text_of_ready(alloc, ready, shown, steps) {
         Ok((text, refused)) => written(rt, alloc, text.as_bytes(), u8::from(refused), names),
@@ -149,7 +137,6 @@ fn shown_end<R: Files + Print, L>(
     names: Names<'_>,
     steps: &mut Steps<L>,
 ) -> End
-    requires { (base : State) × IsSessionOf base ready.planner }
 {
     match shown_in(rt, alloc, names.dump) {
         Ok(shown) => written_ready(rt, alloc, ready, &shown, names, steps),

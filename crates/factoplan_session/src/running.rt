@@ -1,6 +1,4 @@
 //! From the file of a dump to the end of a session.
-ghost use Rattle.state_changes.specs.States.{State};
-ghost use Rattle.planner_core.specs.Lines.{IsSessionOf};
 
 use plan_base::{NoMemory, Steps};
 use plan_io::HostSink;
@@ -48,7 +46,6 @@ fn serve_lent<R: Print + Input, L>(
     shown: ShownFields,
     steps: &mut Steps<L>,
 ) -> Status
-    requires { (base : State) × IsSessionOf base planner.old }
 {
     let mut session = Session::new(alloc, shown, TableWishes {});
     let mut input = rt.reader();
@@ -63,7 +60,6 @@ fn serve_ready<R: Print + Input, L>(
     shown: ShownFields,
     steps: &mut Steps<L>,
 ) -> Status
-    requires { (base : State) × IsSessionOf base ready.planner }
 {
     let Ready {
         mut planner,
@@ -79,7 +75,6 @@ fn shown_status<R: Files + Print + Input, L>(
     names: Names<'_>,
     steps: &mut Steps<L>,
 ) -> Status
-    requires { (base : State) × IsSessionOf base ready.planner }
 {
     match shown_in(rt, alloc, names.dump) {
         Ok(shown) => serve_ready(rt, alloc, ready, shown, steps),

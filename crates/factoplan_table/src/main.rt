@@ -1,8 +1,6 @@
 //! Prints the lines of a script that make a table for a wish. What went wrong is said on standard error.
 #![tactic(auto)]
 
-ghost use Rattle.state_changes.specs.States.{State};
-ghost use Rattle.planner_core.specs.Lines.{IsSessionOf};
 
 mod belts;
 mod next;
@@ -47,7 +45,6 @@ fn add_lines<L>(
     said: &mut String,
     steps: &mut Steps<L>,
 ) -> Result<(), Failure>
-    requires { (base : State) × IsSessionOf base planner.old }
 {
     let command = command_for(alloc, asked)?;
     whole_script(
@@ -72,7 +69,6 @@ fn add_last_lines<L>(
     said: &mut String,
     steps: &mut Steps<L>,
 ) -> Result<(), Failure>
-    requires { (base : State) × IsSessionOf base planner }
 {
     let mut planner = planner;
     add_lines(alloc, &mut planner, script, asked, belt, said, steps)
@@ -87,7 +83,6 @@ fn script_for<L>(
     said: &mut String,
     steps: &mut Steps<L>,
 ) -> Result<Vec<u8>, Failure>
-    requires { (base : State) × IsSessionOf base ready.planner }
 {
     let Ready {
         planner,

@@ -1,6 +1,4 @@
 //! The graph of a table's plan behind the last line of a script.
-ghost use Rattle.state_changes.specs.States.{State};
-ghost use Rattle.planner_core.specs.Lines.{IsSessionOf};
 ghost use Rattle.game_types.specs.Sound.{IsSound};
 ghost use Rattle.planner_tables.specs.Effects.{AreSoundTables, IsSoundOn};
 
@@ -30,8 +28,6 @@ fn answer_line<L>(
     line: &[u8],
     steps: &mut Steps<L>,
 ) -> Result<(), NoMemory>
-    requires { (base : State) × IsSessionOf base planner.old }
-    ensures { (base : State) × IsSessionOf base planner.new }
 {
     let _reply = answered(alloc, planner, number, line, steps)?;
     Ok(())
@@ -44,8 +40,6 @@ fn answer_lines<L>(
     script: &[u8],
     steps: &mut Steps<L>,
 ) -> Result<(), PageFault>
-    requires { (base : State) × IsSessionOf base planner.old }
-    ensures { (base : State) × IsSessionOf base planner.new }
 {
     let mut rest = script;
     let mut number: u32 = 0;
@@ -63,8 +57,6 @@ fn answer_lines<L>(
 
 // Closes a batch that is open. What it holds isn't done.
 fn close_batch<L>(planner: &mut Planner, steps: &mut Steps<L>) -> Result<(), NoMemory>
-    requires { (base : State) × IsSessionOf base planner.old }
-    ensures { (base : State) × IsSessionOf base planner.new }
 {
     let number = 0;
     let _reply = step(planner, number, Command::Cancel, steps)?;
@@ -78,7 +70,6 @@ fn solved<L>(
     name: &str,
     steps: &mut Steps<L>,
 ) -> Result<Reply, NoMemory>
-    requires { (base : State) × IsSessionOf base planner.old }
 {
     let number = 0;
     let table = Text::copy(alloc, name)?;
@@ -222,7 +213,6 @@ fn flow_in<L>(
     name: &str,
     steps: &mut Steps<L>,
 ) -> Result<String, PageFault>
-    requires { (base : State) × IsSessionOf base planner.old }
 {
     answer_lines(alloc, planner, script, steps)?;
     close_batch(planner, steps)?;
@@ -242,7 +232,6 @@ pub fn flow_of<L>(
     name: &str,
     steps: &mut Steps<L>,
 ) -> Result<String, PageFault>
-    requires { (base : State) × IsSessionOf base ready.planner }
 {
     let Ready {
         mut planner,

@@ -1,7 +1,5 @@
 //! The lines of a script, and the page of their replies.
 ghost use Rattle.game_types.specs.Sound.{IsSound};
-ghost use Rattle.state_changes.specs.States.{State};
-ghost use Rattle.planner_core.specs.Lines.{IsSessionOf};
 ghost use Rattle.planner_tables.specs.Effects.{AreSoundTables, IsSoundOn};
 
 use crate::fault::PageFault;
@@ -105,8 +103,6 @@ fn add_line<L>(
     page: &mut Page,
     steps: &mut Steps<L>,
 ) -> Result<bool, NoMemory>
-    requires { (base : State) × IsSessionOf base planner.old }
-    ensures { (base : State) × IsSessionOf base planner.new }
 {
     let reply = answered(alloc, planner, number, bytes, steps)?;
     let line = Line {
@@ -125,7 +121,6 @@ fn add_lines<L>(
     page: &mut Page,
     steps: &mut Steps<L>,
 ) -> Result<bool, PageFault>
-    requires { (base : State) × IsSessionOf base planner.old }
 {
     let mut rest = script;
     let mut number: u32 = 0;
@@ -149,7 +144,6 @@ fn page_in<L>(
     script: &[u8],
     steps: &mut Steps<L>,
 ) -> Result<(String, bool), PageFault>
-    requires { (base : State) × IsSessionOf base planner.old }
 {
     let mut page = Page::new(alloc);
     let refused = add_lines(alloc, planner, script, &mut page, steps)?;
@@ -167,7 +161,6 @@ pub fn page_of<L>(
     ready: Ready,
     steps: &mut Steps<L>,
 ) -> Result<(String, bool), PageFault>
-    requires { (base : State) × IsSessionOf base ready.planner }
 {
     let Ready {
         mut planner,

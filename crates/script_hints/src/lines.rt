@@ -1,7 +1,4 @@
 //! The lines of a script, looked at a second time.
-ghost use Rattle.std.specs.Prelude.{◌≡◌};
-ghost use Rattle.state_changes.specs.States.{State};
-ghost use Rattle.planner_core.specs.Lines.{IsSessionOf};
 ghost use Rattle.game_types.specs.Sound.{IsSound};
 
 use game_types::Game;
@@ -242,8 +239,6 @@ fn pose_command<L>(
     command: Command,
     steps: &mut Steps<L>,
 ) -> Result<Posed, NoMemory>
-    requires { (base : State) × IsSessionOf base planner.old }
-    ensures { (base : State) × IsSessionOf base planner.new }
 {
     planner.pose(number, command, steps)
 }
@@ -255,8 +250,6 @@ fn carried_out<L>(
     reading: Result<Option<Command>, ScriptFault>,
     steps: &mut Steps<L>,
 ) -> Result<Posed, NoMemory>
-    requires { (base : State) × IsSessionOf base planner.old }
-    ensures { (base : State) × IsSessionOf base planner.new }
 {
     match reading {
         Ok(Some(command)) => pose_command(planner, number, command, steps),
@@ -335,8 +328,6 @@ fn look_at<L>(
     telling: &mut Telling,
     steps: &mut Steps<L>,
 ) -> Result<usize, NoMemory>
-    requires { (base : State) × IsSessionOf base planner.old }
-    ensures { (base : State) × IsSessionOf base planner.new }
 {
     let reading = reading_of(alloc, line.bytes)?;
     let posed = carried_out(planner, line.number, reading, steps)?;
@@ -351,7 +342,6 @@ fn look_at_lines<L>(
     telling: &mut Telling,
     steps: &mut Steps<L>,
 ) -> Result<(), NoMemory>
-    requires { (base : State) × IsSessionOf base planner.old }
 {
     let mut rest = script.bytes;
     let mut number: u32 = 0;
@@ -385,7 +375,6 @@ pub fn script_hints<L>(
     script: &Script<'_>,
     steps: &mut Steps<L>,
 ) -> Result<Text, NoMemory>
-    requires { (base : State) × IsSessionOf base planner.old }
 {
     let mut telling = Telling::make(alloc);
     look_at_lines(alloc, planner, script, &mut telling, steps)?;

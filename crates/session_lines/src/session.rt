@@ -1,8 +1,6 @@
 //! A session: lines come in, and each is answered before the next.
 ghost use Rattle.std.specs.Prelude.{◌<◌, IfSome, length};
 ghost use Rattle.std.specs.Io.{ReadsAtMost};
-ghost use Rattle.state_changes.specs.States.{State};
-ghost use Rattle.planner_core.specs.Lines.{IsSessionOf};
 
 use crate::forced::Forced;
 use crate::questions::answer_question;
@@ -112,8 +110,6 @@ fn answer_numbered<W: Wishes, L>(
     line: &[u8],
     steps: &mut Steps<L>,
 ) -> Result<Text, NoMemory>
-    requires { (base : State) × IsSessionOf base planner.old }
-    ensures { (base : State) × IsSessionOf base planner.new }
 {
     let told = answer_script(alloc, planner, number, line, steps)?;
     session.note(&told, number, line)?;
@@ -148,8 +144,6 @@ fn answer<W: Wishes, L>(
     bytes: usize,
     steps: &mut Steps<L>,
 ) -> Result<Text, SessionEnd>
-    requires { (base : State) × IsSessionOf base planner.old }
-    ensures { (base : State) × IsSessionOf base planner.new }
 {
     if is_question(line) {
         let answer = answer_question(
@@ -194,8 +188,6 @@ fn take_line<W: Wishes, K: Sink, L>(
     out: &mut K,
     steps: &mut Steps<L>,
 ) -> Result<(), SessionEnd>
-    requires { (base : State) × IsSessionOf base planner.old }
-    ensures { (base : State) × IsSessionOf base planner.new }
 {
     let text = answer(alloc, planner, session, trim_return(line), bytes, steps)?;
     write_marked(alloc, text.as_str(), out)
@@ -229,8 +221,6 @@ fn take_ended<W: Wishes, K: Sink, L>(
     out: &mut K,
     steps: &mut Steps<L>,
 ) -> Result<(), SessionEnd>
-    requires { (base : State) × IsSessionOf base planner.old }
-    ensures { (base : State) × IsSessionOf base planner.new }
 {
     put_bytes(line, rest)?;
     let bytes = line.len().saturating_add(1);
@@ -249,8 +239,6 @@ fn take_piece<W: Wishes, K: Sink, L>(
     out: &mut K,
     steps: &mut Steps<L>,
 ) -> Result<(), SessionEnd>
-    requires { (base : State) × IsSessionOf base planner.old }
-    ensures { (base : State) × IsSessionOf base planner.new }
 {
     let mut rest = piece;
     // Each line that ends takes a byte at least.
@@ -275,7 +263,6 @@ fn take_last<W: Wishes, K: Sink, L>(
     out: &mut K,
     steps: &mut Steps<L>,
 ) -> Result<(), SessionEnd>
-    requires { (base : State) × IsSessionOf base planner.old }
 {
     if line.is_empty() {
         return Ok(());
@@ -312,8 +299,6 @@ fn serve_by<W: Wishes, I: Read, K: Sink, L>(
     out: &mut K,
     steps: &mut Steps<L>,
 ) -> Result<(), SessionEnd>
-    requires { (base : State) × IsSessionOf base planner.old }
-    ensures { (base : State) × IsSessionOf base planner.new }
 {
     for turn in 0..u64::MAX {
         let _turn = turn;
@@ -339,7 +324,6 @@ pub fn serve<W: Wishes, I: Read, K: Sink, L>(
     out: &mut K,
     steps: &mut Steps<L>,
 ) -> SessionEnd
-    requires { (base : State) × IsSessionOf base planner.old }
 {
     let Ok(mut buffer) = room(alloc) else {
         return SessionEnd::NoMemory;
