@@ -1,5 +1,5 @@
 //! The catalog.
-ghost use Rattle.std.specs.Prelude.{◌≡◌, ◌<◌, ◌++◌, ℕ, IfOk, IfSome, None, OnOk, codes, false, string_bytes};
+ghost use Rattle.std.specs.Prelude.{◌≡◌, ◌<◌, ◌++◌, ℕ, IfNone, IfOk, IfSome, None, OnOk, codes, false, string_bytes};
 ghost use Rattle.json.specs.Print.{quoted};
 ghost use Rattle.plan_base.specs.Shape.{count_of, node_count};
 ghost use Rattle.plan_base.specs.declared.shape.Kind.{Kind};
@@ -7,6 +7,7 @@ ghost use Rattle.game_types.specs.Nodes.{shape_of};
 ghost use Rattle.game_types.specs.Sound.{IsSound};
 ghost use Rattle.depend_index.specs.Indexed.{IsIndex};
 ghost use Rattle.state_changes.specs.States.{State};
+ghost use Rattle.planner_core.specs.Lines.{is_free};
 ghost use Rattle.planner_questions.specs.Told.{mask_of, places_of};
 ghost use Rattle.serde_json.specs.Written.{comma_if};
 ghost use Rattle.catalog_members.specs.Members.{id_text};
@@ -382,7 +383,7 @@ fn text_behind<L>(
     text_from(alloc, planner, &sources, steps)
 }
 
-/// The catalog of a planner's game as one line of JSON. None while a batch is open.
+/// The catalog of a planner's game as one line of JSON. None just while a batch is open.
 ///
 /// # Errors
 ///
@@ -395,6 +396,7 @@ pub fn catalog_text<L>(
 ) -> Result<Option<String>, NoMemory>
     ensures stays { planner.new ≡ planner.old }
     ensures catalog { IfOk result (λ told. IfSome told (λ text. IsCatalog planner.old.state (string_bytes text))) }
+    ensures none { IfOk result (λ told. IfNone told (is_free planner.old.batch ≡ false)) }
 {
     let Some(milestones) = milestones_of(alloc, planner, steps)? else {
         return Ok(None);
