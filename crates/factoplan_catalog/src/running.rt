@@ -22,8 +22,7 @@ fn take_line<L>(
     number: u32,
     line: &[u8],
     steps: &mut Steps<L>,
-) -> Result<bool, Status>
-{
+) -> Result<bool, Status> {
     match answered(alloc, planner, number, line, steps) {
         Ok(reply) => Ok(is_refusal(&reply)),
         Err(NoMemory) => Err(Status::NoMemory),
@@ -36,8 +35,7 @@ fn take_lines<L>(
     planner: &mut Planner,
     script: &[u8],
     steps: &mut Steps<L>,
-) -> Result<bool, Status>
-{
+) -> Result<bool, Status> {
     let mut rest = script;
     let mut number: u32 = 0;
     let mut refused = false;
@@ -54,8 +52,7 @@ fn take_lines<L>(
 }
 
 // Closes a batch that is open. What it holds isn't done.
-fn close_batch<L>(planner: &mut Planner, steps: &mut Steps<L>) -> Result<(), Status>
-{
+fn close_batch<L>(planner: &mut Planner, steps: &mut Steps<L>) -> Result<(), Status> {
     match step(planner, 0, Command::Cancel, steps) {
         Ok(_) => Ok(()),
         Err(NoMemory) => Err(Status::NoMemory),
@@ -68,8 +65,7 @@ fn text_of<L>(
     planner: &mut Planner,
     shown: &ShownFields,
     steps: &mut Steps<L>,
-) -> Result<String, Status>
-{
+) -> Result<String, Status> {
     match catalog_text(alloc, planner, shown, steps) {
         Ok(Some(text)) => Ok(text),
         Ok(None) => Ok(String::new(alloc)),
@@ -84,8 +80,7 @@ fn text_behind<L>(
     script: &[u8],
     shown: &ShownFields,
     steps: &mut Steps<L>,
-) -> Result<(String, bool), Status>
-{
+) -> Result<(String, bool), Status> {
     let refused = take_lines(alloc, planner, script, steps)?;
     close_batch(planner, steps)?;
     let text = text_of(alloc, planner, shown, steps)?;
@@ -97,8 +92,7 @@ fn text_of_ready<L>(
     ready: Ready,
     shown: &ShownFields,
     steps: &mut Steps<L>,
-) -> Result<(String, bool), Status>
-{
+) -> Result<(String, bool), Status> {
     let Ready {
         mut planner,
         script,
@@ -122,8 +116,7 @@ fn written_ready<R: Files + Print, L>(
     shown: &ShownFields,
     names: Names<'_>,
     steps: &mut Steps<L>,
-) -> End
-{
+) -> End {
     match text_of_ready(alloc, ready, shown, steps) {
         Ok((text, refused)) => written(rt, alloc, text.as_bytes(), u8::from(refused), names),
         Err(status) => end_by(rt, alloc, &status, names),
@@ -136,8 +129,7 @@ fn shown_end<R: Files + Print, L>(
     ready: Ready,
     names: Names<'_>,
     steps: &mut Steps<L>,
-) -> End
-{
+) -> End {
     match shown_in(rt, alloc, names.dump) {
         Ok(shown) => written_ready(rt, alloc, ready, &shown, names, steps),
         Err(NoMemory) => end_by(rt, alloc, &Status::NoMemory, names),

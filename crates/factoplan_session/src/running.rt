@@ -45,8 +45,7 @@ fn serve_lent<R: Print + Input, L>(
     planner: &mut Planner,
     shown: ShownFields,
     steps: &mut Steps<L>,
-) -> Status
-{
+) -> Status {
     let mut session = Session::new(alloc, shown, TableWishes {});
     let mut input = rt.reader();
     let mut out = HostSink::make(rt);
@@ -59,8 +58,7 @@ fn serve_ready<R: Print + Input, L>(
     ready: Ready,
     shown: ShownFields,
     steps: &mut Steps<L>,
-) -> Status
-{
+) -> Status {
     let Ready {
         mut planner,
         script: _,
@@ -74,8 +72,7 @@ fn shown_status<R: Files + Print + Input, L>(
     ready: Ready,
     names: Names<'_>,
     steps: &mut Steps<L>,
-) -> Status
-{
+) -> Status {
     match shown_in(rt, alloc, names.dump) {
         Ok(shown) => serve_ready(rt, alloc, ready, shown, steps),
         Err(NoMemory) => Status::NoMemory,

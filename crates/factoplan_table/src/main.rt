@@ -1,7 +1,6 @@
 //! Prints the lines of a script that make a table for a wish. What went wrong is said on standard error.
 #![tactic(auto)]
 
-
 mod belts;
 mod next;
 mod saying;
@@ -44,8 +43,7 @@ fn add_lines<L>(
     belt: Option<Ratio>,
     said: &mut String,
     steps: &mut Steps<L>,
-) -> Result<(), Failure>
-{
+) -> Result<(), Failure> {
     let command = command_for(alloc, asked)?;
     whole_script(
         alloc,
@@ -68,8 +66,7 @@ fn add_last_lines<L>(
     belt: Option<Ratio>,
     said: &mut String,
     steps: &mut Steps<L>,
-) -> Result<(), Failure>
-{
+) -> Result<(), Failure> {
     let mut planner = planner;
     add_lines(alloc, &mut planner, script, asked, belt, said, steps)
 }
@@ -82,8 +79,7 @@ fn script_for<L>(
     belt: Option<Ratio>,
     said: &mut String,
     steps: &mut Steps<L>,
-) -> Result<Vec<u8>, Failure>
-{
+) -> Result<Vec<u8>, Failure> {
     let Ready {
         planner,
         mut script,

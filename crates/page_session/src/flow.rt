@@ -27,8 +27,7 @@ fn answer_line<L>(
     number: u32,
     line: &[u8],
     steps: &mut Steps<L>,
-) -> Result<(), NoMemory>
-{
+) -> Result<(), NoMemory> {
     let _reply = answered(alloc, planner, number, line, steps)?;
     Ok(())
 }
@@ -39,8 +38,7 @@ fn answer_lines<L>(
     planner: &mut Planner,
     script: &[u8],
     steps: &mut Steps<L>,
-) -> Result<(), PageFault>
-{
+) -> Result<(), PageFault> {
     let mut rest = script;
     let mut number: u32 = 0;
     while !rest.is_empty() {
@@ -56,8 +54,7 @@ fn answer_lines<L>(
 }
 
 // Closes a batch that is open. What it holds isn't done.
-fn close_batch<L>(planner: &mut Planner, steps: &mut Steps<L>) -> Result<(), NoMemory>
-{
+fn close_batch<L>(planner: &mut Planner, steps: &mut Steps<L>) -> Result<(), NoMemory> {
     let number = 0;
     let _reply = step(planner, number, Command::Cancel, steps)?;
     Ok(())
@@ -69,8 +66,7 @@ fn solved<L>(
     planner: &mut Planner,
     name: &str,
     steps: &mut Steps<L>,
-) -> Result<Reply, NoMemory>
-{
+) -> Result<Reply, NoMemory> {
     let number = 0;
     let table = Text::copy(alloc, name)?;
     let solve = Command::Solve {
@@ -212,8 +208,7 @@ fn flow_in<L>(
     script: &[u8],
     name: &str,
     steps: &mut Steps<L>,
-) -> Result<String, PageFault>
-{
+) -> Result<String, PageFault> {
     answer_lines(alloc, planner, script, steps)?;
     close_batch(planner, steps)?;
     let reply = solved(alloc, planner, name, steps)?;
@@ -231,8 +226,7 @@ pub fn flow_of<L>(
     ready: Ready,
     name: &str,
     steps: &mut Steps<L>,
-) -> Result<String, PageFault>
-{
+) -> Result<String, PageFault> {
     let Ready {
         mut planner,
         script,

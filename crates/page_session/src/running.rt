@@ -22,8 +22,7 @@ fn page_end<R: Files + Print>(
     ready: Ready,
     names: Names<'_>,
     steps: &mut Steps<Program>,
-) -> End
-{
+) -> End {
     match page_of(alloc, ready, steps) {
         Ok((text, refused)) => written(rt, alloc, text.as_bytes(), u8::from(refused), names),
         Err(fault) => end_by_fault(rt, alloc, fault, names),
@@ -38,8 +37,7 @@ fn flow_end<R: Files + Print>(
     names: Names<'_>,
     table: &str,
     steps: &mut Steps<Program>,
-) -> End
-{
+) -> End {
     match flow_of(alloc, ready, table, steps) {
         Ok(text) => written(rt, alloc, text.as_bytes(), 0, names),
         Err(fault) => end_by_fault(rt, alloc, fault, names),

@@ -102,8 +102,7 @@ fn add_line<L>(
     bytes: &[u8],
     page: &mut Page,
     steps: &mut Steps<L>,
-) -> Result<bool, NoMemory>
-{
+) -> Result<bool, NoMemory> {
     let reply = answered(alloc, planner, number, bytes, steps)?;
     let line = Line {
         number,
@@ -120,8 +119,7 @@ fn add_lines<L>(
     script: &[u8],
     page: &mut Page,
     steps: &mut Steps<L>,
-) -> Result<bool, PageFault>
-{
+) -> Result<bool, PageFault> {
     let mut rest = script;
     let mut number: u32 = 0;
     let mut refused = false;
@@ -143,8 +141,7 @@ fn page_in<L>(
     planner: &mut Planner,
     script: &[u8],
     steps: &mut Steps<L>,
-) -> Result<(String, bool), PageFault>
-{
+) -> Result<(String, bool), PageFault> {
     let mut page = Page::new(alloc);
     let refused = add_lines(alloc, planner, script, &mut page, steps)?;
     let text = page.text(alloc)?;
@@ -160,8 +157,7 @@ pub fn page_of<L>(
     alloc: Global,
     ready: Ready,
     steps: &mut Steps<L>,
-) -> Result<(String, bool), PageFault>
-{
+) -> Result<(String, bool), PageFault> {
     let Ready {
         mut planner,
         script,

@@ -24,8 +24,7 @@ pub fn loaded<R: Files, L>(
     alloc: Global,
     names: Names<'_>,
     steps: &mut Steps<L>,
-) -> Result<Ready, Status>
-{
+) -> Result<Ready, Status> {
     let mut store = HostStore::make(alloc, rt);
     read_files(alloc, names.dump, names.script, &mut store, steps)
 }
@@ -40,8 +39,7 @@ pub fn step<L>(
     number: u32,
     command: Command,
     steps: &mut Steps<L>,
-) -> Result<Reply, NoMemory>
-{
+) -> Result<Reply, NoMemory> {
     planner.step(number, command, steps)
 }
 
@@ -56,8 +54,7 @@ pub fn answered<L>(
     number: u32,
     line: &[u8],
     steps: &mut Steps<L>,
-) -> Result<Reply, NoMemory>
-{
+) -> Result<Reply, NoMemory> {
     let reading = reading_of(alloc, line)?;
     reply_to(planner, number, reading, steps)
 }

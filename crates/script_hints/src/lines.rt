@@ -238,8 +238,7 @@ fn pose_command<L>(
     number: u32,
     command: Command,
     steps: &mut Steps<L>,
-) -> Result<Posed, NoMemory>
-{
+) -> Result<Posed, NoMemory> {
     planner.pose(number, command, steps)
 }
 
@@ -249,8 +248,7 @@ fn carried_out<L>(
     number: u32,
     reading: Result<Option<Command>, ScriptFault>,
     steps: &mut Steps<L>,
-) -> Result<Posed, NoMemory>
-{
+) -> Result<Posed, NoMemory> {
     match reading {
         Ok(Some(command)) => pose_command(planner, number, command, steps),
         Ok(None) => Ok(Posed::Reply(Reply::Nothing)),
@@ -327,8 +325,7 @@ fn look_at<L>(
     solved: usize,
     telling: &mut Telling,
     steps: &mut Steps<L>,
-) -> Result<usize, NoMemory>
-{
+) -> Result<usize, NoMemory> {
     let reading = reading_of(alloc, line.bytes)?;
     let posed = carried_out(planner, line.number, reading, steps)?;
     tell_posed(alloc, planner, script, line, &posed, solved, telling)
@@ -341,8 +338,7 @@ fn look_at_lines<L>(
     script: &Script<'_>,
     telling: &mut Telling,
     steps: &mut Steps<L>,
-) -> Result<(), NoMemory>
-{
+) -> Result<(), NoMemory> {
     let mut rest = script.bytes;
     let mut number: u32 = 0;
     let mut solved: usize = 0;
@@ -374,8 +370,7 @@ pub fn script_hints<L>(
     planner: &mut Planner,
     script: &Script<'_>,
     steps: &mut Steps<L>,
-) -> Result<Text, NoMemory>
-{
+) -> Result<Text, NoMemory> {
     let mut telling = Telling::make(alloc);
     look_at_lines(alloc, planner, script, &mut telling, steps)?;
     telling.end(alloc, script.name)

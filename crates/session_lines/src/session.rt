@@ -109,8 +109,7 @@ fn answer_numbered<W: Wishes, L>(
     number: u32,
     line: &[u8],
     steps: &mut Steps<L>,
-) -> Result<Text, NoMemory>
-{
+) -> Result<Text, NoMemory> {
     let told = answer_script(alloc, planner, number, line, steps)?;
     session.note(&told, number, line)?;
     let Told {
@@ -143,8 +142,7 @@ fn answer<W: Wishes, L>(
     line: &[u8],
     bytes: usize,
     steps: &mut Steps<L>,
-) -> Result<Text, SessionEnd>
-{
+) -> Result<Text, SessionEnd> {
     if is_question(line) {
         let answer = answer_question(
             alloc,
@@ -187,8 +185,7 @@ fn take_line<W: Wishes, K: Sink, L>(
     bytes: usize,
     out: &mut K,
     steps: &mut Steps<L>,
-) -> Result<(), SessionEnd>
-{
+) -> Result<(), SessionEnd> {
     let text = answer(alloc, planner, session, trim_return(line), bytes, steps)?;
     write_marked(alloc, text.as_str(), out)
 }
@@ -220,8 +217,7 @@ fn take_ended<W: Wishes, K: Sink, L>(
     rest: &[u8],
     out: &mut K,
     steps: &mut Steps<L>,
-) -> Result<(), SessionEnd>
-{
+) -> Result<(), SessionEnd> {
     put_bytes(line, rest)?;
     let bytes = line.len().saturating_add(1);
     take_line(alloc, planner, session, line.as_slice(), bytes, out, steps)?;
@@ -238,8 +234,7 @@ fn take_piece<W: Wishes, K: Sink, L>(
     piece: &[u8],
     out: &mut K,
     steps: &mut Steps<L>,
-) -> Result<(), SessionEnd>
-{
+) -> Result<(), SessionEnd> {
     let mut rest = piece;
     // Each line that ends takes a byte at least.
     for turn in 0..piece.len() {
@@ -262,8 +257,7 @@ fn take_last<W: Wishes, K: Sink, L>(
     line: &[u8],
     out: &mut K,
     steps: &mut Steps<L>,
-) -> Result<(), SessionEnd>
-{
+) -> Result<(), SessionEnd> {
     if line.is_empty() {
         return Ok(());
     }
@@ -298,8 +292,7 @@ fn serve_by<W: Wishes, I: Read, K: Sink, L>(
     line: &mut Vec<u8>,
     out: &mut K,
     steps: &mut Steps<L>,
-) -> Result<(), SessionEnd>
-{
+) -> Result<(), SessionEnd> {
     for turn in 0..u64::MAX {
         let _turn = turn;
         let count = read_piece(input, buffer)?;
@@ -323,8 +316,7 @@ pub fn serve<W: Wishes, I: Read, K: Sink, L>(
     input: &mut I,
     out: &mut K,
     steps: &mut Steps<L>,
-) -> SessionEnd
-{
+) -> SessionEnd {
     let Ok(mut buffer) = room(alloc) else {
         return SessionEnd::NoMemory;
     };
