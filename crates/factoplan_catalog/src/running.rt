@@ -4,7 +4,7 @@ use catalog_text::catalog_text;
 use plan_base::{NoMemory, Steps};
 use planner_cli::{DUMP_LIMIT, Long, Ready, Status};
 use planner_core::Planner;
-use program_runs::{End, LINES, Names, answered, end_by, loaded, step, whole_file, written};
+use program_runs::{End, LINES, Names, answered, end_by, loaded, whole_file, written};
 use script_reader::Command;
 use script_runner::{is_refusal, split_line, trim_return};
 use shown_fields::{ShownFields, read_shown};
@@ -53,7 +53,7 @@ fn take_lines<L>(
 
 // Closes a batch that is open. What it holds isn't done.
 fn close_batch<L>(planner: &mut Planner, steps: &mut Steps<L>) -> Result<(), Status> {
-    match step(planner, 0, Command::Cancel, steps) {
+    match planner.step(0, Command::Cancel, steps) {
         Ok(_) => Ok(()),
         Err(NoMemory) => Err(Status::NoMemory),
     }

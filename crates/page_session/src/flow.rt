@@ -12,7 +12,7 @@ use plan_report::{Figures, RefusalCode, Reply};
 use planner_cli::Ready;
 use planner_core::Planner;
 use production_table::Table;
-use program_runs::{LINES, answered, step};
+use program_runs::{LINES, answered};
 use script_reader::Command;
 use script_runner::{split_line, trim_return};
 use std::alloc::Global;
@@ -56,7 +56,7 @@ fn answer_lines<L>(
 // Closes a batch that is open. What it holds isn't done.
 fn close_batch<L>(planner: &mut Planner, steps: &mut Steps<L>) -> Result<(), NoMemory> {
     let number = 0;
-    let _reply = step(planner, number, Command::Cancel, steps)?;
+    let _reply = planner.step(number, Command::Cancel, steps)?;
     Ok(())
 }
 
@@ -73,7 +73,7 @@ fn solved<L>(
         table,
         budget: BUDGET,
     };
-    step(planner, number, solve, steps)
+    planner.step(number, solve, steps)
 }
 
 // Why an answer of the solver is no plan.

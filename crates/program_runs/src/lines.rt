@@ -6,7 +6,6 @@ use plan_io::HostStore;
 use plan_report::Reply;
 use planner_cli::{Ready, Status, read_files};
 use planner_core::Planner;
-use script_reader::Command;
 use script_runner::{reading_of, reply_to};
 use std::alloc::Global;
 use std::rt::Files;
@@ -27,20 +26,6 @@ pub fn loaded<R: Files, L>(
 ) -> Result<Ready, Status> {
     let mut store = HostStore::make(alloc, rt);
     read_files(alloc, names.dump, names.script, &mut store, steps)
-}
-
-/// Carries a command out.
-///
-/// # Errors
-///
-/// `NoMemory` where memory could not be had.
-pub fn step<L>(
-    planner: &mut Planner,
-    number: u32,
-    command: Command,
-    steps: &mut Steps<L>,
-) -> Result<Reply, NoMemory> {
-    planner.step(number, command, steps)
 }
 
 /// The reply to a line.

@@ -232,16 +232,6 @@ fn refused_by(fault: ScriptFault) -> Reply {
     }
 }
 
-// Carries out a command, with nothing solved.
-fn pose_command<L>(
-    planner: &mut Planner,
-    number: u32,
-    command: Command,
-    steps: &mut Steps<L>,
-) -> Result<Posed, NoMemory> {
-    planner.pose(number, command, steps)
-}
-
 // Carries out what a line is read as, with nothing solved.
 fn carried_out<L>(
     planner: &mut Planner,
@@ -250,7 +240,7 @@ fn carried_out<L>(
     steps: &mut Steps<L>,
 ) -> Result<Posed, NoMemory> {
     match reading {
-        Ok(Some(command)) => pose_command(planner, number, command, steps),
+        Ok(Some(command)) => planner.pose(number, command, steps),
         Ok(None) => Ok(Posed::Reply(Reply::Nothing)),
         Err(fault) => Ok(Posed::Reply(refused_by(fault))),
     }
