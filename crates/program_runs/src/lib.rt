@@ -14,5 +14,5 @@ pub const NO_SCRIPT: &str = "/dev/null";
 
 pub use ends::{End, Names, end_by, ended, written};
 pub use files::whole_file;
-pub use lines::{LINES, answered, loaded, step};
+pub use lines::{LINES, answered, loaded};
 pub use words::{end_by_words, program_words};

@@ -47,7 +47,6 @@ pub fn reached_in<L>(
     said: &mut String,
     steps: &mut Steps<L>,
 ) -> Result<Vec<bool>, Failure>
-    requires { (base : State) × IsSessionOf base planner.old }
     ensures same { planner.new ≡ planner.old }
     ensures only { IfOk result (λ marks. MarksOnly (is_reached planner.old.state.book) marks.items) }
 {
@@ -115,7 +114,6 @@ fn carry_out<L>(
     said: &mut String,
     steps: &mut Steps<L>,
 ) -> Result<Progress, Failure>
-    requires session { (base : State) × IsSessionOf base planner.old }
     ensures continues { IfOk result (λ done. Continues planner.old lines.now before planner.new done) }
     ensures planned { IfOk result (λ done. done.planned ≡ true) }
     ensures few { IfOk result (λ done. done.count ≤ 100_000) }
@@ -154,7 +152,6 @@ pub fn answered_lines<L>(
     said: &mut String,
     steps: &mut Steps<L>,
 ) -> Result<Answer, Failure>
-    requires session { (base : State) × IsSessionOf base planner.old }
     ensures continues { IfOk result (λ answer. Continues planner.old (string_bytes answer.lines) before planner.new answer.done) }
     ensures planned { IfOk result (λ answer. answer.done.planned ≡ true) }
     ensures few { IfOk result (λ answer. answer.done.count ≤ 100_000) }

@@ -29,7 +29,6 @@ fn carry_script<L>(
     said: &mut String,
     steps: &mut Steps<L>,
 ) -> Result<Progress, Failure>
-    requires session { (base : State) × IsSessionOf base planner.old }
     ensures continues { IfOk result (λ done. Continues planner.old script.now START planner.new done) }
     ensures counted { IfOk result (λ done. done.count ≡ length (lines_of script.now)) }
     ensures history { (base : State) → IsSessionOf base planner.old → IsSessionOf base planner.new }
@@ -82,7 +81,6 @@ pub fn whole_script<L>(
     said: &mut String,
     steps: &mut Steps<L>,
 ) -> Result<(), Failure>
-    requires session { (base : State) × IsSessionOf base planner.old }
     ensures leads { OnOk result (LeadsToPlan planner.old script.new.items planner.new) }
     ensures history { (base : State) → IsSessionOf base planner.old → IsSessionOf base planner.new }
 {
