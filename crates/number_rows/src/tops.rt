@@ -29,9 +29,12 @@ pub fn common_divisor(first: u64, second: u64) -> u64
     if b == 0 { a } else { 1 }
 }
 
-// The greatest common divisor, found by shifts and subtractions, whose steps have no branch that depends on the numbers. To
-// the caller it is a guess.
+// The greatest common divisor, which is mostly the second number, else found by shifts and subtractions, whose steps have no
+// branch that depends on the numbers. To the caller it is a guess.
 fn likely_divisor(first: u64, second: u64) -> u64 {
+    if second > 0 && first % second == 0 {
+        return second;
+    }
     let shift = (first | second).trailing_zeros() % 64;
     let mut a = first >> (first.trailing_zeros() % 64);
     let mut b = second >> (second.trailing_zeros() % 64);
@@ -451,6 +454,9 @@ fn next_bottom(bottom: u64, number: &Ratio) -> Option<u64>
     ensures { IfSome result (λ d. (0 < d) × (d < 2 ^ 62) × (bottom ∣ d) × (number.now.den ∣ d)) }
 {
     let own = number.denominator() as u128;
+    if own == 1 {
+        return Some(bottom);
+    }
     if own >= LIMIT as u128 {
         return None;
     }
