@@ -109,6 +109,9 @@ combined_within old other new s s' f f' m n r e es ef ho hn len h = λ k lt.
     subst (λ (x : ℕ). unsigned_abs (top_at new k) ≤ x) (sym e)
     (subst (λ (x : ℤ). unsigned_abs x ≤ m * unsigned_abs s + n * unsigned_abs f) (sym is) (combined_size (top_at old k) s (top_at other k) f m n (ho k q) (hn k (omega (arith, q, len)))))
 
+pub same_combined : (old other new : List ℤ) (s s' f f' : ℤ) → s' ≡ s → f' ≡ f → IsCombined old s' other f' new → IsCombined old s other f new
+same_combined old other new s s' f f' es ef h = subst (λ (a : ℤ). IsCombined old a other f new) es (subst (λ (a : ℤ). IsCombined old s' other a new) ef h)
+
 pub record AreOverBelow (tops : List ℤ) (bottom : ℕ) (row : List Fraction) (k : ℕ) : Type 0 where
   pub done : (j : ℕ) → j < k → number_at row j ≡ frac (top_at tops j) bottom
 

@@ -180,6 +180,21 @@ fn combine_each(tops: &mut [i64], scale: i64, others: &[i64], factor: i64)
     }
 }
 
+// The same, with steps of their own where the scale is 1, as it mostly is.
+fn combine_by(tops: &mut [i64], scale: i64, others: &[i64], factor: i64)
+    requires lengths { length tops.old ≡ length others.now }
+    requires tops { (k : ℕ) → k < length tops.old → unsigned_abs (top_at tops.old k) < 2 ^ 62 }
+    requires others { (k : ℕ) → k < length others.now → unsigned_abs (top_at others.now k) < 2 ^ 62 }
+    requires fits { (k : ℕ) → k < length tops.old → unsigned_abs (top_at tops.old k) * unsigned_abs scale + unsigned_abs (top_at others.now k) * unsigned_abs factor < 2 ^ 62 }
+    ensures { IsCombined tops.old scale others.now factor tops.new }
+{
+    if scale == 1 {
+        combine_each(tops, 1, others, factor);
+    } else {
+        combine_each(tops, scale, others, factor);
+    }
+}
+
 /// Makes of each number that number times the scale, less the other row's times the factor. Says how great their
 /// magnitudes are at most, as the bounds tell it.
 pub fn combine(
@@ -206,7 +221,7 @@ pub fn combine(
         other_bound,
         factor.unsigned_abs(),
     );
-    combine_each(tops, scale, others, factor);
+    combine_by(tops, scale, others, factor);
     most
 }
 
@@ -497,6 +512,10 @@ fn next_bottom(bottom: u64, number: &Ratio) -> Option<u64>
     if own >= LIMIT as u128 {
         return None;
     }
+    let rest = bottom % own as u64;
+    if rest == 0 {
+        return Some(bottom);
+    }
     let common = common_divisor(own as u64, bottom);
     let next = bottom as u128 * (own as u64 / common) as u128;
     if next >= LIMIT as u128 {
@@ -527,6 +546,9 @@ fn top_over(number: &Ratio, bottom: u64) -> Option<i64>
     ensures { IfSome result (λ t. (number.now ≡ frac t bottom) × (unsigned_abs t < 2 ^ 62)) }
 {
     let own = number.numerator();
+    if own == 0 {
+        return Some(0);
+    }
     if own.unsigned_abs() >= LIMIT as u128 {
         return None;
     }
