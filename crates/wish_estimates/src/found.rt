@@ -1,11 +1,11 @@
 //! Rows as a walk finds them.
 ghost use Rattle.game_types.specs.Sound.{IsSound};
 
+use crate::{Estimates, Take, Way};
 use fractions::Ratio;
 use game_types::{Activity, Game, Part, Setup, choice_of};
 use plan_base::{GoodId, NoMemory};
 use std::alloc::Global;
-use wish_estimates::{Estimates, Take, Way};
 use wish_setups::{State, Wish, best_setup, column_in};
 
 /// What a walk goes over.

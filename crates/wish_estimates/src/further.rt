@@ -1,13 +1,13 @@
 //! Further ways, while there is room for rows.
 ghost use Rattle.game_types.specs.Sound.{IsSound};
 
+use crate::Way;
 use crate::found::Ground;
 use crate::walk::{Walk, may_make, walk_on};
 use fractions::Ratio;
 use game_types::{Activity, Part};
 use plan_base::{GoodId, NoMemory, RecipeId};
 use std::alloc::Global;
-use wish_estimates::Way;
 use wish_setups::{is_good_marked, is_import, is_undoing, mark_good};
 
 /// The most ways to one good that are looked at.
