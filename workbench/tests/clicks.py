@@ -6,7 +6,7 @@ import time
 
 from selenium.webdriver.common.keys import Keys
 
-from common import DUMP, Bench, check, until
+from common import DUMP, Bench, check, go_through, until
 
 SIZES = [(1280, 900), (600, 900), (320, 700)]
 
@@ -490,12 +490,7 @@ def way(programs, make):
     with tempfile.TemporaryDirectory() as room, Bench(programs, dump=stacked_dump(room), more=["--seconds", "60"]) as bench:
         b = make()
         try:
-            for part in WAY:
-                try:
-                    part(b, bench)
-                except Exception as fault:              # the parts behind it are still tried
-                    check("%s goes through" % part.__name__, False, "%s: %s" % (type(fault).__name__, str(fault)[:300]))
-                    b.shot("fault-" + part.__name__)
+            go_through(WAY, b, bench, failed=lambda part: b.shot("fault-" + part.__name__))
             faults = [f for f in b.faults() if "favicon" not in f]
             check("no complaints of the browser", not faults, faults)
         finally:

@@ -25,6 +25,16 @@ def check(what, holds, more=""):
     return bool(holds)
 
 
+def go_through(parts, *given, failed=lambda part: None):
+    """Runs each part; where one breaks off, that is told, and those behind it are still run."""
+    for part in parts:
+        try:
+            part(*given)
+        except Exception as fault:
+            check("%s goes through" % part.__name__, False, "%s: %s" % (type(fault).__name__, str(fault)[:300]))
+            failed(part)
+
+
 class Bench:
     """A running workbench on a folder of its own."""
 

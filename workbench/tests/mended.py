@@ -4,7 +4,7 @@ import json
 import os
 import tempfile
 
-from common import Bench, check
+from common import Bench, check, go_through
 
 # What is offered where a table wants one unit of a good and has nothing else: for each good of the game.
 OFFERED = """
@@ -38,11 +38,7 @@ def proved(b):
 def cures(programs, make):
     b = make()
     try:
-        for part in (every_good, step_by_step, stopped, broken, waiting, no_game):
-            try:
-                part(programs, b)
-            except Exception as fault:                  # (the others are still tried)
-                check("%s goes through" % part.__name__, False, "%s: %s" % (type(fault).__name__, str(fault)[:300]))
+        go_through((every_good, step_by_step, stopped, broken, waiting, no_game), programs, b)
     finally:
         b.it.quit()
 

@@ -5,7 +5,7 @@ import signal
 
 from selenium.webdriver.common.keys import Keys
 
-from common import Bench, check, until
+from common import Bench, check, go_through, until
 
 TEXT = b"table t\nrow t a recipe:iron-plate by machine:electric-furnace\nwant t item:iron-plate 1\nimport t item:iron-ore 1\n"
 # What the window asked for since it was opened.
@@ -15,11 +15,7 @@ ASKED = "return performance.getEntriesByType('resource').map(e => new URL(e.name
 def troubles(programs, make):
     b = make()
     try:
-        for part in (dies, full, asks_nobody):
-            try:
-                part(programs, b)
-            except Exception as fault:                  # (the others are still tried)
-                check("%s goes through" % part.__name__, False, "%s: %s" % (type(fault).__name__, str(fault)[:300]))
+        go_through((dies, full, asks_nobody), programs, b)
     finally:
         b.it.quit()
 

@@ -1,5 +1,5 @@
 //! The catalog.
-ghost use Rattle.std.specs.Prelude.{◌≡◌, ◌<◌, ◌++◌, ℕ, IfOk, IfSome, None, OnOk, codes, false, string_bytes};
+ghost use Rattle.std.specs.Prelude.{◌≡◌, ◌<◌, ◌++◌, ℕ, IfNone, IfOk, IfSome, None, OnOk, codes, false, string_bytes};
 ghost use Rattle.json.specs.Print.{quoted};
 ghost use Rattle.plan_base.specs.Shape.{count_of, node_count};
 ghost use Rattle.plan_base.specs.declared.shape.Kind.{Kind};
@@ -7,7 +7,7 @@ ghost use Rattle.game_types.specs.Nodes.{shape_of};
 ghost use Rattle.game_types.specs.Sound.{IsSound};
 ghost use Rattle.depend_index.specs.Indexed.{IsIndex};
 ghost use Rattle.state_changes.specs.States.{State};
-ghost use Rattle.planner_core.specs.Lines.{IsSessionOf};
+ghost use Rattle.planner_core.specs.Lines.{is_free};
 ghost use Rattle.planner_questions.specs.Told.{mask_of, places_of};
 ghost use Rattle.serde_json.specs.Written.{comma_if};
 ghost use Rattle.catalog_members.specs.Members.{id_text};
@@ -58,7 +58,6 @@ fn mask_places<L>(
     node: NodeId,
     steps: &mut Steps<L>,
 ) -> Result<Vec<usize>, NoMemory>
-    requires session { (base : State) × IsSessionOf base planner.old }
     requires free { planner.old.batch ≡ None }
     requires milestones { milestones.now ≡ planner.old.state.milestones }
     requires node { node.0 < node_count (shape_of planner.old.state.book.game) }
@@ -88,7 +87,6 @@ fn thing_of<L>(
     number: u32,
     steps: &mut Steps<L>,
 ) -> Result<Thing, NoMemory>
-    requires session { (base : State) × IsSessionOf base planner.old }
     requires free { planner.old.batch ≡ None }
     requires milestones { milestones.now ≡ planner.old.state.milestones }
     requires number { number < count_of (shape_of planner.old.state.book.game) kind }
@@ -156,7 +154,6 @@ fn write_thing<L>(
     text: &mut String,
     steps: &mut Steps<L>,
 ) -> Result<(), NoMemory>
-    requires session { (base : State) × IsSessionOf base planner.old }
     requires free { planner.old.batch ≡ None }
     requires sources { AreSources planner.old.state sources.now.index.now sources.now.milestones.now }
     requires number { number < count_of (shape_of planner.old.state.book.game) kind }
@@ -178,7 +175,6 @@ fn write_things<L>(
     text: &mut String,
     steps: &mut Steps<L>,
 ) -> Result<(), NoMemory>
-    requires session { (base : State) × IsSessionOf base planner.old }
     requires free { planner.old.batch ≡ None }
     requires sources { AreSources planner.old.state sources.now.index.now sources.now.milestones.now }
     requires count { count ≡ count_of (shape_of planner.old.state.book.game) kind }
@@ -201,7 +197,6 @@ fn write_section<L>(
     text: &mut String,
     steps: &mut Steps<L>,
 ) -> Result<(), NoMemory>
-    requires session { (base : State) × IsSessionOf base planner.old }
     requires free { planner.old.batch ≡ None }
     requires sources { AreSources planner.old.state sources.now.index.now sources.now.milestones.now }
     ensures stays { planner.new ≡ planner.old }
@@ -267,7 +262,6 @@ fn write_front<L>(
     text: &mut String,
     steps: &mut Steps<L>,
 ) -> Result<(), NoMemory>
-    requires session { (base : State) × IsSessionOf base planner.old }
     requires free { planner.old.batch ≡ None }
     requires sources { AreSources planner.old.state sources.now.index.now sources.now.milestones.now }
     ensures stays { planner.new ≡ planner.old }
@@ -303,7 +297,6 @@ fn write_back<L>(
     text: &mut String,
     steps: &mut Steps<L>,
 ) -> Result<(), NoMemory>
-    requires session { (base : State) × IsSessionOf base planner.old }
     requires free { planner.old.batch ≡ None }
     requires sources { AreSources planner.old.state sources.now.index.now sources.now.milestones.now }
     ensures stays { planner.new ≡ planner.old }
@@ -356,7 +349,6 @@ fn text_from<L>(
     sources: &Sources<'_>,
     steps: &mut Steps<L>,
 ) -> Result<String, NoMemory>
-    requires session { (base : State) × IsSessionOf base planner.old }
     requires free { planner.old.batch ≡ None }
     requires sources { AreSources planner.old.state sources.now.index.now sources.now.milestones.now }
     ensures stays { planner.new ≡ planner.old }
@@ -377,7 +369,6 @@ fn text_behind<L>(
     shown: &ShownFields,
     steps: &mut Steps<L>,
 ) -> Result<String, NoMemory>
-    requires session { (base : State) × IsSessionOf base planner.old }
     requires free { planner.old.batch ≡ None }
     requires milestones { milestones.now ≡ planner.old.state.milestones }
     ensures stays { planner.new ≡ planner.old }
@@ -392,7 +383,7 @@ fn text_behind<L>(
     text_from(alloc, planner, &sources, steps)
 }
 
-/// The catalog of a planner's game as one line of JSON. None while a batch is open.
+/// The catalog of a planner's game as one line of JSON. None just while a batch is open.
 ///
 /// # Errors
 ///
@@ -403,9 +394,9 @@ pub fn catalog_text<L>(
     shown: &ShownFields,
     steps: &mut Steps<L>,
 ) -> Result<Option<String>, NoMemory>
-    requires session { (base : State) × IsSessionOf base planner.old }
     ensures stays { planner.new ≡ planner.old }
     ensures catalog { IfOk result (λ told. IfSome told (λ text. IsCatalog planner.old.state (string_bytes text))) }
+    ensures none { IfOk result (λ told. IfNone told (is_free planner.old.batch ≡ false)) }
 {
     let Some(milestones) = milestones_of(alloc, planner, steps)? else {
         return Ok(None);

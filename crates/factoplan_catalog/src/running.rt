@@ -1,12 +1,10 @@
 //! From the files of a run to the catalog.
-ghost use Rattle.state_changes.specs.States.{State};
-ghost use Rattle.planner_core.specs.Lines.{IsSessionOf};
 
 use catalog_text::catalog_text;
 use plan_base::{NoMemory, Steps};
 use planner_cli::{DUMP_LIMIT, Long, Ready, Status};
 use planner_core::Planner;
-use program_runs::{End, LINES, Names, answered, end_by, loaded, step, whole_file, written};
+use program_runs::{End, LINES, Names, answered, end_by, loaded, whole_file, written};
 use script_reader::Command;
 use script_runner::{is_refusal, split_line, trim_return};
 use shown_fields::{ShownFields, read_shown};
@@ -24,10 +22,7 @@ fn take_line<L>(
     number: u32,
     line: &[u8],
     steps: &mut Steps<L>,
-) -> Result<bool, Status>
-    requires { (base : State) × IsSessionOf base planner.old }
-    ensures { (base : State) × IsSessionOf base planner.new }
-{
+) -> Result<bool, Status> {
     match answered(alloc, planner, number, line, steps) {
         Ok(reply) => Ok(is_refusal(&reply)),
         Err(NoMemory) => Err(Status::NoMemory),
@@ -40,10 +35,7 @@ fn take_lines<L>(
     planner: &mut Planner,
     script: &[u8],
     steps: &mut Steps<L>,
-) -> Result<bool, Status>
-    requires { (base : State) × IsSessionOf base planner.old }
-    ensures { (base : State) × IsSessionOf base planner.new }
-{
+) -> Result<bool, Status> {
     let mut rest = script;
     let mut number: u32 = 0;
     let mut refused = false;
@@ -60,11 +52,8 @@ fn take_lines<L>(
 }
 
 // Closes a batch that is open. What it holds isn't done.
-fn close_batch<L>(planner: &mut Planner, steps: &mut Steps<L>) -> Result<(), Status>
-    requires { (base : State) × IsSessionOf base planner.old }
-    ensures { (base : State) × IsSessionOf base planner.new }
-{
-    match step(planner, 0, Command::Cancel, steps) {
+fn close_batch<L>(planner: &mut Planner, steps: &mut Steps<L>) -> Result<(), Status> {
+    match planner.step(0, Command::Cancel, steps) {
         Ok(_) => Ok(()),
         Err(NoMemory) => Err(Status::NoMemory),
     }
@@ -76,9 +65,7 @@ fn text_of<L>(
     planner: &mut Planner,
     shown: &ShownFields,
     steps: &mut Steps<L>,
-) -> Result<String, Status>
-    requires { (base : State) × IsSessionOf base planner.old }
-{
+) -> Result<String, Status> {
     match catalog_text(alloc, planner, shown, steps) {
         Ok(Some(text)) => Ok(text),
         Ok(None) => Ok(String::new(alloc)),
@@ -93,9 +80,7 @@ fn text_behind<L>(
     script: &[u8],
     shown: &ShownFields,
     steps: &mut Steps<L>,
-) -> Result<(String, bool), Status>
-    requires { (base : State) × IsSessionOf base planner.old }
-{
+) -> Result<(String, bool), Status> {
     let refused = take_lines(alloc, planner, script, steps)?;
     close_batch(planner, steps)?;
     let text = text_of(alloc, planner, shown, steps)?;
@@ -107,9 +92,7 @@ fn text_of_ready<L>(
     ready: Ready,
     shown: &ShownFields,
     steps: &mut Steps<L>,
-) -> Result<(String, bool), Status>
-    requires { (base : State) × IsSessionOf base ready.planner }
-{
+) -> Result<(String, bool), Status> {
     let Ready {
         mut planner,
         script,
@@ -133,9 +116,7 @@ fn written_ready<R: Files + Print, L>(
     shown: &ShownFields,
     names: Names<'_>,
     steps: &mut Steps<L>,
-) -> End
-    requires { (base : State) × IsSessionOf base ready.planner }
-{
+) -> End {
     match text_of_ready(alloc, ready, shown, steps) {
         Ok((text, refused)) => written(rt, alloc, text.as_bytes(), u8::from(refused), names),
         Err(status) => end_by(rt, alloc, &status, names),
@@ -148,9 +129,7 @@ fn shown_end<R: Files + Print, L>(
     ready: Ready,
     names: Names<'_>,
     steps: &mut Steps<L>,
-) -> End
-    requires { (base : State) × IsSessionOf base ready.planner }
-{
+) -> End {
     match shown_in(rt, alloc, names.dump) {
         Ok(shown) => written_ready(rt, alloc, ready, &shown, names, steps),
         Err(NoMemory) => end_by(rt, alloc, &Status::NoMemory, names),

@@ -1,6 +1,4 @@
 //! From the file of a dump to the end of a session.
-ghost use Rattle.state_changes.specs.States.{State};
-ghost use Rattle.planner_core.specs.Lines.{IsSessionOf};
 
 use plan_base::{NoMemory, Steps};
 use plan_io::HostSink;
@@ -47,9 +45,7 @@ fn serve_lent<R: Print + Input, L>(
     planner: &mut Planner,
     shown: ShownFields,
     steps: &mut Steps<L>,
-) -> Status
-    requires { (base : State) × IsSessionOf base planner.old }
-{
+) -> Status {
     let mut session = Session::new(alloc, shown, TableWishes {});
     let mut input = rt.reader();
     let mut out = HostSink::make(rt);
@@ -62,9 +58,7 @@ fn serve_ready<R: Print + Input, L>(
     ready: Ready,
     shown: ShownFields,
     steps: &mut Steps<L>,
-) -> Status
-    requires { (base : State) × IsSessionOf base ready.planner }
-{
+) -> Status {
     let Ready {
         mut planner,
         script: _,
@@ -78,9 +72,7 @@ fn shown_status<R: Files + Print + Input, L>(
     ready: Ready,
     names: Names<'_>,
     steps: &mut Steps<L>,
-) -> Status
-    requires { (base : State) × IsSessionOf base ready.planner }
-{
+) -> Status {
     match shown_in(rt, alloc, names.dump) {
         Ok(shown) => serve_ready(rt, alloc, ready, shown, steps),
         Err(NoMemory) => Status::NoMemory,

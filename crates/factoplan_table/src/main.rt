@@ -1,9 +1,6 @@
 //! Prints the lines of a script that make a table for a wish. What went wrong is said on standard error.
 #![tactic(auto)]
 
-ghost use Rattle.state_changes.specs.States.{State};
-ghost use Rattle.planner_core.specs.Lines.{IsSessionOf};
-
 mod belts;
 mod next;
 mod saying;
@@ -46,9 +43,7 @@ fn add_lines<L>(
     belt: Option<Ratio>,
     said: &mut String,
     steps: &mut Steps<L>,
-) -> Result<(), Failure>
-    requires { (base : State) × IsSessionOf base planner.old }
-{
+) -> Result<(), Failure> {
     let command = command_for(alloc, asked)?;
     whole_script(
         alloc,
@@ -71,9 +66,7 @@ fn add_last_lines<L>(
     belt: Option<Ratio>,
     said: &mut String,
     steps: &mut Steps<L>,
-) -> Result<(), Failure>
-    requires { (base : State) × IsSessionOf base planner }
-{
+) -> Result<(), Failure> {
     let mut planner = planner;
     add_lines(alloc, &mut planner, script, asked, belt, said, steps)
 }
@@ -86,9 +79,7 @@ fn script_for<L>(
     belt: Option<Ratio>,
     said: &mut String,
     steps: &mut Steps<L>,
-) -> Result<Vec<u8>, Failure>
-    requires { (base : State) × IsSessionOf base ready.planner }
-{
+) -> Result<Vec<u8>, Failure> {
     let Ready {
         planner,
         mut script,

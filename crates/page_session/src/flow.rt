@@ -1,6 +1,4 @@
 //! The graph of a table's plan behind the last line of a script.
-ghost use Rattle.state_changes.specs.States.{State};
-ghost use Rattle.planner_core.specs.Lines.{IsSessionOf};
 ghost use Rattle.game_types.specs.Sound.{IsSound};
 ghost use Rattle.planner_tables.specs.Effects.{AreSoundTables, IsSoundOn};
 
@@ -14,7 +12,7 @@ use plan_report::{Figures, RefusalCode, Reply};
 use planner_cli::Ready;
 use planner_core::Planner;
 use production_table::Table;
-use program_runs::{LINES, answered, step};
+use program_runs::{LINES, answered};
 use script_reader::Command;
 use script_runner::{split_line, trim_return};
 use std::alloc::Global;
@@ -29,10 +27,7 @@ fn answer_line<L>(
     number: u32,
     line: &[u8],
     steps: &mut Steps<L>,
-) -> Result<(), NoMemory>
-    requires { (base : State) × IsSessionOf base planner.old }
-    ensures { (base : State) × IsSessionOf base planner.new }
-{
+) -> Result<(), NoMemory> {
     let _reply = answered(alloc, planner, number, line, steps)?;
     Ok(())
 }
@@ -43,10 +38,7 @@ fn answer_lines<L>(
     planner: &mut Planner,
     script: &[u8],
     steps: &mut Steps<L>,
-) -> Result<(), PageFault>
-    requires { (base : State) × IsSessionOf base planner.old }
-    ensures { (base : State) × IsSessionOf base planner.new }
-{
+) -> Result<(), PageFault> {
     let mut rest = script;
     let mut number: u32 = 0;
     while !rest.is_empty() {
@@ -62,12 +54,9 @@ fn answer_lines<L>(
 }
 
 // Closes a batch that is open. What it holds isn't done.
-fn close_batch<L>(planner: &mut Planner, steps: &mut Steps<L>) -> Result<(), NoMemory>
-    requires { (base : State) × IsSessionOf base planner.old }
-    ensures { (base : State) × IsSessionOf base planner.new }
-{
+fn close_batch<L>(planner: &mut Planner, steps: &mut Steps<L>) -> Result<(), NoMemory> {
     let number = 0;
-    let _reply = step(planner, number, Command::Cancel, steps)?;
+    let _reply = planner.step(number, Command::Cancel, steps)?;
     Ok(())
 }
 
@@ -77,16 +66,14 @@ fn solved<L>(
     planner: &mut Planner,
     name: &str,
     steps: &mut Steps<L>,
-) -> Result<Reply, NoMemory>
-    requires { (base : State) × IsSessionOf base planner.old }
-{
+) -> Result<Reply, NoMemory> {
     let number = 0;
     let table = Text::copy(alloc, name)?;
     let solve = Command::Solve {
         table,
         budget: BUDGET,
     };
-    step(planner, number, solve, steps)
+    planner.step(number, solve, steps)
 }
 
 // Why an answer of the solver is no plan.
@@ -221,9 +208,7 @@ fn flow_in<L>(
     script: &[u8],
     name: &str,
     steps: &mut Steps<L>,
-) -> Result<String, PageFault>
-    requires { (base : State) × IsSessionOf base planner.old }
-{
+) -> Result<String, PageFault> {
     answer_lines(alloc, planner, script, steps)?;
     close_batch(planner, steps)?;
     let reply = solved(alloc, planner, name, steps)?;
@@ -241,9 +226,7 @@ pub fn flow_of<L>(
     ready: Ready,
     name: &str,
     steps: &mut Steps<L>,
-) -> Result<String, PageFault>
-    requires { (base : State) × IsSessionOf base ready.planner }
-{
+) -> Result<String, PageFault> {
     let Ready {
         mut planner,
         script,

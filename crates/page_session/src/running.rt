@@ -1,6 +1,4 @@
 //! The runs of the program, from its words to its end.
-ghost use Rattle.state_changes.specs.States.{State};
-ghost use Rattle.planner_core.specs.Lines.{IsSessionOf};
 
 use crate::asked::{asked_files, asked_table, flow_command, flow_words, page_command};
 use crate::fault::end_by_fault;
@@ -24,9 +22,7 @@ fn page_end<R: Files + Print>(
     ready: Ready,
     names: Names<'_>,
     steps: &mut Steps<Program>,
-) -> End
-    requires { (base : State) × IsSessionOf base ready.planner }
-{
+) -> End {
     match page_of(alloc, ready, steps) {
         Ok((text, refused)) => written(rt, alloc, text.as_bytes(), u8::from(refused), names),
         Err(fault) => end_by_fault(rt, alloc, fault, names),
@@ -41,9 +37,7 @@ fn flow_end<R: Files + Print>(
     names: Names<'_>,
     table: &str,
     steps: &mut Steps<Program>,
-) -> End
-    requires { (base : State) × IsSessionOf base ready.planner }
-{
+) -> End {
     match flow_of(alloc, ready, table, steps) {
         Ok(text) => written(rt, alloc, text.as_bytes(), 0, names),
         Err(fault) => end_by_fault(rt, alloc, fault, names),

@@ -1,7 +1,5 @@
 //! The lines of a script, and the page of their replies.
 ghost use Rattle.game_types.specs.Sound.{IsSound};
-ghost use Rattle.state_changes.specs.States.{State};
-ghost use Rattle.planner_core.specs.Lines.{IsSessionOf};
 ghost use Rattle.planner_tables.specs.Effects.{AreSoundTables, IsSoundOn};
 
 use crate::fault::PageFault;
@@ -104,10 +102,7 @@ fn add_line<L>(
     bytes: &[u8],
     page: &mut Page,
     steps: &mut Steps<L>,
-) -> Result<bool, NoMemory>
-    requires { (base : State) × IsSessionOf base planner.old }
-    ensures { (base : State) × IsSessionOf base planner.new }
-{
+) -> Result<bool, NoMemory> {
     let reply = answered(alloc, planner, number, bytes, steps)?;
     let line = Line {
         number,
@@ -124,9 +119,7 @@ fn add_lines<L>(
     script: &[u8],
     page: &mut Page,
     steps: &mut Steps<L>,
-) -> Result<bool, PageFault>
-    requires { (base : State) × IsSessionOf base planner.old }
-{
+) -> Result<bool, PageFault> {
     let mut rest = script;
     let mut number: u32 = 0;
     let mut refused = false;
@@ -148,9 +141,7 @@ fn page_in<L>(
     planner: &mut Planner,
     script: &[u8],
     steps: &mut Steps<L>,
-) -> Result<(String, bool), PageFault>
-    requires { (base : State) × IsSessionOf base planner.old }
-{
+) -> Result<(String, bool), PageFault> {
     let mut page = Page::new(alloc);
     let refused = add_lines(alloc, planner, script, &mut page, steps)?;
     let text = page.text(alloc)?;
@@ -166,9 +157,7 @@ pub fn page_of<L>(
     alloc: Global,
     ready: Ready,
     steps: &mut Steps<L>,
-) -> Result<(String, bool), PageFault>
-    requires { (base : State) × IsSessionOf base ready.planner }
-{
+) -> Result<(String, bool), PageFault> {
     let Ready {
         mut planner,
         script,

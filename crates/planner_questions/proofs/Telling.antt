@@ -1,6 +1,6 @@
 -- What is told of a node where no batch is open.
 use Rattle.std.proofs.Common.{◌≡◌, ◌∙◌, ◌<◌, ◌+◌, ℕ, Bool, true, false, List, Vec, refl, sym, subst, ap}
-use Rattle.std.specs.Prelude.{IfSome, Option, None, Some, Ok, Err, option_map}
+use Rattle.std.specs.Prelude.{IfNone, IfSome, Option, None, Some, Ok, Err, option_map}
 use Rattle.std.specs.Global.{Global}
 use Rattle.plan_base.specs.Shape.{count_of, first_of}
 use Rattle.plan_base.specs.declared.shape.Kind.{Kind}
@@ -14,9 +14,9 @@ use Rattle.plan_report.specs.declared.reply.Reply.{Reply}
 use Rattle.plan_report.specs.declared.reply.Reply.TheVariants as reply
 use Rattle.state_changes.specs.Actions.{known, node_named}
 use Rattle.state_changes.specs.States.{State}
-use Rattle.kept_worlds.specs.Worlds.{is_reached, mask_in, rank_of}
-use Rattle.planner_replies.specs.Replies.{AboutNode, mask_reply, refused_as}
-use Rattle.planner_core.specs.Lines.{Held, IsStep, IsStepIn, Planned}
+use Rattle.planning_state.specs.Worlds.{is_reached, mask_in, rank_of}
+use Rattle.planner_core.specs.Replies.{AboutNode, mask_reply, refused_as}
+use Rattle.planner_core.specs.Lines.{Held, IsStep, IsStepIn, Planned, is_free}
 use Rattle.planner_questions.specs.Told.{mask_of, mask_where, told_mask, told_milestones, told_rank}
 
 -- a node that is named is asked about
@@ -69,6 +69,16 @@ pub milestones_found : (p r : Planned) (answer : Reply) (told : Option (Vec Node
     → IfSome told (λ nodes. (p.batch ≡ None) × (nodes.items ≡ p.state.milestones))
 milestones_found p r answer None step is = tt
 milestones_found p r answer (Some nodes) step is = milestones_told p r answer nodes.items step (sym is)
+
+-- where none are told a batch is open
+hidden_in : (line : ℕ) (batch : Option (List Held)) (p r : Planned) (answer : Reply) → IsStepIn line batch p command.Milestones r answer → told_milestones answer ≡ None → is_free batch ≡ false
+hidden_in line None p r answer step none = absurd (let no : Some p.state.milestones ≡ None = sym (ap told_milestones step.1) ∙ none in cc)
+hidden_in line (Some held) p r answer step none = refl
+
+pub milestones_hidden : (p r : Planned) (answer : Reply) (told : Option (Vec NodeId Global)) → IsStep 0 p command.Milestones r answer → option_map (λ v. v.items) told ≡ told_milestones answer
+    → IfNone told (is_free p.batch ≡ false)
+milestones_hidden p r answer None step is = hidden_in 0 p.batch p r answer step.does (sym is)
+milestones_hidden p r answer (Some nodes) step is = tt
 
 -- the kind and the name of a node find it again
 pub named_again : (g : Game) (shape : Shape) (node : NodeId) (kind : Kind) (index : ℕ) (name copy : List ℕ) → shape ≡ shape_of g → node.0 ≡ first_of shape kind + index → index < count_of shape kind

@@ -1,9 +1,10 @@
 //! The rank and the mask of a node.
-ghost use Rattle.std.specs.Prelude.{◌≡◌, ◌<◌, IfOk, IfSome, None, Some, option_map};
+ghost use Rattle.std.specs.Prelude.{◌≡◌, ◌<◌, IfNone, IfOk, IfSome, None, Some, false, option_map};
 ghost use Rattle.plan_base.specs.Shape.{node_count};
 ghost use Rattle.game_types.specs.Nodes.{find_node, shape_of};
 ghost use Rattle.game_types.specs.Sound.{IsSound};
-ghost use Rattle.kept_worlds.specs.Worlds.{rank_of};
+ghost use Rattle.planning_state.specs.Worlds.{rank_of};
+ghost use Rattle.planner_core.specs.Lines.{is_free};
 ghost use Rattle.planner_questions.specs.Told.{mask_of, place_of, places_of, told_mask, told_milestones, told_rank};
 
 use crate::asking::{ask_mask, ask_milestones, ask_rank};
@@ -150,7 +151,7 @@ fn told_milestones(alloc: Global, reply: &Reply) -> Result<Option<Vec<NodeId>>, 
     }
 }
 
-/// All milestones, in the order in which they were added. None while a batch is open.
+/// All milestones, in the order in which they were added. None just while a batch is open.
 ///
 /// # Errors
 ///
@@ -163,6 +164,7 @@ pub fn milestones_of<L>(
 ) -> Result<Option<Vec<NodeId>>, NoMemory>
     ensures stays { planner.new ≡ planner.old }
     ensures milestones { IfOk result (λ told. IfSome told (λ nodes. (planner.old.batch ≡ None) × (nodes.items ≡ planner.old.state.milestones))) }
+    ensures none { IfOk result (λ told. IfNone told (is_free planner.old.batch ≡ false)) }
 {
     let reply = ask_milestones(planner, steps)?;
     told_milestones(alloc, &reply)

@@ -1,15 +1,11 @@
 //! The planner of a dump, and what it answers.
-ghost use Rattle.std.specs.Prelude.{IfOk};
-ghost use Rattle.state_changes.specs.States.{State};
-ghost use Rattle.planner_core.specs.Lines.{IsSessionOf};
 
 use crate::ends::Names;
 use plan_base::{NoMemory, Steps};
 use plan_io::HostStore;
 use plan_report::Reply;
 use planner_cli::{Ready, Status, read_files};
-use planner_core::{Planner, state_is_of_the_active_edits};
-use script_reader::Command;
+use planner_core::Planner;
 use script_runner::{reading_of, reply_to};
 use std::alloc::Global;
 use std::rt::Files;
@@ -17,7 +13,7 @@ use std::rt::Files;
 /// The most lines that a script may have.
 pub const LINES: u32 = 100_000;
 
-/// The planner of a dump with its script, from their files. It has a history.
+/// The planner of a dump with its script, from their files.
 ///
 /// # Errors
 ///
@@ -27,33 +23,9 @@ pub fn loaded<R: Files, L>(
     alloc: Global,
     names: Names<'_>,
     steps: &mut Steps<L>,
-) -> Result<Ready, Status>
-    ensures { IfOk result (λ ready. (base : State) × IsSessionOf base ready.planner) }
-{
-    // A planner that was just loaded has a history.
-    state_is_of_the_active_edits();
+) -> Result<Ready, Status> {
     let mut store = HostStore::make(alloc, rt);
-    match read_files(alloc, names.dump, names.script, &mut store, steps) {
-        Ok(ready) => Ok(ready),
-        Err(status) => Err(status),
-    }
-}
-
-/// Carries a command out.
-///
-/// # Errors
-///
-/// `NoMemory` where memory could not be had.
-pub fn step<L>(
-    planner: &mut Planner,
-    number: u32,
-    command: Command,
-    steps: &mut Steps<L>,
-) -> Result<Reply, NoMemory>
-    requires { (base : State) × IsSessionOf base planner.old }
-    ensures { (base : State) × IsSessionOf base planner.new }
-{
-    planner.step(number, command, steps)
+    read_files(alloc, names.dump, names.script, &mut store, steps)
 }
 
 /// The reply to a line.
@@ -67,10 +39,7 @@ pub fn answered<L>(
     number: u32,
     line: &[u8],
     steps: &mut Steps<L>,
-) -> Result<Reply, NoMemory>
-    requires { (base : State) × IsSessionOf base planner.old }
-    ensures { (base : State) × IsSessionOf base planner.new }
-{
+) -> Result<Reply, NoMemory> {
     let reading = reading_of(alloc, line)?;
     reply_to(planner, number, reading, steps)
 }

@@ -1,13 +1,9 @@
 //! The lines of a script, looked at a second time.
-ghost use Rattle.std.specs.Prelude.{◌≡◌};
-ghost use Rattle.state_changes.specs.States.{State};
-ghost use Rattle.planner_core.specs.Lines.{IsSessionOf};
 ghost use Rattle.game_types.specs.Sound.{IsSound};
 
 use game_types::Game;
-use hint_causes::{Found, Line, found_of, found_unread};
-use hint_words::short_of;
-use line_words::words_of;
+use hint_causes::{Found, Line, found_of, found_unread, short_of};
+use line_causes::words_of;
 use linear_table::{Linear, SolveAnswer};
 use plan_base::{NoMemory, Steps, Text};
 use plan_report::{Detail, RefusalCode, Reply};
@@ -235,31 +231,15 @@ fn refused_by(fault: ScriptFault) -> Reply {
     }
 }
 
-// Carries out a command, with nothing solved.
-fn pose_command<L>(
-    planner: &mut Planner,
-    number: u32,
-    command: Command,
-    steps: &mut Steps<L>,
-) -> Result<Posed, NoMemory>
-    requires { (base : State) × IsSessionOf base planner.old }
-    ensures { (base : State) × IsSessionOf base planner.new }
-{
-    planner.pose(number, command, steps)
-}
-
 // Carries out what a line is read as, with nothing solved.
 fn carried_out<L>(
     planner: &mut Planner,
     number: u32,
     reading: Result<Option<Command>, ScriptFault>,
     steps: &mut Steps<L>,
-) -> Result<Posed, NoMemory>
-    requires { (base : State) × IsSessionOf base planner.old }
-    ensures { (base : State) × IsSessionOf base planner.new }
-{
+) -> Result<Posed, NoMemory> {
     match reading {
-        Ok(Some(command)) => pose_command(planner, number, command, steps),
+        Ok(Some(command)) => planner.pose(number, command, steps),
         Ok(None) => Ok(Posed::Reply(Reply::Nothing)),
         Err(fault) => Ok(Posed::Reply(refused_by(fault))),
     }
@@ -334,10 +314,7 @@ fn look_at<L>(
     solved: usize,
     telling: &mut Telling,
     steps: &mut Steps<L>,
-) -> Result<usize, NoMemory>
-    requires { (base : State) × IsSessionOf base planner.old }
-    ensures { (base : State) × IsSessionOf base planner.new }
-{
+) -> Result<usize, NoMemory> {
     let reading = reading_of(alloc, line.bytes)?;
     let posed = carried_out(planner, line.number, reading, steps)?;
     tell_posed(alloc, planner, script, line, &posed, solved, telling)
@@ -350,9 +327,7 @@ fn look_at_lines<L>(
     script: &Script<'_>,
     telling: &mut Telling,
     steps: &mut Steps<L>,
-) -> Result<(), NoMemory>
-    requires { (base : State) × IsSessionOf base planner.old }
-{
+) -> Result<(), NoMemory> {
     let mut rest = script.bytes;
     let mut number: u32 = 0;
     let mut solved: usize = 0;
@@ -384,9 +359,7 @@ pub fn script_hints<L>(
     planner: &mut Planner,
     script: &Script<'_>,
     steps: &mut Steps<L>,
-) -> Result<Text, NoMemory>
-    requires { (base : State) × IsSessionOf base planner.old }
-{
+) -> Result<Text, NoMemory> {
     let mut telling = Telling::make(alloc);
     look_at_lines(alloc, planner, script, &mut telling, steps)?;
     telling.end(alloc, script.name)

@@ -1,18 +1,15 @@
 //! What is said of the lines of a run, from its words and its files.
-ghost use Rattle.std.specs.Prelude.{IfOk};
 ghost use Rattle.game_types.specs.Sound.{IsSound};
-ghost use Rattle.state_changes.specs.States.{State};
-ghost use Rattle.planner_core.specs.Lines.{IsSessionOf};
 
 use crate::lines::{Script, script_hints, unread_hints};
 use cli_words::{PlainWords, plain_words};
 use game_reader::read_dump;
 use game_types::Game;
-use hint_words::is_bare;
+use hint_causes::is_bare;
 use linear_table::SolveAnswer;
 use plan_base::{NoMemory, Steps, Text};
 use planner_cli::{DUMP_LIMIT, SCRIPT_LIMIT, Status};
-use planner_core::{Planner, state_is_of_the_active_edits};
+use planner_core::Planner;
 use run_hints::{dump_name, empty_hint, script_name};
 use std::alloc::Global;
 use std::fs;
@@ -74,10 +71,7 @@ fn is_to_say<R: Files>(rt: &R, ended: &Ended<'_>, dump: &str) -> bool {
 // The planner of a game.
 fn loaded<L>(alloc: Global, game: Game, steps: &mut Steps<L>) -> Result<Planner, NoMemory>
     requires { IsSound game }
-    ensures { IfOk result (λ planner. (base : State) × IsSessionOf base planner) }
 {
-    // A planner that was just loaded has a history.
-    state_is_of_the_active_edits();
     match Planner::load(alloc, game, steps) {
         Ok(planner) => Ok(planner),
         Err(_) => Err(NoMemory),

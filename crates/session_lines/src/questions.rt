@@ -1,7 +1,5 @@
 //! Questions, and their answers.
 ghost use Rattle.std.specs.Prelude.{◌≡◌};
-ghost use Rattle.state_changes.specs.States.{State};
-ghost use Rattle.planner_core.specs.Lines.{IsSessionOf};
 
 use crate::answers::{Done, push_refusal, push_reply, push_text, refusal};
 use crate::flows::{push_flow_answer, push_why_not};
@@ -101,7 +99,6 @@ fn solved<L>(
     words: &[u8],
     steps: &mut Steps<L>,
 ) -> Result<Reply, NoMemory>
-    requires { (base : State) × IsSessionOf base planner.old }
     ensures stays { planner.new ≡ planner.old }
 {
     match read_as(alloc, b"solve", words)? {
@@ -117,7 +114,6 @@ fn rated<L>(
     words: &[u8],
     steps: &mut Steps<L>,
 ) -> Result<Reply, NoMemory>
-    requires { (base : State) × IsSessionOf base planner.old }
     ensures stays { planner.new ≡ planner.old }
 {
     match read_as(alloc, b"rate", words)? {
@@ -133,7 +129,6 @@ fn push_flow<L>(
     words: &[u8],
     steps: &mut Steps<L>,
 ) -> Done
-    requires { (base : State) × IsSessionOf base planner.old }
     ensures stays { planner.new ≡ planner.old }
 {
     let reply = solved(alloc, planner, words, steps)?;
@@ -147,7 +142,6 @@ fn push_reason<L>(
     words: &[u8],
     steps: &mut Steps<L>,
 ) -> Done
-    requires { (base : State) × IsSessionOf base planner.old }
     ensures stays { planner.new ≡ planner.old }
 {
     let reply = solved(alloc, planner, words, steps)?;
@@ -161,7 +155,6 @@ fn push_rate<L>(
     words: &[u8],
     steps: &mut Steps<L>,
 ) -> Done
-    requires { (base : State) × IsSessionOf base planner.old }
     ensures stays { planner.new ≡ planner.old }
 {
     let reply = rated(alloc, planner, words, steps)?;
@@ -177,7 +170,6 @@ fn push_catalog<L>(
     words: &[u8],
     steps: &mut Steps<L>,
 ) -> Done
-    requires { (base : State) × IsSessionOf base planner.old }
     ensures stays { planner.new ≡ planner.old }
 {
     if let Some(refused) = unwanted(alloc, words)? {
@@ -231,7 +223,6 @@ fn push_wish<W: Wishes, L>(
     words: &[u8],
     steps: &mut Steps<L>,
 ) -> Done
-    requires { (base : State) × IsSessionOf base planner.old }
     ensures stays { planner.new ≡ planner.old }
 {
     let wished = wishes.answer_wish(alloc, planner, shown, words, steps)?;
@@ -250,7 +241,6 @@ fn push_asked<W: Wishes, L>(
     words: &[u8],
     steps: &mut Steps<L>,
 ) -> Done
-    requires { (base : State) × IsSessionOf base planner.old }
     ensures stays { planner.new ≡ planner.old }
 {
     match asked {
@@ -280,7 +270,6 @@ fn push_question<W: Wishes, L>(
     line: &[u8],
     steps: &mut Steps<L>,
 ) -> Done
-    requires { (base : State) × IsSessionOf base planner.old }
     ensures stays { planner.new ≡ planner.old }
 {
     let (word, words) = front_word(line);
@@ -306,7 +295,6 @@ pub fn answer_question<W: Wishes, L>(
     line: &[u8],
     steps: &mut Steps<L>,
 ) -> Result<Text, NoMemory>
-    requires { (base : State) × IsSessionOf base planner.old }
     ensures stays { planner.new ≡ planner.old }
 {
     let mut out = String::new(alloc);

@@ -1,5 +1,5 @@
 //! The lines of a script.
-ghost use Rattle.std.specs.Prelude.{◌≡◌, ◌≤◌, IfOk, IfSome};
+ghost use Rattle.std.specs.Prelude.{◌≡◌, ◌≤◌, IfOk};
 ghost use Rattle.game_types.specs.Sound.{IsSound};
 ghost use Rattle.plan_report.specs.Replies.{printed_reply};
 ghost use Rattle.state_changes.specs.States.{State};
@@ -61,7 +61,6 @@ pub fn answer_script<L>(
     line: &[u8],
     steps: &mut Steps<L>,
 ) -> Result<Told, NoMemory>
-    requires session { (base : State) × IsSessionOf base planner.old }
     ensures answer { IfOk result (λ told. IsToldAs number line.now planner.old planner.new told.text told.refused) }
     ensures history { (base : State) → IsSessionOf base planner.old → IsSessionOf base planner.new }
 {

@@ -1,8 +1,6 @@
 //! A session: lines come in, and each is answered before the next.
 ghost use Rattle.std.specs.Prelude.{◌<◌, IfSome, length};
 ghost use Rattle.std.specs.Io.{ReadsAtMost};
-ghost use Rattle.state_changes.specs.States.{State};
-ghost use Rattle.planner_core.specs.Lines.{IsSessionOf};
 
 use crate::forced::Forced;
 use crate::questions::answer_question;
@@ -11,7 +9,7 @@ use crate::wishes::Wishes;
 use plan_base::{NoMemory, Steps, Text};
 use plan_io::Sink;
 use planner_core::Planner;
-use script_lines::{trim_return, write_all};
+use script_runner::{trim_return, write_all};
 use shown_fields::ShownFields;
 use std::alloc::{AllocError, Global};
 use std::io::Read;
@@ -111,10 +109,7 @@ fn answer_numbered<W: Wishes, L>(
     number: u32,
     line: &[u8],
     steps: &mut Steps<L>,
-) -> Result<Text, NoMemory>
-    requires { (base : State) × IsSessionOf base planner.old }
-    ensures { (base : State) × IsSessionOf base planner.new }
-{
+) -> Result<Text, NoMemory> {
     let told = answer_script(alloc, planner, number, line, steps)?;
     session.note(&told, number, line)?;
     let Told {
@@ -147,10 +142,7 @@ fn answer<W: Wishes, L>(
     line: &[u8],
     bytes: usize,
     steps: &mut Steps<L>,
-) -> Result<Text, SessionEnd>
-    requires { (base : State) × IsSessionOf base planner.old }
-    ensures { (base : State) × IsSessionOf base planner.new }
-{
+) -> Result<Text, SessionEnd> {
     if is_question(line) {
         let answer = answer_question(
             alloc,
@@ -193,10 +185,7 @@ fn take_line<W: Wishes, K: Sink, L>(
     bytes: usize,
     out: &mut K,
     steps: &mut Steps<L>,
-) -> Result<(), SessionEnd>
-    requires { (base : State) × IsSessionOf base planner.old }
-    ensures { (base : State) × IsSessionOf base planner.new }
-{
+) -> Result<(), SessionEnd> {
     let text = answer(alloc, planner, session, trim_return(line), bytes, steps)?;
     write_marked(alloc, text.as_str(), out)
 }
@@ -228,10 +217,7 @@ fn take_ended<W: Wishes, K: Sink, L>(
     rest: &[u8],
     out: &mut K,
     steps: &mut Steps<L>,
-) -> Result<(), SessionEnd>
-    requires { (base : State) × IsSessionOf base planner.old }
-    ensures { (base : State) × IsSessionOf base planner.new }
-{
+) -> Result<(), SessionEnd> {
     put_bytes(line, rest)?;
     let bytes = line.len().saturating_add(1);
     take_line(alloc, planner, session, line.as_slice(), bytes, out, steps)?;
@@ -248,10 +234,7 @@ fn take_piece<W: Wishes, K: Sink, L>(
     piece: &[u8],
     out: &mut K,
     steps: &mut Steps<L>,
-) -> Result<(), SessionEnd>
-    requires { (base : State) × IsSessionOf base planner.old }
-    ensures { (base : State) × IsSessionOf base planner.new }
-{
+) -> Result<(), SessionEnd> {
     let mut rest = piece;
     // Each line that ends takes a byte at least.
     for turn in 0..piece.len() {
@@ -274,9 +257,7 @@ fn take_last<W: Wishes, K: Sink, L>(
     line: &[u8],
     out: &mut K,
     steps: &mut Steps<L>,
-) -> Result<(), SessionEnd>
-    requires { (base : State) × IsSessionOf base planner.old }
-{
+) -> Result<(), SessionEnd> {
     if line.is_empty() {
         return Ok(());
     }
@@ -311,10 +292,7 @@ fn serve_by<W: Wishes, I: Read, K: Sink, L>(
     line: &mut Vec<u8>,
     out: &mut K,
     steps: &mut Steps<L>,
-) -> Result<(), SessionEnd>
-    requires { (base : State) × IsSessionOf base planner.old }
-    ensures { (base : State) × IsSessionOf base planner.new }
-{
+) -> Result<(), SessionEnd> {
     for turn in 0..u64::MAX {
         let _turn = turn;
         let count = read_piece(input, buffer)?;
@@ -338,9 +316,7 @@ pub fn serve<W: Wishes, I: Read, K: Sink, L>(
     input: &mut I,
     out: &mut K,
     steps: &mut Steps<L>,
-) -> SessionEnd
-    requires { (base : State) × IsSessionOf base planner.old }
-{
+) -> SessionEnd {
     let Ok(mut buffer) = room(alloc) else {
         return SessionEnd::NoMemory;
     };

@@ -1,7 +1,5 @@
 //! What answers wishes.
 ghost use Rattle.std.specs.Prelude.{◌≡◌};
-ghost use Rattle.state_changes.specs.States.{State};
-ghost use Rattle.planner_core.specs.Lines.{IsSessionOf};
 
 use plan_base::{NoMemory, Steps};
 use plan_report::RefusalCode;
@@ -35,6 +33,5 @@ pub trait Wishes {
         words: &[u8],
         steps: &mut Steps<L>,
     ) -> Result<Wished, NoMemory>
-        requires { (base : State) × IsSessionOf base planner.old }
         ensures { planner.new ≡ planner.old };
 }

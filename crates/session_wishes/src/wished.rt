@@ -1,7 +1,5 @@
 //! The answer to a wish.
 ghost use Rattle.std.specs.Prelude.{◌≡◌};
-ghost use Rattle.state_changes.specs.States.{State};
-ghost use Rattle.planner_core.specs.Lines.{IsSessionOf};
 
 use crate::words::push_words;
 use carried_lines::reached_nodes;
@@ -71,7 +69,6 @@ fn wished<L>(
     asked: &Asked<'_>,
     steps: &mut Steps<L>,
 ) -> Result<Wished, NoMemory>
-    requires { (base : State) × IsSessionOf base planner.old }
     ensures stays { planner.new ≡ planner.old }
 {
     match reached_nodes(alloc, planner, steps)? {
@@ -95,7 +92,6 @@ fn matched<L>(
     matches: &ArgMatches<'_>,
     steps: &mut Steps<L>,
 ) -> Result<Wished, NoMemory>
-    requires { (base : State) × IsSessionOf base planner.old }
     ensures stays { planner.new ≡ planner.old }
 {
     match read_asked(alloc, matches) {
@@ -111,7 +107,6 @@ fn answer_words<L>(
     words: &[Text],
     steps: &mut Steps<L>,
 ) -> Result<Wished, NoMemory>
-    requires { (base : State) × IsSessionOf base planner.old }
     ensures stays { planner.new ≡ planner.old }
 {
     let command = question(alloc)?;
@@ -129,7 +124,6 @@ fn answer_line<L>(
     line: &[u8],
     steps: &mut Steps<L>,
 ) -> Result<Wished, NoMemory>
-    requires { (base : State) × IsSessionOf base planner.old }
     ensures stays { planner.new ≡ planner.old }
 {
     let mut words = Vec::new(alloc);

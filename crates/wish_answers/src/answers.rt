@@ -2,8 +2,8 @@
 ghost use Rattle.std.specs.Prelude.{◌≡◌, ◌≤◌, ◌+◌, true, false, IfOk, None, OnOk, length, string_bytes};
 ghost use Rattle.state_changes.specs.States.{State};
 ghost use Rattle.planner_core.specs.Lines.{IsSessionOf};
-ghost use Rattle.script_lines.specs.Lines.{lines_of};
-ghost use Rattle.kept_worlds.specs.Worlds.{is_reached};
+ghost use Rattle.script_runner.specs.Lines.{lines_of};
+ghost use Rattle.planning_state.specs.Worlds.{is_reached};
 ghost use Rattle.carried_lines.specs.Leading.{Continues};
 ghost use Rattle.carried_lines.specs.Marks.{MarksOnly};
 ghost use Rattle.wish_answers.specs.Meeting.{HasMet, MeetsWish};
@@ -15,8 +15,7 @@ use carried_lines::{Progress, reached_nodes, step_lines};
 use fractions::Ratio;
 use plan_base::Steps;
 use planner_core::Planner;
-use script_lines::line_count;
-use script_runner::LINE_LIMIT;
+use script_runner::{LINE_LIMIT, line_count};
 use std::alloc::Global;
 use wish_setups::{Met, Wish};
 use wish_words::Asked;
@@ -47,7 +46,6 @@ pub fn reached_in<L>(
     said: &mut String,
     steps: &mut Steps<L>,
 ) -> Result<Vec<bool>, Failure>
-    requires { (base : State) × IsSessionOf base planner.old }
     ensures same { planner.new ≡ planner.old }
     ensures only { IfOk result (λ marks. MarksOnly (is_reached planner.old.state.book) marks.items) }
 {
@@ -115,7 +113,6 @@ fn carry_out<L>(
     said: &mut String,
     steps: &mut Steps<L>,
 ) -> Result<Progress, Failure>
-    requires session { (base : State) × IsSessionOf base planner.old }
     ensures continues { IfOk result (λ done. Continues planner.old lines.now before planner.new done) }
     ensures planned { IfOk result (λ done. done.planned ≡ true) }
     ensures few { IfOk result (λ done. done.count ≤ 100_000) }
@@ -154,7 +151,6 @@ pub fn answered_lines<L>(
     said: &mut String,
     steps: &mut Steps<L>,
 ) -> Result<Answer, Failure>
-    requires session { (base : State) × IsSessionOf base planner.old }
     ensures continues { IfOk result (λ answer. Continues planner.old (string_bytes answer.lines) before planner.new answer.done) }
     ensures planned { IfOk result (λ answer. answer.done.planned ≡ true) }
     ensures few { IfOk result (λ answer. answer.done.count ≤ 100_000) }

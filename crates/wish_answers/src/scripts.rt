@@ -2,7 +2,7 @@
 ghost use Rattle.std.specs.Prelude.{◌≡◌, OnOk, IfOk, length, string_bytes};
 ghost use Rattle.state_changes.specs.States.{State};
 ghost use Rattle.planner_core.specs.Lines.{IsSessionOf};
-ghost use Rattle.script_lines.specs.Lines.{lines_of};
+ghost use Rattle.script_runner.specs.Lines.{lines_of};
 ghost use Rattle.carried_lines.specs.Leading.{Continues, LeadsToPlan, ends_within, joined};
 ghost use Rattle.carried_lines.specs.declared.stepping.Progress.{Progress};
 
@@ -29,7 +29,6 @@ fn carry_script<L>(
     said: &mut String,
     steps: &mut Steps<L>,
 ) -> Result<Progress, Failure>
-    requires session { (base : State) × IsSessionOf base planner.old }
     ensures continues { IfOk result (λ done. Continues planner.old script.now START planner.new done) }
     ensures counted { IfOk result (λ done. done.count ≡ length (lines_of script.now)) }
     ensures history { (base : State) → IsSessionOf base planner.old → IsSessionOf base planner.new }
@@ -82,7 +81,6 @@ pub fn whole_script<L>(
     said: &mut String,
     steps: &mut Steps<L>,
 ) -> Result<(), Failure>
-    requires session { (base : State) × IsSessionOf base planner.old }
     ensures leads { OnOk result (LeadsToPlan planner.old script.new.items planner.new) }
     ensures history { (base : State) → IsSessionOf base planner.old → IsSessionOf base planner.new }
 {

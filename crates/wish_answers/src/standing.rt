@@ -1,10 +1,8 @@
 //! Whether the table that stands in a planner meets a wish.
-ghost use Rattle.std.specs.Prelude.{IfOk, OnOk};
+ghost use Rattle.std.specs.Prelude.{OnOk};
 ghost use Rattle.planner_tables.specs.Effects.{AreSoundTables};
 ghost use Rattle.production_table.specs.Tables.{IsSoundTable};
 ghost use Rattle.game_types.specs.Sound.{IsSound};
-ghost use Rattle.state_changes.specs.States.{State};
-ghost use Rattle.planner_core.specs.Lines.{IsSessionOf};
 ghost use Rattle.wish_answers.specs.Meeting.{HasMet, TableMeets, TablesMeet};
 
 use crate::failures::Failure;

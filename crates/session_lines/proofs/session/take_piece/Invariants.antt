@@ -1,6 +1,0 @@
-use Rattle.state_changes.specs.States.{State}
-use Rattle.planner_core.specs.Lines.{IsSessionOf}
-use Rattle.session_lines.proofs.session.take_piece.Given as goal
-
-abbrev pub invariant-loop-turn : goal.invariant-loop-turn
-invariant-loop-turn g l = (base : State) × IsSessionOf base l.planner
