@@ -1,6 +1,4 @@
 //! What a unit of each reached good takes behind the last line of a script, as an estimate.
-ghost use Rattle.state_changes.specs.States.{State};
-ghost use Rattle.planner_core.specs.Lines.{IsSessionOf};
 ghost use Rattle.game_types.specs.Sound.{IsSound};
 
 use crate::fault::{PlanFault, end_by_fault};
@@ -52,9 +50,7 @@ fn text_behind<L>(
     script: &[u8],
     form: Form,
     steps: &mut Steps<L>,
-) -> Result<(Vec<u8>, bool), PlanFault>
-    requires { (base : State) × IsSessionOf base planner.old }
-{
+) -> Result<(Vec<u8>, bool), PlanFault> {
     let refused = carry_out(alloc, planner, script, steps)?;
     close_batch(planner, steps)?;
     let text = text_in(alloc, planner, form, steps)?;
@@ -69,9 +65,7 @@ pub fn costs_end<R: Files + Print, L>(
     names: Names<'_>,
     form: Form,
     steps: &mut Steps<L>,
-) -> End
-    requires { (base : State) × IsSessionOf base ready.planner }
-{
+) -> End {
     let Ready {
         mut planner,
         script,

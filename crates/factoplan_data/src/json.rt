@@ -1,7 +1,5 @@
 //! The replies to the lines of a script, as JSON Lines.
 ghost use Rattle.std.specs.Prelude.{◌≡◌, IfOk, string_bytes};
-ghost use Rattle.state_changes.specs.States.{State};
-ghost use Rattle.planner_core.specs.Lines.{IsSessionOf};
 ghost use Rattle.factoplan_data.specs.Told.{IsToldAs, TellsLine};
 
 use plan_base::{NoMemory, Steps};
@@ -43,8 +41,7 @@ fn answered<L>(
     line: &[u8],
     steps: &mut Steps<L>,
 ) -> Result<(String, bool), NoMemory>
-    ensures told { IfOk result (λ told. TellsLine number line.now planner.old planner.new (string_bytes told.0) told.1) }
-    ensures history { (base : State) → IsSessionOf base planner.old → IsSessionOf base planner.new }
+    ensures { IfOk result (λ told. TellsLine number line.now planner.old planner.new (string_bytes told.0) told.1) }
 {
     let reading = reading_of(alloc, line)?;
     let reply = reply_to(planner, number, reading, steps)?;
@@ -69,9 +66,7 @@ fn write_line<R: Print, L>(
     number: u32,
     line: &[u8],
     steps: &mut Steps<L>,
-) -> Result<bool, Status>
-    ensures { (base : State) → IsSessionOf base planner.old → IsSessionOf base planner.new }
-{
+) -> Result<bool, Status> {
     match answered(alloc, planner, number, line, steps) {
         Ok((text, refused)) => {
             write_out(rt, text.as_str())?;

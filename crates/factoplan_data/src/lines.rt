@@ -1,11 +1,9 @@
 //! The lines of a script, carried out with nothing told of them.
-ghost use Rattle.state_changes.specs.States.{State};
-ghost use Rattle.planner_core.specs.Lines.{IsSessionOf};
 
 use crate::fault::PlanFault;
 use plan_base::{NoMemory, Steps};
 use planner_core::Planner;
-use program_runs::{LINES, answered, step};
+use program_runs::{LINES, answered};
 use script_reader::Command;
 use script_runner::{is_refusal, split_line, trim_return};
 use std::alloc::Global;
@@ -17,10 +15,7 @@ fn carry_line<L>(
     number: u32,
     line: &[u8],
     steps: &mut Steps<L>,
-) -> Result<bool, NoMemory>
-    requires { (base : State) × IsSessionOf base planner.old }
-    ensures { (base : State) × IsSessionOf base planner.new }
-{
+) -> Result<bool, NoMemory> {
     let reply = answered(alloc, planner, number, line, steps)?;
     Ok(is_refusal(&reply))
 }
@@ -35,10 +30,7 @@ pub fn carry_out<L>(
     planner: &mut Planner,
     script: &[u8],
     steps: &mut Steps<L>,
-) -> Result<bool, PlanFault>
-    requires { (base : State) × IsSessionOf base planner.old }
-    ensures { (base : State) × IsSessionOf base planner.new }
-{
+) -> Result<bool, PlanFault> {
     let mut rest = script;
     let mut number: u32 = 0;
     let mut refused = false;
@@ -59,11 +51,8 @@ pub fn carry_out<L>(
 /// # Errors
 ///
 /// `NoMemory` where memory could not be had.
-pub fn close_batch<L>(planner: &mut Planner, steps: &mut Steps<L>) -> Result<(), NoMemory>
-    requires { (base : State) × IsSessionOf base planner.old }
-    ensures { (base : State) × IsSessionOf base planner.new }
-{
+pub fn close_batch<L>(planner: &mut Planner, steps: &mut Steps<L>) -> Result<(), NoMemory> {
     let number = 0;
-    let _reply = step(planner, number, Command::Cancel, steps)?;
+    let _reply = planner.step(number, Command::Cancel, steps)?;
     Ok(())
 }

@@ -1,7 +1,5 @@
 //! The plan of a table behind the last line of a script, as comma-separated values.
 ghost use Rattle.std.specs.Prelude.{◌<◌, IfSome, length};
-ghost use Rattle.state_changes.specs.States.{State};
-ghost use Rattle.planner_core.specs.Lines.{IsSessionOf};
 ghost use Rattle.game_types.specs.Sound.{IsSound};
 
 use crate::fault::{PlanFault, end_by_fault};
@@ -14,7 +12,7 @@ use plan_report::{RefusalCode, Reply};
 use planner_cli::Ready;
 use planner_core::Planner;
 use production_table::Table;
-use program_runs::{End, Names, step, written};
+use program_runs::{End, Names, written};
 use script_reader::Command;
 use std::alloc::Global;
 use std::rt::Files;
@@ -28,16 +26,14 @@ fn solved<L>(
     planner: &mut Planner,
     name: &str,
     steps: &mut Steps<L>,
-) -> Result<Reply, NoMemory>
-    requires { (base : State) × IsSessionOf base planner.old }
-{
+) -> Result<Reply, NoMemory> {
     let number = 0;
     let table = Text::copy(alloc, name)?;
     let solve = Command::Solve {
         table,
         budget: BUDGET,
     };
-    step(planner, number, solve, steps)
+    planner.step(number, solve, steps)
 }
 
 // Why an answer of the solver is no plan.
@@ -116,9 +112,7 @@ fn table_text<L>(
     script: &[u8],
     name: &str,
     steps: &mut Steps<L>,
-) -> Result<Vec<u8>, PlanFault>
-    requires { (base : State) × IsSessionOf base planner.old }
-{
+) -> Result<Vec<u8>, PlanFault> {
     let _refused = carry_out(alloc, planner, script, steps)?;
     close_batch(planner, steps)?;
     let reply = solved(alloc, planner, name, steps)?;
@@ -133,9 +127,7 @@ pub fn table_end<R: Files + Print, L>(
     names: Names<'_>,
     table: &str,
     steps: &mut Steps<L>,
-) -> End
-    requires { (base : State) × IsSessionOf base ready.planner }
-{
+) -> End {
     let Ready {
         mut planner,
         script,

@@ -72,7 +72,7 @@ fn cost_text(alloc: Global, game: &Game, cost: &Cost) -> Result<Vec<u8>, NoMemor
     record_text(alloc, &record)
 }
 
-#[tactic(auto, using(node_report::proofs::Texts::text_first, node_report::proofs::Texts::text_more, node_report::proofs::Texts::text_end))]
+#[tactic(auto, using(plan_report::proofs::Texts::text_first, plan_report::proofs::Texts::text_more, plan_report::proofs::Texts::text_end))]
 fn records_text(alloc: Global, game: &Game, costs: &[Cost]) -> Result<Vec<u8>, NoMemory>
     requires { IsSound game.now }
     ensures { IfOk result (λ text. text.items ≡ flat_map record_text (map (cost_fields game.now) costs.now)) }

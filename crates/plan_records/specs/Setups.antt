@@ -10,7 +10,7 @@ use Rattle.game_types.specs.declared.setups.Activity.{Activity}
 use Rattle.game_types.specs.declared.setups.Activity.TheVariants.{Craft, Mine, Pump, Generate, Boil, Research}
 use Rattle.game_types.specs.declared.setups.BeaconGroup.{BeaconGroup}
 use Rattle.game_types.specs.declared.setups.Setup.{Setup}
-use Rattle.node_report.specs.Nodes.{name_at}
+use Rattle.plan_report.specs.Nodes.{name_at}
 use Rattle.plan_records.specs.Fields.{Fields, with_blank, with_field}
 use Rattle.report_json.specs.Values.{good_id}
 

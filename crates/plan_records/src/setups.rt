@@ -2,7 +2,7 @@
 ghost use Rattle.std.specs.Prelude.{◌≡◌, ◌++◌, ◌∷◌, ◌==◌, [], codes, IfOk, OnOk, decimal, fold, length, slice_index_or, string_bytes};
 ghost use Rattle.csv.specs.Records.{fields_of};
 ghost use Rattle.game_types.specs.Sound.{IsSound};
-ghost use Rattle.node_report.specs.Nodes.{name_at};
+ghost use Rattle.plan_report.specs.Nodes.{name_at};
 ghost use Rattle.plan_base.specs.declared.shape.Kind.{Kind};
 ghost use Rattle.game_types.specs.declared.games.Game.{Game};
 ghost use Rattle.plan_records.specs.Setups.{activity_id, beacons_text, fuel_text, group_text, joined, module_text, modules_text, thing_id, with_no_setup, with_setup};
@@ -11,7 +11,7 @@ use crate::fields::{push_blank, push_field};
 use csv::StringRecord;
 use game_types::{Activity, BeaconGroup, Game, Setup};
 use name_table::Names;
-use node_report::kind_word;
+use plan_report::kind_word;
 use plan_base::{GoodId, Kind, NoMemory};
 use report_json::good_id;
 use std::alloc::Global;

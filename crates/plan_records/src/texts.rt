@@ -106,7 +106,7 @@ fn flow_text(
     record_text(alloc, &record)
 }
 
-#[tactic(auto, using(node_report::proofs::Texts::text_first, node_report::proofs::Texts::text_more, node_report::proofs::Texts::text_end))]
+#[tactic(auto, using(plan_report::proofs::Texts::text_first, plan_report::proofs::Texts::text_more, plan_report::proofs::Texts::text_end))]
 fn wants_text(alloc: Global, game: &Game, wants: &[(GoodId, Ratio)]) -> Result<Vec<u8>, NoMemory>
     requires { IsSound game.now }
     ensures { IfOk result (λ text. text.items ≡ records_text (map (want_of game.now) wants.now)) }

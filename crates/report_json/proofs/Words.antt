@@ -19,10 +19,10 @@ use Rattle.linear_table.specs.declared.Place.{Place}
 use Rattle.linear_table.specs.declared.Place.TheVariants.{Entry, Value, Reduced, Total}
 use Rattle.linear_table.specs.declared.SolveAnswer.{SolveAnswer}
 use Rattle.linear_table.specs.declared.SolveAnswer.TheVariants.{Planned, Infeasible, TooWide, OutOfBudget}
-use Rattle.node_report.specs.Layout.{Line}
-use Rattle.node_report.specs.Nodes.{good_word, name_at, node_word, solid_and_fluid}
-use Rattle.node_report.specs.Questions.{forbidden_lines, group_line, ranked_line, why_line}
-use Rattle.node_report.specs.Words.{object_word, printed_word}
+use Rattle.plan_report.specs.Layout.{Line}
+use Rattle.plan_report.specs.Nodes.{good_word, name_at, node_word, solid_and_fluid}
+use Rattle.plan_report.specs.Questions.{forbidden_lines, group_line, ranked_line, why_line}
+use Rattle.plan_report.specs.Words.{object_word, printed_word}
 use Rattle.script_reader.specs.Fields.{kind_word}
 use Rattle.fractions.specs.Print.{printed}
 use Rattle.linear_table.specs.declared.Plan.{Plan}

@@ -1,10 +1,10 @@
--- How the object of a reply is read: as the lines of words that are printed for the reply (`node_report/specs/Layout`). Decimals are passed
+-- How the object of a reply is read: as the lines of words that are printed for the reply (`plan_report/specs/Layout`). Decimals are passed
 -- over.
 use Rattle.std.specs.Prelude.{ℕ, ◌==◌, Bool, true, false, List, [], ◌∷◌, ◌++◌, Option, Some, None, codes, decimal, if◌then◌else◌, length, map, bytes_eq, unwrap_or}
 use Rattle.std.specs.List.{flat_map}
-use Rattle.node_report.specs.Layout.{Line}
-use Rattle.node_report.specs.Questions.{forbidden_lines}
-use Rattle.node_report.specs.Words.{printed_word}
+use Rattle.plan_report.specs.Layout.{Line}
+use Rattle.plan_report.specs.Questions.{forbidden_lines}
+use Rattle.plan_report.specs.Words.{printed_word}
 use Rattle.serde_json.specs.Data.{array, boolean, Data, item, Items, Members, negative, no_items, no_members, null, Num, number, object, string, unsigned, float}
 use Rattle.serde_json.specs.Find.{get}
 

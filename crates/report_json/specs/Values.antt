@@ -8,7 +8,7 @@ use Rattle.plan_base.specs.declared.ids.NodeId.{NodeId}
 use Rattle.plan_base.specs.declared.shape.Kind.TheVariants.{Special, Tech}
 use Rattle.script_reader.specs.Fields.{kind_word}
 use Rattle.game_types.specs.declared.games.Game.{Game}
-use Rattle.node_report.specs.Nodes.{name_at, solid_and_fluid}
+use Rattle.plan_report.specs.Nodes.{name_at, solid_and_fluid}
 use Rattle.serde_json.specs.Data.{array, boolean, Data, Items, Members, no_members, null, number, object, put, string, unsigned}
 use Rattle.serde_json.specs.View.{items_of}
 use Rattle.catalog_members.specs.Members.{id_text, id_value, with_amount, with_id, with_object, with_text}

@@ -8,7 +8,7 @@ use crate::lists::put_nodes;
 use crate::values::{push, put_flag, put_kind, put_list, put_node, put_whole, value_of};
 use catalog_members::{Members, put_text};
 use game_types::Game;
-use node_report::kind_word;
+use plan_report::kind_word;
 use plan_base::{Items, Kind, NoMemory, NodeId};
 use serde_json::{Map, Value};
 use std::alloc::Global;

@@ -11,7 +11,7 @@ use crate::codes::code_word;
 use crate::values::{push, put_kind, put_list, put_whole};
 use catalog_members::{Members, id_text, put_text};
 use game_types::{EffectKind, Game};
-use node_report::kind_word;
+use plan_report::kind_word;
 use plan_base::{Kind, NoMemory, NodeId};
 use plan_report::{Detail, RefusalCode};
 use serde_json::Value;

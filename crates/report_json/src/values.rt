@@ -1,7 +1,7 @@
 //! Single members of an object.
 ghost use Rattle.std.specs.Prelude.{◌≡◌, ◌+◌, ◌-◌, ◌++◌, ◌∷◌, [], IfOk, OnOk, string_bytes};
 ghost use Rattle.game_types.specs.Sound.{IsSound};
-ghost use Rattle.node_report.specs.Nodes.{name_at};
+ghost use Rattle.plan_report.specs.Nodes.{name_at};
 ghost use Rattle.plan_base.specs.declared.shape.Kind.{Kind};
 ghost use Rattle.serde_json.specs.Data.{null, object, put as with_member};
 ghost use Rattle.serde_json.specs.View.{items_view, members_view, view};
@@ -9,7 +9,7 @@ ghost use Rattle.report_json.specs.Values.{good_id, with_flag, with_good, with_k
 
 use catalog_members::{Members, id_text, put_id, put_text};
 use game_types::Game;
-use node_report::kind_word;
+use plan_report::kind_word;
 use plan_base::{GoodId, Kind, NoMemory, NodeId};
 use serde_json::Value;
 use std::alloc::Global;

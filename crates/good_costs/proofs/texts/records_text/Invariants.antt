@@ -1,4 +1,4 @@
-use Rattle.node_report.proofs.Texts.{TextSoFar}
+use Rattle.plan_report.proofs.Texts.{TextSoFar}
 use Rattle.plan_records.specs.Texts.{record_text}
 use Rattle.good_costs.specs.Costs.{cost_fields}
 use Rattle.good_costs.proofs.texts.records_text.Given as goal

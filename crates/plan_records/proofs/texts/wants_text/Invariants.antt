@@ -1,4 +1,4 @@
-use Rattle.node_report.proofs.Texts.{TextSoFar}
+use Rattle.plan_report.proofs.Texts.{TextSoFar}
 use Rattle.plan_records.specs.Records.{want_of}
 use Rattle.plan_records.specs.Texts.{record_text}
 use Rattle.plan_records.proofs.texts.wants_text.Given as goal
