@@ -30,7 +30,9 @@ fn command<'a>(alloc: Global, program: &'a str, about: &'a str) -> Result<Comman
 pub fn first_command<'a>(alloc: Global) -> Result<Command<'a>, AllocError> {
     Command::new(alloc, "factoplan_data")
         .version(VERSION)
-        .about("Writes what a script asks of a game as data for other programs. Behind the first word, --help tells of it.")
+        .about(
+            "Writes what a script asks of a game as data for other programs. Behind the first word, --help tells of it.",
+        )
         .arg(word(
             alloc,
             "WORD",

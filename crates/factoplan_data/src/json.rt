@@ -8,9 +8,7 @@ use planner_cli::{Long, Ready, Status};
 use planner_core::Planner;
 use program_runs::{End, LINES, Names, end_by};
 use report_json::line_text;
-use script_runner::{
-    has_many_lines, is_refusal, reading_of, reply_to, split_line, trim_return,
-};
+use script_runner::{has_many_lines, is_refusal, reading_of, reply_to, split_line, trim_return};
 use std::alloc::Global;
 use std::io;
 use std::io::Write;

@@ -19,57 +19,57 @@ use report_json::{decimal_of, good_id, put_figure, put_good};
 use serde_json::Map;
 use std::alloc::Global;
 
-fn push_field(record: &mut StringRecord, text: &str) -> Result<(), NoMemory>
-    ensures { OnOk result (fields_of record.new ≡ fields_of record.old ++ text.now ∷ []) }
+fn push_field(fields: &mut StringRecord, text: &str) -> Result<(), NoMemory>
+    ensures { OnOk result (fields_of fields.new ≡ fields_of fields.old ++ text.now ∷ []) }
 {
-    Ok(record.push_field(text)?)
+    Ok(fields.push_field(text)?)
 }
 
-fn push_both(record: &mut StringRecord, first: &str, second: &str) -> Result<(), NoMemory>
-    ensures { OnOk result (fields_of record.new ≡ fields_of record.old ++ (first.now ∷ second.now ∷ [])) }
+fn push_both(fields: &mut StringRecord, first: &str, second: &str) -> Result<(), NoMemory>
+    ensures { OnOk result (fields_of fields.new ≡ fields_of fields.old ++ (first.now ∷ second.now ∷ [])) }
 {
-    push_field(record, first)?;
-    push_field(record, second)
+    push_field(fields, first)?;
+    push_field(fields, second)
 }
 
-fn push_number(record: &mut StringRecord, alloc: Global, number: &Ratio) -> Result<(), NoMemory>
-    ensures { OnOk result (fields_of record.new ≡ fields_of record.old ++ estimate_fields (Some number.now)) }
+fn push_number(fields: &mut StringRecord, alloc: Global, number: &Ratio) -> Result<(), NoMemory>
+    ensures { OnOk result (fields_of fields.new ≡ fields_of fields.old ++ estimate_fields (Some number.now)) }
 {
     let exact = number.print(alloc)?;
     let decimal = decimal_of(alloc, number)?;
-    push_both(record, exact.as_str(), decimal.as_str())
+    push_both(fields, exact.as_str(), decimal.as_str())
 }
 
 fn push_estimate(
-    record: &mut StringRecord,
+    fields: &mut StringRecord,
     alloc: Global,
     estimate: &Option<Ratio>,
 ) -> Result<(), NoMemory>
-    ensures { OnOk result (fields_of record.new ≡ fields_of record.old ++ estimate_fields estimate.now) }
+    ensures { OnOk result (fields_of fields.new ≡ fields_of fields.old ++ estimate_fields estimate.now) }
 {
     match estimate {
-        Some(number) => push_number(record, alloc, number),
-        None => push_both(record, "", ""),
+        Some(number) => push_number(fields, alloc, number),
+        None => push_both(fields, "", ""),
     }
 }
 
 fn cost_record(alloc: Global, game: &Game, cost: &Cost) -> Result<StringRecord, NoMemory>
     requires { IsSound game.now }
-    ensures { IfOk result (λ record. fields_of record ≡ cost_fields game.now cost.now) }
+    ensures { IfOk result (λ fields. fields_of fields ≡ cost_fields game.now cost.now) }
 {
     let good = good_id(alloc, game, cost.0)?;
-    let mut record = StringRecord::new(alloc);
-    push_field(&mut record, good.as_str())?;
-    push_estimate(&mut record, alloc, &cost.1)?;
-    Ok(record)
+    let mut fields = StringRecord::new(alloc);
+    push_field(&mut fields, good.as_str())?;
+    push_estimate(&mut fields, alloc, &cost.1)?;
+    Ok(fields)
 }
 
 fn cost_text(alloc: Global, game: &Game, cost: &Cost) -> Result<Vec<u8>, NoMemory>
     requires { IsSound game.now }
     ensures { IfOk result (λ text. text.items ≡ record_text (cost_fields game.now cost.now)) }
 {
-    let record = cost_record(alloc, game, cost)?;
-    record_text(alloc, &record)
+    let fields = cost_record(alloc, game, cost)?;
+    record_text(alloc, &fields)
 }
 
 #[tactic(auto, using(plan_report::proofs::Texts::text_first, plan_report::proofs::Texts::text_more, plan_report::proofs::Texts::text_end))]

@@ -13,128 +13,124 @@ use std::alloc::Global;
 
 /// Puts a text.
 #[tactic(auto, unfolding(crate::specs::Fields::with_field))]
-pub fn push_field(record: &mut StringRecord, text: &str) -> Result<(), NoMemory>
-    ensures { OnOk result (fields_of record.new ≡ with_field text.now (fields_of record.old)) }
+pub fn push_field(fields: &mut StringRecord, text: &str) -> Result<(), NoMemory>
+    ensures { OnOk result (fields_of fields.new ≡ with_field text.now (fields_of fields.old)) }
 {
-    Ok(record.push_field(text)?)
+    Ok(fields.push_field(text)?)
 }
 
 /// Puts an empty text.
 #[tactic(auto, unfolding(crate::specs::Fields::with_blank))]
-pub fn push_blank(record: &mut StringRecord) -> Result<(), NoMemory>
-    ensures { OnOk result (fields_of record.new ≡ with_blank (fields_of record.old)) }
+pub fn push_blank(fields: &mut StringRecord) -> Result<(), NoMemory>
+    ensures { OnOk result (fields_of fields.new ≡ with_blank (fields_of fields.old)) }
 {
-    Ok(record.push_field("")?)
+    Ok(fields.push_field("")?)
 }
 
 /// Puts a number: its exact text, and its nearest decimal.
 #[tactic(auto, unfolding(crate::specs::Fields::with_number))]
-pub fn push_number(
-    record: &mut StringRecord,
-    alloc: Global,
-    number: &Ratio,
-) -> Result<(), NoMemory>
-    ensures { OnOk result (fields_of record.new ≡ with_number number.now (fields_of record.old)) }
+pub fn push_number(fields: &mut StringRecord, alloc: Global, number: &Ratio) -> Result<(), NoMemory>
+    ensures { OnOk result (fields_of fields.new ≡ with_number number.now (fields_of fields.old)) }
 {
     let exact = number.print(alloc)?;
-    push_field(record, exact.as_str())?;
+    push_field(fields, exact.as_str())?;
     let decimal = decimal_of(alloc, number)?;
-    push_field(record, decimal.as_str())
+    push_field(fields, decimal.as_str())
 }
 
 /// Puts that there is no number.
 #[tactic(auto, unfolding(crate::specs::Fields::with_no_number))]
-pub fn push_no_number(record: &mut StringRecord) -> Result<(), NoMemory>
-    ensures { OnOk result (fields_of record.new ≡ with_no_number (fields_of record.old)) }
+pub fn push_no_number(fields: &mut StringRecord) -> Result<(), NoMemory>
+    ensures { OnOk result (fields_of fields.new ≡ with_no_number (fields_of fields.old)) }
 {
-    push_blank(record)?;
-    push_blank(record)
+    push_blank(fields)?;
+    push_blank(fields)
 }
 
 #[tactic(auto, unfolding(crate::specs::Fields::with_figure))]
-fn push_wide(record: &mut StringRecord) -> Result<(), NoMemory>
-    ensures { OnOk result (fields_of record.new ≡ with_figure None (fields_of record.old)) }
+fn push_wide(fields: &mut StringRecord) -> Result<(), NoMemory>
+    ensures { OnOk result (fields_of fields.new ≡ with_figure None (fields_of fields.old)) }
 {
-    push_field(record, "wide")?;
-    push_field(record, "")
+    push_field(fields, "wide")?;
+    push_field(fields, "")
 }
 
 /// Puts a figure, or that it is past the limits of fractions.
 #[tactic(auto, unfolding(crate::specs::Fields::with_figure, crate::specs::Fields::with_number))]
 pub fn push_figure(
-    record: &mut StringRecord,
+    fields: &mut StringRecord,
     alloc: Global,
     figure: &Option<Ratio>,
 ) -> Result<(), NoMemory>
-    ensures { OnOk result (fields_of record.new ≡ with_figure figure.now (fields_of record.old)) }
+    ensures { OnOk result (fields_of fields.new ≡ with_figure figure.now (fields_of fields.old)) }
 {
     match figure {
-        Some(number) => push_number(record, alloc, number),
-        None => push_wide(record),
+        Some(number) => push_number(fields, alloc, number),
+        None => push_wide(fields),
     }
 }
 
 // Puts a whole figure.
 fn push_count(
-    record: &mut StringRecord,
+    fields: &mut StringRecord,
     alloc: Global,
     figure: &Option<Ratio>,
 ) -> Result<(), NoMemory>
-    ensures { OnOk result (fields_of record.new ≡ with_field (figure_word figure.now) (fields_of record.old)) }
+    ensures { OnOk result (fields_of fields.new ≡ with_field (figure_word figure.now) (fields_of fields.old)) }
 {
     match figure {
         Some(number) => {
             let exact = number.print(alloc)?;
-            push_field(record, exact.as_str())
+            push_field(fields, exact.as_str())
         }
-        None => push_field(record, "wide"),
+        None => push_field(fields, "wide"),
     }
 }
 
 /// Puts machines, and whole ones.
 #[tactic(auto, unfolding(crate::specs::Fields::with_machines))]
 pub fn push_machines(
-    record: &mut StringRecord,
+    fields: &mut StringRecord,
     alloc: Global,
     figures: &Figures,
 ) -> Result<(), NoMemory>
-    ensures { OnOk result (fields_of record.new ≡ with_machines figures.now (fields_of record.old)) }
+    ensures { OnOk result (fields_of fields.new ≡ with_machines figures.now (fields_of fields.old)) }
 {
-    push_figure(record, alloc, &figures.machines)?;
-    push_count(record, alloc, &figures.count)
+    push_figure(fields, alloc, &figures.machines)?;
+    push_count(fields, alloc, &figures.count)
 }
 
 /// Puts that there are no machines.
 #[tactic(auto, unfolding(crate::specs::Fields::with_no_machines))]
-pub fn push_no_machines(record: &mut StringRecord) -> Result<(), NoMemory>
-    ensures { OnOk result (fields_of record.new ≡ with_no_machines (fields_of record.old)) }
+pub fn push_no_machines(fields: &mut StringRecord) -> Result<(), NoMemory>
+    ensures { OnOk result (fields_of fields.new ≡ with_no_machines (fields_of fields.old)) }
 {
-    push_no_number(record)?;
-    push_blank(record)
+    push_no_number(fields)?;
+    push_blank(fields)
 }
 
 /// Puts power, drain, the power of beacons and pollution.
 #[tactic(auto, unfolding(crate::specs::Fields::with_uses))]
 pub fn push_uses(
-    record: &mut StringRecord,
+    fields: &mut StringRecord,
     alloc: Global,
     figures: &Figures,
 ) -> Result<(), NoMemory>
-    ensures { OnOk result (fields_of record.new ≡ with_uses figures.now (fields_of record.old)) }
+    ensures { OnOk result (fields_of fields.new ≡ with_uses figures.now (fields_of fields.old)) }
 {
-    push_figure(record, alloc, &figures.power)?;
-    push_figure(record, alloc, &figures.drain)?;
-    push_figure(record, alloc, &figures.beacons)?;
-    push_figure(record, alloc, &figures.pollution)
+    push_figure(fields, alloc, &figures.power)?;
+    push_figure(fields, alloc, &figures.drain)?;
+    push_figure(fields, alloc, &figures.beacons)?;
+    push_figure(fields, alloc, &figures.pollution)
 }
 
 /// Puts that nothing is used.
 #[tactic(auto, unfolding(crate::specs::Fields::with_no_uses))]
-pub fn push_no_uses(record: &mut StringRecord) -> Result<(), NoMemory>
-    ensures { OnOk result (fields_of record.new ≡ with_no_uses (fields_of record.old)) }
+pub fn push_no_uses(fields: &mut StringRecord) -> Result<(), NoMemory>
+    ensures { OnOk result (fields_of fields.new ≡ with_no_uses (fields_of fields.old)) }
 {
-    push_no_number(record)?;
-    push_no_number(record)?;
-    push_no_number(record)?;
-    push_no_number(record)
+    push_no_number(fields)?;
+    push_no_number(fields)?;
+    push_no_number(fields)?;
+    push_no_number(fields)
 }

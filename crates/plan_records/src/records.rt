@@ -19,11 +19,11 @@ use report_json::good_id;
 use std::alloc::Global;
 
 #[tactic(auto, unfolding(crate::specs::Records::with_head))]
-fn push_head(record: &mut StringRecord, section: &str, name: &str) -> Result<(), NoMemory>
-    ensures { OnOk result (fields_of record.new ≡ with_head section.now name.now (fields_of record.old)) }
+fn push_head(fields: &mut StringRecord, section: &str, name: &str) -> Result<(), NoMemory>
+    ensures { OnOk result (fields_of fields.new ≡ with_head section.now name.now (fields_of fields.old)) }
 {
-    push_field(record, section)?;
-    push_field(record, name)
+    push_field(fields, section)?;
+    push_field(fields, name)
 }
 
 /// The record of a row: its crafts a second, its figures, and the price of one craft.
@@ -36,16 +36,16 @@ pub fn row_record(
     figures: &Figures,
 ) -> Result<StringRecord, NoMemory>
     requires { IsSound game.now }
-    ensures { IfOk result (λ record. fields_of record ≡ row_record game.now row.now rate.now figures.now) }
+    ensures { IfOk result (λ fields. fields_of fields ≡ row_record game.now row.now rate.now figures.now) }
 {
-    let mut record = StringRecord::new(alloc);
-    push_head(&mut record, "row", row.label.as_str())?;
-    push_setup(&mut record, alloc, game, &row.setup)?;
-    push_number(&mut record, alloc, rate)?;
-    push_machines(&mut record, alloc, figures)?;
-    push_uses(&mut record, alloc, figures)?;
-    push_number(&mut record, alloc, &row.price)?;
-    Ok(record)
+    let mut fields = StringRecord::new(alloc);
+    push_head(&mut fields, "row", row.label.as_str())?;
+    push_setup(&mut fields, alloc, game, &row.setup)?;
+    push_number(&mut fields, alloc, rate)?;
+    push_machines(&mut fields, alloc, figures)?;
+    push_uses(&mut fields, alloc, figures)?;
+    push_number(&mut fields, alloc, &row.price)?;
+    Ok(fields)
 }
 
 /// The record of a good with so many a second.
@@ -58,17 +58,17 @@ pub fn flow_record(
     rate: &Ratio,
 ) -> Result<StringRecord, NoMemory>
     requires { IsSound game.now }
-    ensures { IfOk result (λ record. fields_of record ≡ flow_record game.now section.now good rate.now) }
+    ensures { IfOk result (λ fields. fields_of fields ≡ flow_record game.now section.now good rate.now) }
 {
     let name = good_id(alloc, game, good)?;
-    let mut record = StringRecord::new(alloc);
-    push_head(&mut record, section, name.as_str())?;
-    push_no_setup(&mut record)?;
-    push_number(&mut record, alloc, rate)?;
-    push_no_machines(&mut record)?;
-    push_no_uses(&mut record)?;
-    push_no_number(&mut record)?;
-    Ok(record)
+    let mut fields = StringRecord::new(alloc);
+    push_head(&mut fields, section, name.as_str())?;
+    push_no_setup(&mut fields)?;
+    push_number(&mut fields, alloc, rate)?;
+    push_no_machines(&mut fields)?;
+    push_no_uses(&mut fields)?;
+    push_no_number(&mut fields)?;
+    Ok(fields)
 }
 
 /// The record of the price of a unit of a good.
@@ -80,17 +80,17 @@ pub fn price_record(
     price: &Ratio,
 ) -> Result<StringRecord, NoMemory>
     requires { IsSound game.now }
-    ensures { IfOk result (λ record. fields_of record ≡ price_record game.now good price.now) }
+    ensures { IfOk result (λ fields. fields_of fields ≡ price_record game.now good price.now) }
 {
     let name = good_id(alloc, game, good)?;
-    let mut record = StringRecord::new(alloc);
-    push_head(&mut record, "price", name.as_str())?;
-    push_no_setup(&mut record)?;
-    push_no_number(&mut record)?;
-    push_no_machines(&mut record)?;
-    push_no_uses(&mut record)?;
-    push_number(&mut record, alloc, price)?;
-    Ok(record)
+    let mut fields = StringRecord::new(alloc);
+    push_head(&mut fields, "price", name.as_str())?;
+    push_no_setup(&mut fields)?;
+    push_no_number(&mut fields)?;
+    push_no_machines(&mut fields)?;
+    push_no_uses(&mut fields)?;
+    push_number(&mut fields, alloc, price)?;
+    Ok(fields)
 }
 
 /// The record of the table as a whole: what it uses, and its cost.
@@ -101,14 +101,14 @@ pub fn total_record(
     total: &Figures,
     cost: &Ratio,
 ) -> Result<StringRecord, NoMemory>
-    ensures { IfOk result (λ record. fields_of record ≡ total_record table.now total.now cost.now) }
+    ensures { IfOk result (λ fields. fields_of fields ≡ total_record table.now total.now cost.now) }
 {
-    let mut record = StringRecord::new(alloc);
-    push_head(&mut record, "total", table)?;
-    push_no_setup(&mut record)?;
-    push_no_number(&mut record)?;
-    push_no_machines(&mut record)?;
-    push_uses(&mut record, alloc, total)?;
-    push_number(&mut record, alloc, cost)?;
-    Ok(record)
+    let mut fields = StringRecord::new(alloc);
+    push_head(&mut fields, "total", table)?;
+    push_no_setup(&mut fields)?;
+    push_no_number(&mut fields)?;
+    push_no_machines(&mut fields)?;
+    push_uses(&mut fields, alloc, total)?;
+    push_number(&mut fields, alloc, cost)?;
+    Ok(fields)
 }

@@ -3,22 +3,21 @@ ghost use Rattle.std.specs.Prelude.{◌≡◌, ◌++◌, ◌∷◌, ◌==◌, []
 ghost use Rattle.csv.specs.Records.{fields_of};
 ghost use Rattle.game_types.specs.Sound.{IsSound};
 ghost use Rattle.plan_report.specs.Nodes.{name_at};
-ghost use Rattle.plan_base.specs.declared.shape.Kind.{Kind};
-ghost use Rattle.game_types.specs.declared.games.Game.{Game};
+ghost use Rattle.game_types.specs.Nodes.{special_names};
 ghost use Rattle.plan_records.specs.Setups.{activity_id, beacons_text, fuel_text, group_text, joined, module_text, modules_text, thing_id, with_no_setup, with_setup};
 
 use crate::fields::{push_blank, push_field};
 use csv::StringRecord;
 use game_types::{Activity, BeaconGroup, Game, Setup};
 use name_table::Names;
-use plan_report::kind_word;
 use plan_base::{GoodId, Kind, NoMemory};
+use plan_report::kind_word;
 use report_json::good_id;
 use std::alloc::Global;
 
 // The name of a special thing, empty past the last.
 fn special_name(place: u32) -> &'static str
-    ensures { (g : Game) → result.now ≡ name_at g Kind.Special place }
+    ensures { result.now ≡ slice_index_or special_names place [] }
 {
     match place {
         0 => "character",
@@ -101,11 +100,7 @@ fn join(text: &mut String, piece: &str) -> Result<(), NoMemory>
     Ok(())
 }
 
-fn module_text(
-    alloc: Global,
-    game: &Game,
-    pair: &(GoodId, u32),
-) -> Result<String, NoMemory>
+fn module_text(alloc: Global, game: &Game, pair: &(GoodId, u32)) -> Result<String, NoMemory>
     requires { IsSound game.now }
     ensures { IfOk result (λ text. string_bytes text ≡ module_text game.now pair.now) }
 {
@@ -114,12 +109,8 @@ fn module_text(
     Ok(format!(in alloc; "{count} {module}")?)
 }
 
-#[tactic(auto, unfolding(crate::specs::Setups::modules_text))]
-fn modules_text(
-    alloc: Global,
-    game: &Game,
-    modules: &[(GoodId, u32)],
-) -> Result<String, NoMemory>
+#[tactic(auto, using(crate::proofs::Folding::fold_next), unfolding(crate::specs::Setups::modules_text))]
+fn modules_text(alloc: Global, game: &Game, modules: &[(GoodId, u32)]) -> Result<String, NoMemory>
     requires { IsSound game.now }
     ensures { IfOk result (λ text. string_bytes text ≡ modules_text game.now modules.now) }
 {
@@ -142,7 +133,7 @@ fn group_text(alloc: Global, game: &Game, group: &BeaconGroup) -> Result<String,
     Ok(format!(in alloc; "{count} {beacon} shared by {share} with {modules}")?)
 }
 
-#[tactic(auto, unfolding(crate::specs::Setups::beacons_text))]
+#[tactic(auto, using(crate::proofs::Folding::fold_next), unfolding(crate::specs::Setups::beacons_text))]
 fn beacons_text(alloc: Global, game: &Game, groups: &[BeaconGroup]) -> Result<String, NoMemory>
     requires { IsSound game.now }
     ensures { IfOk result (λ text. string_bytes text ≡ beacons_text game.now groups.now) }
@@ -158,34 +149,34 @@ fn beacons_text(alloc: Global, game: &Game, groups: &[BeaconGroup]) -> Result<St
 /// Puts the set-up of a row: what it does, its machine, its fuel, its modules and its beacons.
 #[tactic(auto, unfolding(crate::specs::Setups::with_setup))]
 pub fn push_setup(
-    record: &mut StringRecord,
+    fields: &mut StringRecord,
     alloc: Global,
     game: &Game,
     setup: &Setup,
 ) -> Result<(), NoMemory>
     requires { IsSound game.now }
-    ensures { OnOk result (fields_of record.new ≡ with_setup game.now setup.now (fields_of record.old)) }
+    ensures { OnOk result (fields_of fields.new ≡ with_setup game.now setup.now (fields_of fields.old)) }
 {
     let activity = activity_id(alloc, game, setup.activity)?;
-    push_field(record, activity.as_str())?;
+    push_field(fields, activity.as_str())?;
     let machine = thing_id(alloc, game, Kind::Machine, setup.machine.0)?;
-    push_field(record, machine.as_str())?;
+    push_field(fields, machine.as_str())?;
     let fuel = fuel_text(alloc, game, setup.fuel)?;
-    push_field(record, fuel.as_str())?;
+    push_field(fields, fuel.as_str())?;
     let modules = modules_text(alloc, game, setup.modules.as_slice())?;
-    push_field(record, modules.as_str())?;
+    push_field(fields, modules.as_str())?;
     let beacons = beacons_text(alloc, game, setup.beacons.as_slice())?;
-    push_field(record, beacons.as_str())
+    push_field(fields, beacons.as_str())
 }
 
 /// Puts that there is no set-up.
 #[tactic(auto, unfolding(crate::specs::Setups::with_no_setup))]
-pub fn push_no_setup(record: &mut StringRecord) -> Result<(), NoMemory>
-    ensures { OnOk result (fields_of record.new ≡ with_no_setup (fields_of record.old)) }
+pub fn push_no_setup(fields: &mut StringRecord) -> Result<(), NoMemory>
+    ensures { OnOk result (fields_of fields.new ≡ with_no_setup (fields_of fields.old)) }
 {
-    push_blank(record)?;
-    push_blank(record)?;
-    push_blank(record)?;
-    push_blank(record)?;
-    push_blank(record)
+    push_blank(fields)?;
+    push_blank(fields)?;
+    push_blank(fields)?;
+    push_blank(fields)?;
+    push_blank(fields)
 }

@@ -7,7 +7,7 @@ ghost use Rattle.plan_records.specs.Records.{flow_record, head_text, price_of, p
 ghost use Rattle.plan_records.specs.Texts.{plan_text, record_text, records_text};
 
 use crate::records::{flow_record, price_record, row_record, total_record};
-use csv::{StringRecord, WriterBuilder};
+use csv::{Error, StringRecord, WriterBuilder};
 use fractions::Ratio;
 use game_types::Game;
 use linear_table::{Column, Plan};
@@ -26,23 +26,31 @@ pub struct Solved<'a> {
     pub plan: &'a Plan,
 }
 
-const HEAD: &str = "section,name,activity,machine,fuel,modules,beacons,rate,rate_decimal,machines,machines_decimal,whole_machines,power,power_decimal,drain,drain_decimal,beacon_power,beacon_power_decimal,pollution,pollution_decimal,price,price_decimal\n";
+const HEAD: &str =
+    "section,name,activity,machine,fuel,modules,beacons,rate,rate_decimal,machines,machines_decimal,whole_machines,power,power_decimal,drain,drain_decimal,beacon_power,beacon_power_decimal,pollution,pollution_decimal,price,price_decimal\n";
+
+// The bytes of a record as a writer writes them.
+fn written(alloc: Global, fields: &StringRecord) -> Result<Vec<u8>, Error>
+    ensures { IfOk result (λ text. text.items ≡ record_text (fields_of fields.now)) }
+{
+    let mut writer = WriterBuilder::new().from_writer(Vec::new(alloc));
+    writer.write_byte_record(fields.as_byte_record())?;
+    match writer.into_inner() {
+        Ok(text) => Ok(text),
+        Err(e) => Err(e.into_error()),
+    }
+}
 
 /// The text of a record: its fields with commas between, in quotes where they need them, and the newline.
 ///
 /// # Errors
 ///
-/// `NoMemory` where memory could not be had.
-pub fn record_text(alloc: Global, record: &StringRecord) -> Result<Vec<u8>, NoMemory>
-    ensures { IfOk result (λ text. text.items ≡ record_text (fields_of record.now)) }
+/// `NoMemory` where memory could not be had. A writer to memory fails by nothing else.
+pub fn record_text(alloc: Global, fields: &StringRecord) -> Result<Vec<u8>, NoMemory>
+    ensures { IfOk result (λ text. text.items ≡ record_text (fields_of fields.now)) }
 {
-    let mut writer = WriterBuilder::new().from_writer(Vec::new(alloc));
-    // A writer to memory fails where that could not be had.
-    match writer.write_byte_record(record.as_byte_record()) {
-        Ok(()) => match writer.into_inner() {
-            Ok(text) => Ok(text),
-            Err(_) => Err(NoMemory),
-        },
+    match written(alloc, fields) {
+        Ok(text) => Ok(text),
         Err(_) => Err(NoMemory),
     }
 }
@@ -57,21 +65,16 @@ fn row_text(
     requires { IsSound game.now }
     ensures { IfOk result (λ text. text.items ≡ record_text (row_record game.now row.now rate.now figures.now)) }
 {
-    let record = row_record(alloc, game, row, rate, figures)?;
-    record_text(alloc, &record)
+    let fields = row_record(alloc, game, row, rate, figures)?;
+    record_text(alloc, &fields)
 }
 
-fn price_text(
-    alloc: Global,
-    game: &Game,
-    good: GoodId,
-    price: &Ratio,
-) -> Result<Vec<u8>, NoMemory>
+fn price_text(alloc: Global, game: &Game, good: GoodId, price: &Ratio) -> Result<Vec<u8>, NoMemory>
     requires { IsSound game.now }
     ensures { IfOk result (λ text. text.items ≡ record_text (price_record game.now good price.now)) }
 {
-    let record = price_record(alloc, game, good, price)?;
-    record_text(alloc, &record)
+    let fields = price_record(alloc, game, good, price)?;
+    record_text(alloc, &fields)
 }
 
 fn rows_text(
@@ -102,8 +105,8 @@ fn flow_text(
     requires { IsSound game.now }
     ensures { IfOk result (λ text. text.items ≡ record_text (flow_record game.now section.now good rate.now)) }
 {
-    let record = flow_record(alloc, game, section, good, rate)?;
-    record_text(alloc, &record)
+    let fields = flow_record(alloc, game, section, good, rate)?;
+    record_text(alloc, &fields)
 }
 
 #[tactic(auto, using(plan_report::proofs::Texts::text_first, plan_report::proofs::Texts::text_more, plan_report::proofs::Texts::text_end))]
@@ -179,8 +182,8 @@ fn total_text(
 ) -> Result<Vec<u8>, NoMemory>
     ensures { IfOk result (λ text. text.items ≡ record_text (total_record table.now total.now cost.now)) }
 {
-    let record = total_record(alloc, table, total, cost)?;
-    record_text(alloc, &record)
+    let fields = total_record(alloc, table, total, cost)?;
+    record_text(alloc, &fields)
 }
 
 // Texts one behind another, behind the names of the fields.

@@ -49,12 +49,7 @@ fn put_row(
     put_uses(members, alloc, figures)
 }
 
-fn row_value(
-    alloc: Global,
-    label: &str,
-    rate: &Ratio,
-    figures: &Figures,
-) -> Result<Value, NoMemory>
+fn row_value(alloc: Global, label: &str, rate: &Ratio, figures: &Figures) -> Result<Value, NoMemory>
     ensures { IfOk result (λ value. view value ≡ row_value (label.now, (rate.now, figures.now))) }
 {
     let mut members = Map::new(alloc);
@@ -73,10 +68,7 @@ fn row_values(
 {
     let mut list = Vec::new(alloc);
     for (label, (rate, figures)) in labels.iter().zip(rates.iter().zip(rows)) {
-        push(
-            &mut list,
-            row_value(alloc, label.as_str(), rate, figures)?,
-        )?;
+        push(&mut list, row_value(alloc, label.as_str(), rate, figures)?)?;
     }
     Ok(list)
 }
@@ -197,12 +189,7 @@ fn put_streams(
 
 // ---- prices
 
-fn price_value(
-    alloc: Global,
-    game: &Game,
-    good: GoodId,
-    price: &Ratio,
-) -> Result<Value, NoMemory>
+fn price_value(alloc: Global, game: &Game, good: GoodId, price: &Ratio) -> Result<Value, NoMemory>
     requires { IsSound game.now }
     ensures { IfOk result (λ value. view value ≡ price_value game.now (good, price.now)) }
 {
@@ -422,10 +409,7 @@ fn exchange_values(
 {
     let mut list = Vec::new(alloc);
     for exchange in trail {
-        push(
-            &mut list,
-            exchange_value(alloc, game, labels, *exchange)?,
-        )?;
+        push(&mut list, exchange_value(alloc, game, labels, *exchange)?)?;
     }
     Ok(list)
 }

@@ -8,8 +8,8 @@ use crate::lists::put_nodes;
 use crate::values::{push, put_flag, put_kind, put_list, put_node, put_whole, value_of};
 use catalog_members::{Members, put_text};
 use game_types::Game;
-use plan_report::kind_word;
 use plan_base::{Items, Kind, NoMemory, NodeId};
+use plan_report::kind_word;
 use serde_json::{Map, Value};
 use std::alloc::Global;
 
@@ -135,11 +135,7 @@ pub fn put_why(
     put_list(members, alloc, "by", list)
 }
 
-fn group_value(
-    alloc: Global,
-    game: &Game,
-    group: &(bool, Items<NodeId>),
-) -> Result<Value, NoMemory>
+fn group_value(alloc: Global, game: &Game, group: &(bool, Items<NodeId>)) -> Result<Value, NoMemory>
     requires { IsSound game.now }
     ensures { IfOk result (λ value. view value ≡ group_value game.now group.now) }
 {

@@ -9,8 +9,8 @@ ghost use Rattle.report_json.specs.Values.{good_id, with_flag, with_good, with_k
 
 use catalog_members::{Members, id_text, put_id, put_text};
 use game_types::Game;
-use plan_report::kind_word;
 use plan_base::{GoodId, Kind, NoMemory, NodeId};
+use plan_report::kind_word;
 use serde_json::Value;
 use std::alloc::Global;
 
