@@ -77,6 +77,7 @@ fn push_cost(
 /// # Errors
 ///
 /// `NoMemory` where memory could not be had.
+#[tactic(auto, using(crate::proofs::Reached::none_below, crate::proofs::Reached::next_below))]
 pub fn costs_of(alloc: Global, game: &Game, reached: &[bool]) -> Result<Vec<Cost>, NoMemory>
     requires { IsSound game.now }
     ensures { IfOk result (λ costs. goods_of costs.items ≡ reached_below game.now reached.now (solid_and_fluid game.now)) }
