@@ -14,7 +14,7 @@ use std::alloc::Global;
 use std::rt::Files;
 
 /// How costs are written.
-#[derive(Clone, Copy, Debug, PartialEq, Eq)]
+#[derive(Clone, Copy)]
 pub enum Form {
     Csv,
     Json,
@@ -57,6 +57,19 @@ fn text_behind<L>(
     Ok((text, refused))
 }
 
+fn text_of_ready<L>(
+    alloc: Global,
+    ready: Ready,
+    form: Form,
+    steps: &mut Steps<L>,
+) -> Result<(Vec<u8>, bool), PlanFault> {
+    let Ready {
+        mut planner,
+        script,
+    } = ready;
+    text_behind(alloc, &mut planner, script.as_slice(), form, steps)
+}
+
 /// Writes the costs behind a script, and answers how the run ends.
 pub fn costs_end<R: Files + Print, L>(
     rt: &R,
@@ -66,11 +79,7 @@ pub fn costs_end<R: Files + Print, L>(
     form: Form,
     steps: &mut Steps<L>,
 ) -> End {
-    let Ready {
-        mut planner,
-        script,
-    } = ready;
-    match text_behind(alloc, &mut planner, script.as_slice(), form, steps) {
+    match text_of_ready(alloc, ready, form, steps) {
         Ok((text, refused)) => written(rt, alloc, text.as_slice(), u8::from(refused), names),
         Err(fault) => end_by_fault(rt, alloc, fault, names),
     }

@@ -6,7 +6,7 @@ use std::alloc::Global;
 use std::rt::Files;
 
 /// Why there is no plan to write.
-#[derive(Clone, Copy, Debug, PartialEq, Eq)]
+#[derive(Clone, Copy)]
 pub enum PlanFault {
     /// There is no table of the name.
     NoTable,

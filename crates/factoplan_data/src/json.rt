@@ -97,6 +97,19 @@ fn write_lines<R: Print, L>(
     Ok(refused)
 }
 
+fn write_ready<R: Print, L>(
+    rt: &R,
+    alloc: Global,
+    ready: Ready,
+    steps: &mut Steps<L>,
+) -> Result<bool, Status> {
+    let Ready {
+        mut planner,
+        script,
+    } = ready;
+    write_lines(rt, alloc, &mut planner, script.as_slice(), steps)
+}
+
 /// Writes the replies to a script over its planner, and answers how the run ends.
 pub fn json_end<R: Files + Print, L>(
     rt: &R,
@@ -105,11 +118,7 @@ pub fn json_end<R: Files + Print, L>(
     names: Names<'_>,
     steps: &mut Steps<L>,
 ) -> End {
-    let Ready {
-        mut planner,
-        script,
-    } = ready;
-    match write_lines(rt, alloc, &mut planner, script.as_slice(), steps) {
+    match write_ready(rt, alloc, ready, steps) {
         Ok(refused) => End::quiet(u8::from(refused)),
         Err(status) => end_by(rt, alloc, &status, names),
     }

@@ -5,10 +5,10 @@ ghost use Rattle.game_types.specs.Sound.{IsSound};
 use crate::fault::{PlanFault, end_by_fault};
 use crate::lines::{carry_out, close_batch};
 use game_types::Game;
-use linear_table::SolveAnswer;
-use plan_base::{NoMemory, Steps, Text};
+use linear_table::{Column, SolveAnswer};
+use plan_base::{GoodId, NoMemory, Steps, Text};
 use plan_records::{Solved, plan_text};
-use plan_report::{RefusalCode, Reply};
+use plan_report::{Figures, RefusalCode, Reply};
 use planner_cli::Ready;
 use planner_core::Planner;
 use production_table::Table;
@@ -75,6 +75,35 @@ fn text_among(
     }
 }
 
+// The text of an answer that is a plan.
+fn text_of_answer(
+    alloc: Global,
+    planner: &Planner,
+    name: &str,
+    goods: &[GoodId],
+    columns: &[Column],
+    rows: &[Figures],
+    total: &Figures,
+    answer: &SolveAnswer,
+) -> Result<Vec<u8>, PlanFault> {
+    match answer {
+        SolveAnswer::Planned(plan) => text_among(
+            alloc,
+            planner.game(),
+            planner.tables(),
+            name,
+            &Solved {
+                goods,
+                columns,
+                rows,
+                total,
+                plan,
+            },
+        ),
+        _ => Err(fault_of_answer(answer)),
+    }
+}
+
 // The text of a reply that is a plan.
 fn text_of(alloc: Global, planner: &Planner, reply: &Reply) -> Result<Vec<u8>, PlanFault> {
     match reply {
@@ -85,21 +114,17 @@ fn text_of(alloc: Global, planner: &Planner, reply: &Reply) -> Result<Vec<u8>, P
             columns,
             rows,
             total,
-            answer: SolveAnswer::Planned(plan),
-        } => text_among(
+            answer,
+        } => text_of_answer(
             alloc,
-            planner.game(),
-            planner.tables(),
+            planner,
             table.as_str(),
-            &Solved {
-                goods: goods.as_slice(),
-                columns: columns.as_slice(),
-                rows: rows.as_slice(),
-                total,
-                plan,
-            },
+            goods.as_slice(),
+            columns.as_slice(),
+            rows.as_slice(),
+            total,
+            answer,
         ),
-        Reply::Solved { answer, .. } => Err(fault_of_answer(answer)),
         Reply::Refused { code, .. } => Err(fault_of_code(*code)),
         _ => Err(PlanFault::Unsolved),
     }
@@ -119,6 +144,19 @@ fn table_text<L>(
     text_of(alloc, planner, &reply)
 }
 
+fn text_of_ready<L>(
+    alloc: Global,
+    ready: Ready,
+    name: &str,
+    steps: &mut Steps<L>,
+) -> Result<Vec<u8>, PlanFault> {
+    let Ready {
+        mut planner,
+        script,
+    } = ready;
+    table_text(alloc, &mut planner, script.as_slice(), name, steps)
+}
+
 /// Writes the plan of a table behind a script, and answers how the run ends.
 pub fn table_end<R: Files + Print, L>(
     rt: &R,
@@ -128,11 +166,7 @@ pub fn table_end<R: Files + Print, L>(
     table: &str,
     steps: &mut Steps<L>,
 ) -> End {
-    let Ready {
-        mut planner,
-        script,
-    } = ready;
-    match table_text(alloc, &mut planner, script.as_slice(), table, steps) {
+    match text_of_ready(alloc, ready, table, steps) {
         Ok(text) => written(rt, alloc, text.as_slice(), 0, names),
         Err(fault) => end_by_fault(rt, alloc, fault, names),
     }
