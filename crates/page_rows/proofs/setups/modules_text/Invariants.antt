@@ -1,0 +1,7 @@
+use Rattle.std.proofs.Common.{string_bytes}
+use Rattle.node_report.proofs.Texts.{TextSoFar}
+use Rattle.page_rows.specs.Setups.{module_text}
+use Rattle.page_rows.proofs.setups.modules_text.Given as goal
+
+abbrev pub invariant-loop-module : goal.invariant-loop-module
+invariant-loop-module l = TextSoFar (λ text. text) (module_text l.game) l.modules l.module-index (string_bytes l.text)
