@@ -13,7 +13,7 @@ fn push_labelled(text: &mut String, letter: char) -> Result<(), AllocError>
 {
     match letter {
         '\\' => text.push_str("\\\\"),
-        '\0'..='\x1f' => text.push('\u{fffd}'),
+        '\0'..='\x1f' => text.push_str("\u{fffd}"),
         _ => text.push(letter),
     }
 }
