@@ -21,7 +21,7 @@ good_text g good = thing_text g (good_thing g good).kind (good_thing g good).ind
 
 -- so many of a module
 abbrev pub module_text : Game → GoodId × ℕ → List ℕ
-module_text g module_ = codes "<li>" ++ (decimal module_.1 ++ (codes " &times; " ++ (good_text g module_.0 ++ codes "</li>")))
+module_text g counted = codes "<li>" ++ (decimal counted.1 ++ (codes " &times; " ++ (good_text g counted.0 ++ codes "</li>")))
 
 abbrev pub modules_text : Game → List (GoodId × ℕ) → List ℕ
 modules_text g modules = joined (map (module_text g) modules)

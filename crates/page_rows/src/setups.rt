@@ -37,12 +37,12 @@ pub(crate) fn good_text(alloc: Global, game: &Game, good: GoodId) -> Result<Stri
 }
 
 // So many of a module.
-fn module_text(alloc: Global, game: &Game, module: GoodId, count: u32) -> Result<String, NoMemory>
+fn module_text(alloc: Global, game: &Game, good: GoodId, count: u32) -> Result<String, NoMemory>
     requires { IsSound game.now }
-    ensures { IfOk result (λ text. string_bytes text ≡ module_text game.now (module, count)) }
+    ensures { IfOk result (λ text. string_bytes text ≡ module_text game.now (good, count)) }
 {
-    let module = good_text(alloc, game, module)?;
-    Ok(format!(in alloc; "<li>{count} &times; {module}</li>")?)
+    let name = good_text(alloc, game, good)?;
+    Ok(format!(in alloc; "<li>{count} &times; {name}</li>")?)
 }
 
 fn modules_text(alloc: Global, game: &Game, modules: &[(GoodId, u32)]) -> Result<String, NoMemory>
@@ -50,8 +50,8 @@ fn modules_text(alloc: Global, game: &Game, modules: &[(GoodId, u32)]) -> Result
     ensures { IfOk result (λ text. string_bytes text ≡ modules_text game.now modules.now) }
 {
     let mut text = String::new(alloc);
-    for (module, count) in modules {
-        let item = module_text(alloc, game, *module, *count)?;
+    for (good, count) in modules {
+        let item = module_text(alloc, game, *good, *count)?;
         text.push_str(item.as_str())?;
     }
     Ok(text)

@@ -3,5 +3,5 @@ use Rattle.node_report.proofs.Texts.{TextSoFar}
 use Rattle.page_rows.specs.Setups.{module_text}
 use Rattle.page_rows.proofs.setups.modules_text.Given as goal
 
-abbrev pub invariant-loop-module : goal.invariant-loop-module
-invariant-loop-module l = TextSoFar (λ text. text) (module_text l.game) l.modules l.module-index (string_bytes l.text)
+abbrev pub invariant-loop-good : goal.invariant-loop-good
+invariant-loop-good l = TextSoFar (λ text. text) (module_text l.game) l.modules l.good-index (string_bytes l.text)
