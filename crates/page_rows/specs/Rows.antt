@@ -46,8 +46,14 @@ work_text g row rate note =
 abbrev pub counts_text : Figures → List ℕ
 counts_text f = figure_cell (codes "machines") f.machines ++ figure_cell (codes "to build") f.count
 
+abbrev pub powers_text : Figures → List ℕ
+powers_text f = power_cell (codes "power") f.power ++ power_cell (codes "drain") f.drain
+
+abbrev pub around_text : Figures → List ℕ
+around_text f = power_cell (codes "beacons") f.beacons ++ figure_cell (codes "pollution/min") f.pollution
+
 abbrev pub uses_text : Figures → List ℕ
-uses_text f = power_cell (codes "power") f.power ++ (power_cell (codes "drain") f.drain ++ (power_cell (codes "beacons") f.beacons ++ figure_cell (codes "pollution/min") f.pollution))
+uses_text f = powers_text f ++ around_text f
 
 unfoldable pub row_text : Game → List ℕ → TableRow → Fraction → Figures → List ℕ → List ℕ
 row_text g place row rate f note =

@@ -27,10 +27,13 @@ abbrev pub modules_text : Game → List (GoodId × ℕ) → List ℕ
 modules_text g modules = joined (map (module_text g) modules)
 
 -- so many beacons that reach the machine, how many machines each is for, and its modules
+abbrev pub beacon_item : ℕ → List ℕ → ℕ → List ℕ → List ℕ
+beacon_item count beacon share modules =
+    codes "<li>" ++ (decimal count ++ (codes " &times; " ++ (beacon ++ (codes " <small>each for " ++ (decimal share
+        ++ (codes "</small><ul>" ++ (modules ++ codes "</ul></li>")))))))
+
 unfoldable pub beacon_text : Game → BeaconGroup → List ℕ
-beacon_text g group =
-    codes "<li>" ++ (decimal group.count ++ (codes " &times; " ++ (machine_text g group.beacon ++ (codes " <small>each for " ++ (decimal group.share
-        ++ (codes "</small><ul>" ++ (modules_text g group.modules ++ codes "</ul></li>")))))))
+beacon_text g group = beacon_item group.count (machine_text g group.beacon) group.share (modules_text g group.modules)
 
 abbrev pub beacons_text : Game → List BeaconGroup → List ℕ
 beacons_text g groups = joined (map (beacon_text g) groups)

@@ -42,9 +42,15 @@ activity_thing g Generate = record { kind = Special; index = 1 }
 activity_thing g (Boil good) = good_thing g good
 activity_thing g (Research tech) = record { kind = Tech; index = tech.0 }
 
+-- the place of the picture of a thing
+abbrev pub picture_text : List ℕ → ℕ → List ℕ
+picture_text kind index = codes "<svg class=\"i\" aria-hidden=\"true\"><use href=\"#" ++ (kind ++ (codes "-" ++ (decimal index ++ codes "\"/></svg>")))
+
+-- a name behind the place of a picture
+abbrev pub marked_text : List ℕ → List ℕ → List ℕ → List ℕ
+marked_text kind name picture =
+    codes "<span class=\"" ++ (kind ++ (codes "\" title=\"" ++ (kind ++ (codes ":" ++ (name ++ (codes "\">" ++ (picture ++ (name ++ codes "</span>"))))))))
+
 -- a thing with its name, marked by its kind, and with a place for its picture
 unfoldable pub thing_text : Game → Kind → ℕ → List ℕ
-thing_text g kind index =
-    codes "<span class=\"" ++ (kind_word kind ++ (codes "\" title=\"" ++ (kind_word kind ++ (codes ":" ++ (escaped (thing_name g kind index)
-        ++ (codes "\"><svg class=\"i\" aria-hidden=\"true\"><use href=\"#" ++ (kind_word kind ++ (codes "-" ++ (decimal index
-        ++ (codes "\"/></svg>" ++ (escaped (thing_name g kind index) ++ codes "</span>")))))))))))
+thing_text g kind index = marked_text (kind_word kind) (escaped (thing_name g kind index)) (picture_text (kind_word kind) index)

@@ -2,7 +2,7 @@
 ghost use Rattle.std.specs.Prelude.{◌≡◌, ◌++◌, IfOk, slice_get, slice_index_or, string_bytes};
 ghost use Rattle.fractions.specs.Fraction.{zero_fraction};
 ghost use Rattle.game_types.specs.Sound.{IsSound};
-ghost use Rattle.page_rows.specs.Rows.{activity_text, counts_text, has_none, idle_word, is_electric, label_text, link_at, link_by, link_with, links_text, note_text, place_link, place_text, row_at, row_text, row_with, rows_text, total_text, uses_text, work_text};
+ghost use Rattle.page_rows.specs.Rows.{activity_text, around_text, counts_text, has_none, idle_word, is_electric, label_text, link_at, link_by, link_with, links_text, note_text, place_link, place_text, powers_text, row_at, row_text, row_with, rows_text, total_text, uses_text, work_text};
 
 use crate::cells::{amount_cell, figure_cell, power_cell};
 use crate::setups::setup_text;
@@ -87,15 +87,31 @@ fn counts_text(alloc: Global, figures: &Figures) -> Result<String, NoMemory>
     Ok(format!(in alloc; "{machines}{count}")?)
 }
 
+// The power that machines take, and what they take beside it.
+fn powers_text(alloc: Global, figures: &Figures) -> Result<String, NoMemory>
+    ensures { IfOk result (λ text. string_bytes text ≡ powers_text figures.now) }
+{
+    let power = power_cell(alloc, "power", &figures.power)?;
+    let drain = power_cell(alloc, "drain", &figures.drain)?;
+    Ok(format!(in alloc; "{power}{drain}")?)
+}
+
+// The power of the beacons round machines, and their pollution.
+fn around_text(alloc: Global, figures: &Figures) -> Result<String, NoMemory>
+    ensures { IfOk result (λ text. string_bytes text ≡ around_text figures.now) }
+{
+    let beacons = power_cell(alloc, "beacons", &figures.beacons)?;
+    let pollution = figure_cell(alloc, "pollution/min", &figures.pollution)?;
+    Ok(format!(in alloc; "{beacons}{pollution}")?)
+}
+
 // What machines take: power, drain, beacons and pollution.
 fn uses_text(alloc: Global, figures: &Figures) -> Result<String, NoMemory>
     ensures { IfOk result (λ text. string_bytes text ≡ uses_text figures.now) }
 {
-    let power = power_cell(alloc, "power", &figures.power)?;
-    let drain = power_cell(alloc, "drain", &figures.drain)?;
-    let beacons = power_cell(alloc, "beacons", &figures.beacons)?;
-    let pollution = figure_cell(alloc, "pollution/min", &figures.pollution)?;
-    Ok(format!(in alloc; "{power}{drain}{beacons}{pollution}")?)
+    let powers = powers_text(alloc, figures)?;
+    let around = around_text(alloc, figures)?;
+    Ok(format!(in alloc; "{powers}{around}")?)
 }
 
 // A row at its rate.
@@ -201,7 +217,7 @@ fn link_at(
 }
 
 // Links to the rows with machines of the kind of a row.
-#[tactic(auto, using(crate::proofs::Below::texts_none, crate::proofs::Below::texts_next, crate::proofs::Below::texts_all))]
+#[tactic(auto, using(crate::proofs::Below::below_first, crate::proofs::Below::below_more, crate::proofs::Below::below_end))]
 fn links_text(
     alloc: Global,
     line: u32,
@@ -316,7 +332,7 @@ fn row_at(
 /// # Errors
 ///
 /// `NoMemory` where memory could not be had.
-#[tactic(auto, using(crate::proofs::Below::texts_none, crate::proofs::Below::texts_next, crate::proofs::Below::texts_all))]
+#[tactic(auto, using(crate::proofs::Below::below_first, crate::proofs::Below::below_more, crate::proofs::Below::below_end))]
 pub fn rows_text(
     alloc: Global,
     game: &Game,

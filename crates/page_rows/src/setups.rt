@@ -1,7 +1,7 @@
 //! What a row is set to do: its modules, its beacons, its fuel, and which fluids it takes.
 ghost use Rattle.std.specs.Prelude.{◌≡◌, ◌++◌, IfOk, map, string_bytes};
 ghost use Rattle.game_types.specs.Sound.{IsSound};
-ghost use Rattle.page_rows.specs.Setups.{beacon_text, beacons_text, fuel_text, good_text, machine_text, module_text, modules_text, setup_text, taken_text, takings_text};
+ghost use Rattle.page_rows.specs.Setups.{beacon_item, beacon_text, beacons_text, fuel_text, good_text, machine_text, module_text, modules_text, setup_text, taken_text, takings_text};
 
 use crate::things::{Thing, good_thing, thing_text};
 use game_types::{BeaconGroup, Game, Setup};
@@ -57,17 +57,34 @@ fn modules_text(alloc: Global, game: &Game, modules: &[(GoodId, u32)]) -> Result
     Ok(text)
 }
 
-// So many beacons of a kind with their modules.
+// So many beacons, how many machines each is for, and their modules.
+fn beacon_item(
+    alloc: Global,
+    count: u32,
+    beacon: &str,
+    share: u32,
+    modules: &str,
+) -> Result<String, NoMemory>
+    ensures { IfOk result (λ text. string_bytes text ≡ beacon_item count beacon.now share modules.now) }
+{
+    Ok(format!(in alloc; "<li>{count} &times; {beacon} <small>each for {share}</small><ul>{modules}</ul></li>")?)
+}
+
+// The beacons of a kind with their modules.
 #[tactic(auto, unfolding(crate::specs::Setups::beacon_text))]
 fn beacon_text(alloc: Global, game: &Game, group: &BeaconGroup) -> Result<String, NoMemory>
     requires { IsSound game.now }
     ensures { IfOk result (λ text. string_bytes text ≡ beacon_text game.now group.now) }
 {
-    let count = group.count;
-    let share = group.share;
     let beacon = machine_text(alloc, game, group.beacon)?;
     let modules = modules_text(alloc, game, group.modules.as_slice())?;
-    Ok(format!(in alloc; "<li>{count} &times; {beacon} <small>each for {share}</small><ul>{modules}</ul></li>")?)
+    beacon_item(
+        alloc,
+        group.count,
+        beacon.as_str(),
+        group.share,
+        modules.as_str(),
+    )
 }
 
 fn beacons_text(alloc: Global, game: &Game, groups: &[BeaconGroup]) -> Result<String, NoMemory>

@@ -1,7 +1,7 @@
 //! Things with their kinds and names.
 ghost use Rattle.std.specs.Prelude.{◌≡◌, ◌∷◌, ◌++◌, [], IfOk, slice_index_or, string_bytes};
 ghost use Rattle.game_types.specs.Sound.{IsSound};
-ghost use Rattle.page_rows.specs.Things.{activity_thing, good_thing, special_name, thing_name, thing_text};
+ghost use Rattle.page_rows.specs.Things.{activity_thing, good_thing, marked_text, picture_text, special_name, thing_name, thing_text};
 
 use game_types::{Activity, Game};
 use name_table::Names;
@@ -114,6 +114,20 @@ pub fn activity_thing(game: &Game, activity: Activity) -> Thing
     }
 }
 
+// The place of the picture of a thing.
+fn picture_text(alloc: Global, kind: &str, index: u32) -> Result<String, NoMemory>
+    ensures { IfOk result (λ text. string_bytes text ≡ picture_text kind.now index) }
+{
+    Ok(format!(in alloc; "<svg class=\"i\" aria-hidden=\"true\"><use href=\"#{kind}-{index}\"/></svg>")?)
+}
+
+// A name behind the place of a picture.
+fn marked_text(alloc: Global, kind: &str, name: &str, picture: &str) -> Result<String, NoMemory>
+    ensures { IfOk result (λ text. string_bytes text ≡ marked_text kind.now name.now picture.now) }
+{
+    Ok(format!(in alloc; "<span class=\"{kind}\" title=\"{kind}:{name}\">{picture}{name}</span>")?)
+}
+
 /// A thing with its name, marked by its kind, and with a place for its picture.
 ///
 /// # Errors
@@ -124,7 +138,7 @@ pub fn thing_text(alloc: Global, game: &Game, thing: Thing) -> Result<String, No
     ensures { IfOk result (λ text. string_bytes text ≡ thing_text game.now thing.kind thing.index) }
 {
     let kind = kind_word(thing.kind);
-    let index = thing.index;
     let name = escaped(alloc, thing_name(game, thing))?;
-    Ok(format!(in alloc; "<span class=\"{kind}\" title=\"{kind}:{name}\"><svg class=\"i\" aria-hidden=\"true\"><use href=\"#{kind}-{index}\"/></svg>{name}</span>")?)
+    let picture = picture_text(alloc, kind, thing.index)?;
+    marked_text(alloc, kind, name.as_str(), picture.as_str())
 }

@@ -38,7 +38,9 @@ fn head_of(card: &Card) -> u32 {
 
 fn height_of(card: &Card) -> u32 {
     let lines = card.flows.len().min(2_000) as u32;
-    head_of(card) + LINE * lines + 8
+    head_of(card)
+        .saturating_add(LINE * lines)
+        .saturating_add(8)
 }
 
 // How far below the top of a card the middle of a line of it is.
