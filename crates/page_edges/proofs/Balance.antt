@@ -1,6 +1,6 @@
 -- What the edges of a column bring to a good less what they take is the column's part times its rate; and the parts of a plan's columns
 -- sum to what is wanted.
-use Rattle.std.proofs.Common.{◌≡◌, ◌≢◌, ◌∙◌, ℕ, suc, ◌<◌, ◌≤◌, ◌==◌, Bool, true, false, List, [], ◌∷◌, Option, Some, None, slice_get, refl, sym, ap, arith, if◌then◌else◌, false-eqb, eqb-true}
+use Rattle.std.proofs.Common.{◌≡◌, ◌≢◌, ◌∙◌, ℕ, suc, ◌<◌, ◌≤◌, ◌==◌, Bool, true, false, List, [], ◌∷◌, Option, Some, None, slice_get, refl, sym, ap, arith, if◌then◌else◌, ne_eqb, eqb-true}
 use Rattle.fractions.specs.Fraction.{Fraction, zero_fraction, one_fraction, negated, ◌+ʳ◌, ◌*ʳ◌}
 use Rattle.fractions.specs.Fracs.{atom, nought, unit, opposite, ◌⊞◌, ◌⊠◌, same_amount}
 use Rattle.fractions.specs.Signs.{is_positive}
@@ -42,7 +42,7 @@ nothing_taken gives x rest e = rw e (same_amount (nought ⊞ nought) nought (ome
 
 -- ---- a column: parts of later goods don't reach an earlier one
 other : (a b : ℕ) → b < a → (a == b) ≡ false
-other a b less = false-eqb a b (omega arith)
+other a b less = ne_eqb a b (omega arith)
 
 none_brought : (k n : ℕ) (rate : Fraction) (parts : List (ℕ × Fraction)) (good : ℕ) → Rises k n parts → good < k → brought (flows_of rate parts) good ≡ zero_fraction
 none_brought k n rate [] good rises less = refl
