@@ -311,11 +311,11 @@ fn push_lines(alloc: Global, out: &mut String, chart: &Chart, board: &Board) -> 
 // ---- cards
 
 // A text of a card at a place, which ends there or begins there.
-fn push_text_head(
+fn push_text_head<'a>(
     alloc: Global,
     out: &mut String,
-    kind: &str,
-    mark: &str,
+    kind: &'a str,
+    mark: &'a str,
     x: u32,
     base: u32,
 ) -> Done {
@@ -361,16 +361,13 @@ fn push_icon(
     )
 }
 
-fn push_name(alloc: Global, out: &mut String, name: &str, most: u32, behind: &str) -> Done {
+// The end of a text: a name, or so much of it as there is room for.
+fn push_name(alloc: Global, out: &mut String, name: &str, most: u32) -> Done {
     let name = within(alloc, name, most)?;
     put(
         alloc,
         out,
-        &[
-            Piece::Name(name.as_str()),
-            Piece::Text(behind),
-            Piece::Text("</text>"),
-        ],
+        &[Piece::Name(name.as_str()), Piece::Text("</text>\n")],
     )
 }
 
@@ -386,12 +383,12 @@ fn push_card_line(alloc: Global, out: &mut String, chart: &Chart, base: u32, flo
     if flow.gives {
         push_icon(alloc, out, word, index, CARD - 25, base)?;
         push_text_head(alloc, out, word, " right", CARD - 10, base)?;
-        push_name(alloc, out, name, most, "")?;
+        push_name(alloc, out, name, most)?;
         push_text_head(alloc, out, "amount", "", 10, base)?;
     } else {
         push_icon(alloc, out, word, index, 10, base)?;
         push_text_head(alloc, out, word, " left", 10, base)?;
-        push_name(alloc, out, name, most, "")?;
+        push_name(alloc, out, name, most)?;
         push_text_head(alloc, out, "amount", " end", CARD - 10, base)?;
     }
     put(
@@ -451,7 +448,6 @@ fn push_close(alloc: Global, out: &mut String, card: &Card) -> Done {
 }
 
 fn push_card_head(alloc: Global, out: &mut String, card: &Card, corner: Point) -> Done {
-    let title = within(alloc, card.title.as_str(), 8 * INSIDE)?;
     put(
         alloc,
         out,
@@ -469,26 +465,17 @@ fn push_card_head(alloc: Global, out: &mut String, card: &Card, corner: Point) -
             Piece::Text("\" height=\""),
             Piece::Count(height_of(card) as u64),
             Piece::Text("\" rx=\"7\"/>\n<text class=\"name\" x=\"10\" y=\"18\">"),
-            Piece::Name(title.as_str()),
-            Piece::Text("</text>\n"),
         ],
-    )
+    )?;
+    push_name(alloc, out, card.title.as_str(), 8 * INSIDE)
 }
 
 fn push_about(alloc: Global, out: &mut String, about: &str) -> Done {
     if about.is_empty() {
         return Ok(());
     }
-    let about = within(alloc, about, 10 * INSIDE)?;
-    put(
-        alloc,
-        out,
-        &[
-            Piece::Text("<text class=\"what\" x=\"10\" y=\"34\">"),
-            Piece::Name(about.as_str()),
-            Piece::Text("</text>\n"),
-        ],
-    )
+    push_plain(alloc, out, "<text class=\"what\" x=\"10\" y=\"34\">")?;
+    push_name(alloc, out, about, 10 * INSIDE)
 }
 
 fn corner_of(board: &Board, place: usize) -> Point {

@@ -19,6 +19,11 @@ pub struct Site<'a> {
     pub words: &'a str,
 }
 
+// A text of this program.
+fn push_plain(at: &Site<'_>, out: &mut String, text: &str) -> Done {
+    put(at.alloc, out, &[Piece::Text(text)])
+}
+
 // The head of an entry that can be folded.
 fn push_summary(at: &Site<'_>, out: &mut String, count: usize) -> Done {
     put(
@@ -51,11 +56,7 @@ fn push_table(at: &Site<'_>, out: &mut String, count: usize, heads: &str) -> Don
 }
 
 fn push_table_end(at: &Site<'_>, out: &mut String) -> Done {
-    put(
-        at.alloc,
-        out,
-        &[Piece::Text("</tbody></table></div></details>\n")],
-    )
+    push_plain(at, out, "</tbody></table></div></details>\n")
 }
 
 // An entry of one line.
@@ -131,15 +132,9 @@ fn push_item(at: &Site<'_>, out: &mut String, node: NodeId, front: &str, behind:
     requires { IsSound at.now.game.now }
 {
     let text = node_text(at, node)?;
-    put(
-        at.alloc,
-        out,
-        &[
-            Piece::Text(front),
-            Piece::Text(text.as_str()),
-            Piece::Text(behind),
-        ],
-    )
+    push_plain(at, out, front)?;
+    push_plain(at, out, text.as_str())?;
+    push_plain(at, out, behind)
 }
 
 // Nodes, each between two texts.
@@ -219,7 +214,7 @@ fn push_listed(at: &Site<'_>, out: &mut String, node: NodeId, rank: u32) -> Done
     requires { IsSound at.now.game.now }
 {
     push_ranked(at, out, node, rank)?;
-    put(at.alloc, out, &[Piece::Text("</tr>\n")])
+    push_plain(at, out, "</tr>\n")
 }
 
 fn push_all_listed(at: &Site<'_>, out: &mut String, nodes: &[(NodeId, u32)]) -> Done
@@ -256,7 +251,7 @@ fn push_group(at: &Site<'_>, out: &mut String, all: bool, members: &[NodeId]) ->
         ],
     )?;
     push_nodes(at, out, members, "<li data-f>", "</li>\n")?;
-    put(at.alloc, out, &[Piece::Text("</ul></li>\n")])
+    push_plain(at, out, "</ul></li>\n")
 }
 
 fn push_groups(at: &Site<'_>, out: &mut String, groups: &[(bool, Items<NodeId>)]) -> Done
@@ -285,9 +280,9 @@ fn push_missing(
     } else {
         "<ol>\n"
     };
-    put(at.alloc, out, &[Piece::Text(head)])?;
+    push_plain(at, out, head)?;
     push_groups(at, out, groups)?;
-    put(at.alloc, out, &[Piece::Text("</ol></details>\n")])
+    push_plain(at, out, "</ol></details>\n")
 }
 
 fn push_lacks(
@@ -372,7 +367,6 @@ fn code_text(alloc: Global, code: RefusalCode) -> Result<String, NoMemory> {
 
 // The head of a refusal, with its meaning.
 fn push_cause(at: &Site<'_>, out: &mut String, code: RefusalCode) -> Done {
-    let letters = code_text(at.alloc, code)?;
     put(
         at.alloc,
         out,
@@ -380,7 +374,14 @@ fn push_cause(at: &Site<'_>, out: &mut String, code: RefusalCode) -> Done {
             Piece::Text("<details data-f><summary><code>"),
             Piece::Name(at.words),
             Piece::Text("</code> <b class=\"bad\">"),
-            Piece::Text(letters.as_str()),
+        ],
+    )?;
+    let letters = code_text(at.alloc, code)?;
+    push_plain(at, out, letters.as_str())?;
+    put(
+        at.alloc,
+        out,
+        &[
             Piece::Text(": "),
             Piece::Text(meaning(code)),
             Piece::Text("</b> <small>line "),
