@@ -378,12 +378,12 @@ fn push_cause(at: &Site<'_>, out: &mut String, code: RefusalCode) -> Done {
     )?;
     let letters = code_text(at.alloc, code)?;
     push_plain(at, out, letters.as_str())?;
+    push_plain(at, out, ": ")?;
+    push_plain(at, out, meaning(code))?;
     put(
         at.alloc,
         out,
         &[
-            Piece::Text(": "),
-            Piece::Text(meaning(code)),
             Piece::Text("</b> <small>line "),
             Piece::Count(at.line as u64),
             Piece::Text("</small></summary><pre>"),

@@ -133,6 +133,10 @@ impl Builds {
     }
 }
 
+fn push_plain(alloc: Global, out: &mut String, text: &str) -> Done {
+    put(alloc, out, &[Piece::Text(text)])
+}
+
 fn is_nothing(count: &Option<Ratio>) -> bool {
     match count {
         Some(count) => count.is_zero(),
@@ -145,18 +149,12 @@ fn push_build(alloc: Global, out: &mut String, game: &Game, build: &Build) -> Do
         return Ok(());
     }
     let thing = thing_text(alloc, game, build.thing)?;
+    push_plain(alloc, out, "<tr data-f><th>")?;
+    push_plain(alloc, out, thing.as_str())?;
+    push_plain(alloc, out, "</th>")?;
     let count = figure_cell(alloc, "to build", &build.count)?;
-    put(
-        alloc,
-        out,
-        &[
-            Piece::Text("<tr data-f><th>"),
-            Piece::Text(thing.as_str()),
-            Piece::Text("</th>"),
-            Piece::Text(count.as_str()),
-            Piece::Text("</tr>\n"),
-        ],
-    )
+    push_plain(alloc, out, count.as_str())?;
+    push_plain(alloc, out, "</tr>\n")
 }
 
 /// A line for each thing of which there is more than none.

@@ -261,7 +261,13 @@ impl Page {
                 Piece::Text("<style>"),
                 Piece::Text(STYLE),
                 Piece::Text("</style></head>\n<body"),
-                Piece::Text(self.body_mark()),
+            ],
+        )?;
+        push_plain(alloc, out, self.body_mark())?;
+        put(
+            alloc,
+            out,
+            &[
                 Piece::Text(">\n<header><h1>Plans</h1><p>plans "),
                 Piece::Count(self.plans.count as u64),
                 Piece::Text(" · answers "),
@@ -285,6 +291,10 @@ impl Page {
             ],
         )
     }
+}
+
+fn push_plain(alloc: Global, out: &mut String, text: &str) -> Done {
+    put(alloc, out, &[Piece::Text(text)])
 }
 
 // A part of the page that can be folded, where there is something in it.

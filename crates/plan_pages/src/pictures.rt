@@ -113,22 +113,31 @@ pub fn note_plan(alloc: Global, things: &mut Vec<PageThing>, shown: &Shown<'_>) 
     note_goods(&notes, things, shown.linear.goods.as_slice())
 }
 
-/// Writes the picture of a thing, a PNG of these bytes.
-pub fn push_picture(alloc: Global, out: &mut String, thing: Thing, bytes: &[u8]) -> Done {
-    let text = STANDARD.encode(alloc, bytes)?;
+fn push_plain(alloc: Global, out: &mut String, text: &str) -> Done {
+    put(alloc, out, &[Piece::Text(text)])
+}
+
+// The name of the picture of a thing.
+fn push_symbol(alloc: Global, out: &mut String, thing: Thing) -> Done {
+    push_plain(alloc, out, "<symbol id=\"")?;
+    push_plain(alloc, out, kind_word(thing.kind))?;
     put(
         alloc,
         out,
         &[
-            Piece::Text("<symbol id=\""),
-            Piece::Text(kind_word(thing.kind)),
             Piece::Text("-"),
             Piece::Count(thing.index as u64),
             Piece::Text(
                 "\" viewBox=\"0 0 64 64\"><image width=\"64\" height=\"64\" href=\"data:image/png;base64,",
             ),
-            Piece::Text(text.as_str()),
-            Piece::Text("\"/></symbol>\n"),
         ],
     )
+}
+
+/// Writes the picture of a thing, a PNG of these bytes.
+pub fn push_picture(alloc: Global, out: &mut String, thing: Thing, bytes: &[u8]) -> Done {
+    push_symbol(alloc, out, thing)?;
+    let text = STANDARD.encode(alloc, bytes)?;
+    push_plain(alloc, out, text.as_str())?;
+    push_plain(alloc, out, "\"/></symbol>\n")
 }

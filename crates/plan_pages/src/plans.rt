@@ -48,18 +48,12 @@ fn push_rows(alloc: Global, out: &mut String, line: u32, shown: &Shown<'_>) -> D
         shown.plan.rates.as_slice(),
         shown.rows,
     )?;
+    push_plain(alloc, out, ROWS)?;
+    push_plain(alloc, out, rows.as_str())?;
+    push_plain(alloc, out, ROWS_TOTAL)?;
     let total = total_text(alloc, shown.total)?;
-    put(
-        alloc,
-        out,
-        &[
-            Piece::Text(ROWS),
-            Piece::Text(rows.as_str()),
-            Piece::Text(ROWS_TOTAL),
-            Piece::Text(total.as_str()),
-            Piece::Text(ROWS_END),
-        ],
-    )
+    push_plain(alloc, out, total.as_str())?;
+    push_plain(alloc, out, ROWS_END)
 }
 
 // What is to be built.
