@@ -4,7 +4,7 @@ use Rattle.std.specs.Prelude.{◌==◌, if◌then◌else◌, Option, Some, None,
 use Rattle.std.proofs.lemmas.List.{map-append, length-append}
 use native.Mathlib.Numerals.{unary_clauses}
 use Rattle.planner_core.specs.Lines.{Planned}
-use Rattle.script_lines.specs.Lines.{cut_lines, lines_of, onto_first, without_return}
+use Rattle.script_runner.specs.Lines.{cut_lines, lines_of, onto_first, without_return}
 use Rattle.carried_lines.specs.Leading.{Accepted, Continues, LeadsToPlan, ends_within, joined}
 use Rattle.carried_lines.specs.declared.stepping.Progress.{Progress}
 use Rattle.carried_lines.proofs.LeadingLemmas.{accepted_start}

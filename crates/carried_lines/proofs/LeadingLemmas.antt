@@ -4,7 +4,7 @@ use Rattle.std.specs.Prelude.{◌||◌}
 use Rattle.std.proofs.lemmas.List.{append_assoc, length-append}
 use Rattle.planner_core.specs.Lines.{IsSessionOf, Planned}
 use Rattle.plan_report.specs.declared.reply.Reply.{Reply}
-use Rattle.script_lines.specs.Lines.{lines_of}
+use Rattle.script_runner.specs.Lines.{lines_of}
 use Rattle.script_reader.specs.Lines.{command_of_line}
 use Rattle.script_runner.specs.Answers.{Answered, IsReply, Reading, is_refusal, is_refusal_reply, solved_in}
 use Rattle.script_runner.specs.Sessions.{IsSession}

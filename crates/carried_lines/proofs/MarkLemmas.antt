@@ -9,8 +9,8 @@ use Rattle.plan_base.specs.declared.ids.NodeId.{NodeId}
 use Rattle.plan_base.specs.Shape.{count_of, first_of}
 use Rattle.game_types.specs.Nodes.{shape_of}
 use Rattle.data_edit.specs.declared.books.Book.{Book}
-use Rattle.kept_worlds.specs.Worlds.{is_reached, rank_of}
-use Rattle.planner_replies.specs.Replies.{reached_from}
+use Rattle.planning_state.specs.Worlds.{is_reached, rank_of}
+use Rattle.planner_core.specs.Replies.{reached_from}
 use Rattle.plan_base.specs.declared.shape.Kind.{Kind}
 use Rattle.plan_report.specs.declared.reply.Reply.{Reply}
 use Rattle.plan_report.specs.declared.reply.Reply.TheVariants as replies

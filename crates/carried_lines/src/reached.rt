@@ -1,6 +1,6 @@
 //! What a planner reaches.
 ghost use Rattle.std.specs.Prelude.{◌≡◌, ℕ, Bool, true, All, IfOk, IfSome};
-ghost use Rattle.kept_worlds.specs.Worlds.{is_reached};
+ghost use Rattle.planning_state.specs.Worlds.{is_reached};
 ghost use Rattle.carried_lines.specs.Marks.{ListsOnly, MarksOnly};
 
 use plan_base::{Kind, NoMemory, NodeId, Steps};

@@ -9,7 +9,7 @@ use Rattle.plan_base.specs.declared.shape.Kind.{Kind}
 use Rattle.script_reader.specs.Fields.{kind_word}
 use Rattle.game_types.specs.Nodes.{shape_of}
 use Rattle.game_types.specs.declared.games.Game.{Game}
-use Rattle.node_report.specs.Nodes.{kind_at, name_at}
+use Rattle.plan_report.specs.Nodes.{kind_at, name_at}
 use Rattle.serde_json.specs.Data.{Data, array, boolean, item, Items, Members, no_items, no_members, number, object, put, string, unsigned}
 
 -- ---- things by name

@@ -3,12 +3,12 @@ ghost use Rattle.std.specs.Prelude.{◌≡◌, ◌-◌, IfOk, string_bytes};
 ghost use Rattle.plan_base.specs.Shape.{first_of};
 ghost use Rattle.game_types.specs.Nodes.{shape_of};
 ghost use Rattle.game_types.specs.Sound.{IsSound};
-ghost use Rattle.node_report.specs.Nodes.{kind_at, name_at};
+ghost use Rattle.plan_report.specs.Nodes.{kind_at, name_at};
 ghost use Rattle.catalog_members.specs.Members.{id_text, name_of_kind};
 
 use game_types::Game;
-use node_report::kind_word;
 use plan_base::{Kind, NoMemory, NodeId};
+use plan_report::kind_word;
 use std::alloc::Global;
 
 // The kind and the name of a node. A node past the last counts as a technology without a name.

@@ -9,7 +9,7 @@ use Rattle.game_types.specs.declared.goods.Item.{Item as ItemRecord}
 use Rattle.game_types.specs.declared.goods.Fluid.{Fluid as FluidRecord}
 use Rattle.depend_index.specs.declared.index.Index.{Index}
 use Rattle.state_changes.specs.States.{State}
-use Rattle.kept_worlds.specs.Worlds.{rank_of}
+use Rattle.planning_state.specs.Worlds.{rank_of}
 use Rattle.planner_questions.specs.Told.{mask_of, places_of}
 use Rattle.shown_fields.specs.declared.shown.Shown.{Shown}
 use Rattle.serde_json.specs.Data.{Data, Members, no_members, object}

@@ -16,15 +16,15 @@ use Rattle.game_types.specs.declared.machinery.MachineKind.{MachineKind}
 use Rattle.game_types.specs.declared.machinery.MachineKind.TheVariants.{Crafter, Drill, Pump, Boiler, Generator, BurnerGenerator, Solar, Reactor, Lab, Beacon}
 use Rattle.game_types.specs.declared.recipes.Recipe.{Recipe}
 use Rattle.game_types.specs.declared.recipes.Source.{Source}
-use Rattle.fluid_temperatures.specs.Contents.{contents}
+use Rattle.fluid_variants.specs.Contents.{contents}
 use Rattle.std.proofs.lemmas.List.{length-map}
 use Rattle.fluid_variants.specs.Records.{Numbering, all_names, all_records, new_kind, new_machine, new_recipe, new_source, numbering_of, record_count, record_place}
 use Rattle.fluid_variants.specs.Places.{Listed}
 use Rattle.fluid_variants.specs.Split.{numbered_by, split}
-use Rattle.fluid_temperatures.specs.Temperatures.{heat_of, machine_made, temperature_lists}
-use Rattle.fluid_temperatures.proofs.Contents.{contents_at, length_contents}
+use Rattle.fluid_variants.specs.Temperatures.{heat_of, machine_made, temperature_lists}
+use Rattle.fluid_variants.proofs.Contents.{contents_at, length_contents}
 use Rattle.fluid_variants.proofs.PlaceLemmas.{place_below, place_first, place_from, place_next, within_contents}
-use Rattle.fluid_temperatures.proofs.Rising.{length_lists}
+use Rattle.fluid_variants.proofs.Rising.{length_lists}
 use Rattle.fluid_variants.proofs.SoundSplit.{all_long}
 
 -- ---- room for all records

@@ -5,3 +5,9 @@ pub mod NameLemmas
 pub mod SoundSplit
 pub mod AssemblyLemmas
 pub mod SplittingLemmas
+pub mod ListLoops
+pub mod ListLemmas
+pub mod MadeFluids
+pub mod Contents
+pub mod Rising
+pub mod Members

@@ -16,8 +16,8 @@ use Rattle.fractions.specs.Fraction.{Fraction}
 use Rattle.game_types.proofs.Walks.{next, next_at, drop_all}
 use Rattle.game_types.specs.Temperatures.{first_where}
 use Rattle.name_table.specs.Names.{place_of, with_name}
-use Rattle.fluid_temperatures.specs.Contents.{contents}
-use Rattle.fluid_temperatures.proofs.Contents.{contents_at, length_contents}
+use Rattle.fluid_variants.specs.Contents.{contents}
+use Rattle.fluid_variants.proofs.Contents.{contents_at, length_contents}
 use Rattle.fluid_variants.specs.Naming.{first_twice, lower_of, lowest_place}
 use Rattle.fluid_variants.specs.Records.{all_names, all_variant_names, variant_names}
 

@@ -12,12 +12,12 @@ use Rattle.fractions.specs.Fraction.{Fraction}
 use Rattle.plan_base.specs.declared.ids.GoodId.{GoodId}
 use Rattle.game_types.specs.declared.goods.Fluid.{Fluid}
 use Rattle.game_types.specs.Temperatures.{is_cooler}
-use Rattle.fluid_temperatures.specs.declared.made.Made.{Made}
-use Rattle.fluid_temperatures.specs.Contents.{contents}
+use Rattle.fluid_variants.specs.declared.made.Made.{Made}
+use Rattle.fluid_variants.specs.Contents.{contents}
 use Rattle.fluid_variants.specs.Places.{ArePlaces, Listed, place_or}
 use Rattle.fluid_variants.specs.Records.{all_records, list_at, plain_of, record_count, record_of, record_place, records, variant_offset}
-use Rattle.fluid_temperatures.specs.Temperatures.{IsRising}
-use Rattle.fluid_temperatures.proofs.Contents.{contents_at, length_contents}
+use Rattle.fluid_variants.specs.Temperatures.{IsRising}
+use Rattle.fluid_variants.proofs.Contents.{contents_at, length_contents}
 
 take_whole : {A : Type 0} (xs : List A) (k : ℕ) → length xs ≤ k → take k xs ≡ xs
 take_whole xs k past = grind (arith, common_steps, past)

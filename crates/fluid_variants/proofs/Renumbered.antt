@@ -29,8 +29,8 @@ use Rattle.game_types.specs.declared.recipes.Part.{Part}
 use Rattle.game_types.specs.declared.recipes.Product.{Product}
 use Rattle.game_types.specs.declared.recipes.Recipe.{Recipe}
 use Rattle.game_types.specs.declared.recipes.Source.{Source}
-use Rattle.fluid_temperatures.specs.declared.made.Made.{Made}
-use Rattle.fluid_temperatures.specs.Temperatures.{all_made, machine_made, made, or_default, product_made}
+use Rattle.fluid_variants.specs.declared.made.Made.{Made}
+use Rattle.fluid_variants.specs.Temperatures.{all_made, machine_made, made, or_default, product_made}
 use Rattle.fluid_variants.specs.Records.{Numbering, given_or, new_energy, new_kind, new_machine, new_part, new_product, new_recipe, new_source}
 
 -- ---- what holds of all that is made holds of what each thing makes

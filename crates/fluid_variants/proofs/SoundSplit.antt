@@ -13,14 +13,14 @@ use Rattle.game_types.specs.Nodes.{node_limit, shape_of}
 use Rattle.game_types.specs.Sound.{AreApart, IsFluid, IsGood, IsSound, IsSoundFluid}
 use Rattle.game_types.specs.declared.games.Game.{Game}
 use Rattle.game_types.specs.declared.goods.Fluid.{Fluid}
-use Rattle.fluid_temperatures.specs.declared.made.Made.{Made}
-use Rattle.fluid_temperatures.specs.Temperatures.{IsRising, all_made, temperature_lists, temperatures}
+use Rattle.fluid_variants.specs.declared.made.Made.{Made}
+use Rattle.fluid_variants.specs.Temperatures.{IsRising, all_made, temperature_lists, temperatures}
 use Rattle.fluid_variants.specs.Records.{all_names, all_records, at_one, list_at, numbering_of, plain_of, record_count, record_of, record_place, records, variant, variant_names, variant_offset}
 use Rattle.fluid_variants.specs.Split.{split}
-use Rattle.fluid_temperatures.proofs.MadeFluids.{made_fluids}
+use Rattle.fluid_variants.proofs.MadeFluids.{made_fluids}
 use Rattle.fluid_variants.proofs.PlaceLemmas.{place_below, place_first, place_from, place_next}
 use Rattle.fluid_variants.proofs.Renumbered.{IsNumbering, renumbered_sound}
-use Rattle.fluid_temperatures.proofs.Rising.{IsAmong, all_rise, length_lists, list_of, made_among, one_place}
+use Rattle.fluid_variants.proofs.Rising.{IsAmong, all_rise, length_lists, list_of, made_among, one_place}
 
 -- ---- how many records there are
 records_long : (first : GoodId) (fluid : Fluid) (list : List Fraction) → length (records first fluid list) ≡ record_count list

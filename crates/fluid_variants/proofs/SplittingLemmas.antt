@@ -13,15 +13,15 @@ use Rattle.dump_reader.specs.Dump.{◌▷◌}
 use Rattle.game_types.specs.Nodes.{node_limit, shape_of}
 use Rattle.game_types.specs.Sound.{IsSound}
 use Rattle.game_types.specs.declared.games.Game.{Game}
-use Rattle.fluid_temperatures.specs.Contents.{contents}
+use Rattle.fluid_variants.specs.Contents.{contents}
 use Rattle.fluid_variants.specs.Naming.{first_twice, lowest_place}
 use Rattle.fluid_variants.specs.Records.{all_names, all_variant_names}
 use Rattle.fluid_variants.specs.Split.{split}
-use Rattle.fluid_temperatures.specs.Temperatures.{temperature_lists}
+use Rattle.fluid_variants.specs.Temperatures.{temperature_lists}
 use Rattle.fluid_variants.specs.Variants.{first_variant_name, name_fault, too_many_variants, unless_named, with_variants, within_limit}
-use Rattle.fluid_temperatures.proofs.Contents.{length_contents}
+use Rattle.fluid_variants.proofs.Contents.{length_contents}
 use Rattle.fluid_variants.proofs.NameLemmas.{first_at, first_nowhere, lowest_is}
-use Rattle.fluid_temperatures.proofs.Rising.{length_lists}
+use Rattle.fluid_variants.proofs.Rising.{length_lists}
 use Rattle.fluid_variants.proofs.SoundSplit.{split_sound}
 
 pub few_from : (nodes : ℕ) → true ≡ not (nat_lt node_limit nodes) → nodes ≤ node_limit

@@ -1,7 +1,7 @@
 -- The places of records, as they are kept.
 use Rattle.std.specs.Prelude.{All, ◌≡◌, ℕ, ◌<◌, ◌≤◌, List, Option, Some, None, length, slice_index_or}
 use Rattle.fractions.specs.Fraction.{Fraction}
-use Rattle.fluid_temperatures.specs.Temperatures.{IsRising}
+use Rattle.fluid_variants.specs.Temperatures.{IsRising}
 use Rattle.fluid_variants.specs.Records.{record_place}
 
 -- how many items come before the fluids, and the temperatures of each fluid

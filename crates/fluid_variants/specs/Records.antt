@@ -18,8 +18,8 @@ use Rattle.game_types.specs.declared.recipes.Part.{Part}
 use Rattle.game_types.specs.declared.recipes.Product.{Product}
 use Rattle.game_types.specs.declared.recipes.Recipe.{Recipe}
 use Rattle.game_types.specs.declared.recipes.Source.{Source}
-use Rattle.fluid_temperatures.specs.declared.made.Made.{Made}
-use Rattle.fluid_temperatures.specs.Temperatures.{heat_of, machine_made, product_made}
+use Rattle.fluid_variants.specs.declared.made.Made.{Made}
+use Rattle.fluid_variants.specs.Temperatures.{heat_of, machine_made, product_made}
 
 -- ---- the records of one fluid
 abbrev pub at_one : Fluid → Fraction → Fluid

@@ -1,7 +1,7 @@
 -- A game in which a fluid that is made at several temperatures is a base and a variant for each of them.
 use Rattle.std.specs.Prelude.{map, length}
 use Rattle.game_types.specs.declared.games.Game.{Game}
-use Rattle.fluid_temperatures.specs.Temperatures.{temperature_lists}
+use Rattle.fluid_variants.specs.Temperatures.{temperature_lists}
 use Rattle.fluid_variants.specs.Records.{Numbering, all_names, all_records, new_machine, new_recipe, new_source, numbering_of}
 
 abbrev pub numbered_by : Game → Numbering → Game → Game

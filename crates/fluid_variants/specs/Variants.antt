@@ -13,7 +13,7 @@ use Rattle.game_types.specs.Nodes.{node_limit, shape_of}
 use Rattle.game_types.specs.Temperatures.{first_where}
 use Rattle.game_types.specs.declared.games.Game.{Game}
 use Rattle.fluid_variants.specs.Naming.{first_twice}
-use Rattle.fluid_temperatures.specs.Temperatures.{temperature_lists}
+use Rattle.fluid_variants.specs.Temperatures.{temperature_lists}
 use Rattle.fluid_variants.specs.Records.{all_variant_names}
 use Rattle.fluid_variants.specs.Split.{split}
 

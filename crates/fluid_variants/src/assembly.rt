@@ -3,10 +3,10 @@ ghost use Rattle.std.specs.Prelude.{◌≡◌, ◌≤◌, ◌-◌, [], IfOk, len
 ghost use Rattle.plan_base.specs.Shape.{node_count};
 ghost use Rattle.game_types.specs.Nodes.{node_limit, shape_of};
 ghost use Rattle.game_types.specs.Sound.{IsSound};
-ghost use Rattle.fluid_temperatures.specs.Contents.{contents};
+ghost use Rattle.fluid_variants.specs.Contents.{contents};
 ghost use Rattle.fluid_variants.specs.Records.{all_names, numbering_of, record_place};
 ghost use Rattle.fluid_variants.specs.Split.{numbered_by, split};
-ghost use Rattle.fluid_temperatures.specs.Temperatures.{temperature_lists};
+ghost use Rattle.fluid_variants.specs.Temperatures.{temperature_lists};
 
 use crate::places::{Places, record_count};
 use crate::rewriting::{new_machines, new_recipes, new_sources};

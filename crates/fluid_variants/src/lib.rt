@@ -2,6 +2,8 @@
 #![tactic(auto)]
 
 mod assembly;
+mod lists;
+mod made;
 mod naming;
 mod places;
 mod records;
@@ -9,4 +11,6 @@ mod renumbering;
 mod rewriting;
 mod splitting;
 
+pub use lists::{cooler_count, temperature_lists};
+pub use made::{Made, heat_of, machine_made, product_made};
 pub use splitting::split_fluids;

@@ -1,7 +1,7 @@
 //! The names of records, and which of them clash.
 ghost use Rattle.std.specs.Prelude.{◌≡◌, ◌++◌, IfOk, length};
 ghost use Rattle.name_table.specs.Names.{place_of};
-ghost use Rattle.fluid_temperatures.specs.Contents.{contents};
+ghost use Rattle.fluid_variants.specs.Contents.{contents};
 ghost use Rattle.fluid_variants.specs.Naming.{IsNamed, lower_of, lowest_place};
 ghost use Rattle.fluid_variants.specs.Records.{all_names, all_variant_names};
 

@@ -1,13 +1,13 @@
 //! Where the records of each fluid stand among the goods.
 ghost use Rattle.std.specs.Prelude.{All, ◌≡◌, ℕ, ◌<◌, ◌≤◌, ◌++◌, IfOk, length, slice_get, slice_index_or};
-ghost use Rattle.fluid_temperatures.specs.Contents.{contents};
-ghost use Rattle.fluid_temperatures.specs.Temperatures.{IsRising};
+ghost use Rattle.fluid_variants.specs.Contents.{contents};
+ghost use Rattle.fluid_variants.specs.Temperatures.{IsRising};
 ghost use Rattle.fluid_variants.specs.Places.{ArePlaces, place_or};
 ghost use Rattle.fluid_variants.specs.Records.{all_records, list_at, plain_of, record_count, record_of, record_place, variant_offset};
 
 use crate::records::put_records;
 use crate::renumbering::Renumber;
-use fluid_temperatures::{Made, cooler_count};
+use crate::{Made, cooler_count};
 use fractions::Ratio;
 use game_types::Fluid;
 use plan_base::{GoodId, NoMemory};
@@ -26,7 +26,7 @@ pub struct Places {
 }
 
 impl Model for Places {
-    ghost use Rattle.fluid_temperatures.specs.Contents.{contents};
+    ghost use Rattle.fluid_variants.specs.Contents.{contents};
     ghost use Rattle.fluid_variants.specs.Places.{ArePlaces, Listed};
 
     ghost Value = { Listed };

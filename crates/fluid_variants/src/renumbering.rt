@@ -2,9 +2,9 @@
 ghost use Rattle.std.specs.Prelude.{◌≡◌, ◌++◌, IfOk, map, option_map};
 ghost use Rattle.game_types.specs.declared.machinery.MachineKind.TheVariants.{Boiler, Pump};
 ghost use Rattle.fluid_variants.specs.Records.{Numbering, given_or, new_energy, new_kind, new_machine, new_part, new_product, new_recipe, new_source};
-ghost use Rattle.fluid_temperatures.specs.Temperatures.{product_made, machine_made};
+ghost use Rattle.fluid_variants.specs.Temperatures.{product_made, machine_made};
 
-use fluid_temperatures::{Made, heat_of, machine_made, product_made};
+use crate::{Made, heat_of, machine_made, product_made};
 use fractions::Ratio;
 use game_types::{Energy, Game, Machine, MachineKind, Part, Product, Recipe, Source};
 use plan_base::{GoodId, Items, NoMemory};
@@ -13,7 +13,7 @@ use std::alloc::Global;
 /// What a good becomes: where it is taken, and where it is made.
 pub trait Renumber {
     ghost use Rattle.plan_base.specs.declared.ids.GoodId.{GoodId};
-    ghost use Rattle.fluid_temperatures.specs.declared.made.Made.{Made};
+    ghost use Rattle.fluid_variants.specs.declared.made.Made.{Made};
 
     /// What a good becomes where it is taken.
     ghost taken_as: { Self → GoodId → GoodId };
@@ -173,7 +173,7 @@ fn new_energy<R: Renumber>(by: &R, energy: Energy) -> Energy
     }
 }
 
-#[tactic(auto, unfolding(fluid_temperatures::specs::Temperatures::machine_made))]
+#[tactic(auto, unfolding(crate::specs::Temperatures::machine_made))]
 // What a boiler becomes: it has the temperature to which it heats.
 fn new_boiler<R: Renumber>(
     game: &Game,

@@ -12,7 +12,7 @@ use Rattle.game_types.specs.declared.recipes.Recipe.{Recipe}
 use Rattle.game_types.specs.declared.recipes.Source.{Source}
 use Rattle.game_types.specs.declared.research.Tech.{Tech}
 use Rattle.game_reader.specs.declared.links.Lists.{Lists}
-use Rattle.record_links.specs.Links.{each_linked, families_of, linked, linked_item, linked_machine, linked_recipe, linked_source, linked_tech}
+use Rattle.game_reader.specs.Links.{each_linked, families_of, linked, linked_item, linked_machine, linked_recipe, linked_source, linked_tech}
 use Rattle.game_reader.specs.Lists.{linked_lists, linked_means, linked_ways}
 
 -- what follows what was found

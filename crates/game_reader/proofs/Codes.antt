@@ -30,7 +30,7 @@ use Rattle.fluid_variants.specs.Split.{split}
 use Rattle.fluid_variants.specs.Variants.{first_variant_name, too_many_variants, unless_named, with_variants, within_limit}
 use Rattle.game_reader.specs.Games.{DumpGives, HasDraft, HasFault, HasFaultOf, HasGame, finished, game_of, resolved}
 use Rattle.game_reader.specs.Keys.{dump_wishes}
-use Rattle.record_links.specs.Links.{each_linked, families_of, linked, linked_item, linked_machine, linked_recipe, linked_source, linked_tech}
+use Rattle.game_reader.specs.Links.{each_linked, families_of, linked, linked_item, linked_machine, linked_recipe, linked_source, linked_tech}
 
 abbrev pub IsOfTree : DumpCode → Type 0
 IsOfTree (d.Json fault) = ⊥

@@ -4,3 +4,4 @@ pub mod KeysKept
 pub mod OneGame
 pub mod SoundLinks
 pub mod WantedKeys
+pub mod Loops

@@ -49,8 +49,8 @@ use Rattle.dump_reader.specs.Dump.{◌▷◌}
 use Rattle.machine_reader.specs.Sections.{section_text}
 use Rattle.machine_reader.specs.Sound.{IsSoundRawKind, IsSoundRawEnergy, IsRawBurner, IsSoundRawBurning, IsSoundRawMachine}
 use Rattle.dump_reader.specs.Sound.{IsSoundRawItem, IsSoundDraft}
-use Rattle.record_links.specs.declared.families.Families.{Families}
-use Rattle.record_links.specs.Links.{Working, each_linked, families_of, fluid_named, good_at, good_by, if_given, item_named, known_machine, known_recipes, linked, linked_energy, linked_fluid, linked_good, linked_item, linked_kind, linked_launch, linked_machine, linked_module, linked_pack, linked_part, linked_product, linked_recipe, linked_source, linked_tech, linked_working, machine_at, or_unknown, recipe_at, recipe_named, tech_at, tech_named}
+use Rattle.game_reader.specs.declared.families.Families.{Families}
+use Rattle.game_reader.specs.Links.{Working, each_linked, families_of, fluid_named, good_at, good_by, if_given, item_named, known_machine, known_recipes, linked, linked_energy, linked_fluid, linked_good, linked_item, linked_kind, linked_launch, linked_machine, linked_module, linked_pack, linked_part, linked_product, linked_recipe, linked_source, linked_tech, linked_working, machine_at, or_unknown, recipe_at, recipe_named, tech_at, tech_named}
 
 -- ---- what holds of a value that is read
 sure : {A B : Type 0} (P : A → Type 0) (Q : B → Type 0) (r : Reading A) (next : A → Reading B) → IfOk r P → ((value : A) → P value → IfOk (next value) Q) → IfOk (r ▸ next) Q

@@ -12,7 +12,7 @@ use Rattle.game_types.specs.declared.games.Game.{Game}
 use Rattle.game_reader.specs.Keys.{dump_wishes}
 use Rattle.rocket_launches.specs.Launches.{with_launches}
 use Rattle.fluid_variants.specs.Variants.{with_variants}
-use Rattle.record_links.specs.Links.{linked}
+use Rattle.game_reader.specs.Links.{linked}
 
 -- what a game with ids in place of names becomes: launches are recipes, and fluids have one temperature each
 unfoldable pub finished : Game → Result Game DumpFault

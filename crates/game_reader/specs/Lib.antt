@@ -1,3 +1,4 @@
 pub mod Keys
 pub mod Games
 pub mod Lists
+pub mod Links

@@ -12,9 +12,9 @@ use Rattle.game_types.specs.declared.machinery.Machine.{Machine}
 use Rattle.game_types.specs.declared.recipes.Recipe.{Recipe}
 use Rattle.game_types.specs.declared.recipes.Source.{Source}
 use Rattle.game_types.specs.declared.research.Tech.{Tech}
-use Rattle.record_links.specs.declared.families.Families.{Families}
+use Rattle.game_reader.specs.declared.families.Families.{Families}
 use Rattle.game_reader.specs.declared.links.Lists.{Lists}
-use Rattle.record_links.specs.Links.{each_linked, linked_item, linked_machine, linked_recipe, linked_source, linked_tech}
+use Rattle.game_reader.specs.Links.{each_linked, linked_item, linked_machine, linked_recipe, linked_source, linked_tech}
 
 -- the recipes and then the sources with ids in place of names, or the first fault
 unfoldable pub linked_ways : Families → List RawRecipe → List RawSource → Result (List Recipe × List Source) DumpFault

@@ -8,8 +8,9 @@ ghost use Rattle.machine_reader.specs.Sections.{section_text};
 ghost use Rattle.dump_reader.specs.Sound.{IsSoundDraft};
 ghost use Rattle.game_types.specs.Sound.{ArePlain, IsSound};
 ghost use Rattle.game_reader.specs.Lists.{linked_lists, linked_means, linked_ways};
-ghost use Rattle.record_links.specs.Links.{each_linked, linked, linked_item, linked_machine, linked_recipe, linked_source, linked_tech};
+ghost use Rattle.game_reader.specs.Links.{each_linked, linked, linked_item, linked_machine, linked_recipe, linked_source, linked_tech};
 
+use crate::{Families, link_item, link_machine, link_recipe, link_source, link_tech};
 use craft_reader::{DumpCode, DumpFault, RawRecipe, RawTech};
 use dump_reader::{Draft, RawItem, RawSource};
 use game_types::{Character, Game, Item, Machine, Recipe, Source, Tech};
@@ -17,7 +18,6 @@ use machine_reader::{RawMachine, Section};
 use name_table::Names;
 use plan_base::Items;
 use prototype_fields::FieldFault;
-use record_links::{Families, link_item, link_machine, link_recipe, link_source, link_tech};
 use std::alloc::Global;
 
 // What is read of a prototype, or its fault in the dump.

@@ -3,13 +3,12 @@ ghost use Rattle.std.specs.Prelude.{◌≡◌, IfOk};
 ghost use Rattle.game_types.specs.Sound.{IsSound};
 ghost use Rattle.line_causes.specs.Causes.{code_of};
 
-use game_types::Game;
-use hint_words::{
+use crate::{
     fuel_for, like_command, like_label, like_object, like_table, like_word, machine_for,
     machine_of, misfit, node_text, number_among, object_text, stops_at, variant_given,
 };
-use line_causes::{Cause, code_of};
-use line_words::{LineWord, Unread, words_of};
+use game_types::Game;
+use line_causes::{Cause, LineWord, Unread, code_of, words_of};
 use plan_base::{Kind, NoMemory, NodeId, Text};
 use plan_report::{Detail, RefusalCode};
 use production_table::Table;

@@ -4,6 +4,16 @@
 //! line it is, and which word was likely meant, are guesses.
 #![tactic(auto)]
 
+mod fits;
 mod found;
+mod games;
+mod names;
+mod short;
 
+pub use fits::{misfit, number_among, stops_at};
 pub use found::{Found, Line, found_of, found_unread};
+pub use games::{fuel_for, is_bare, machine_for, machine_of, variant_given};
+pub use names::{
+    like_command, like_label, like_object, like_table, like_word, node_text, object_text,
+};
+pub use short::short_of;

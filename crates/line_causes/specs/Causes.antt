@@ -6,11 +6,11 @@ use Rattle.plan_base.specs.declared.shape.Kind.TheVariants as kind
 use Rattle.plan_report.specs.declared.reply.RefusalCode.{RefusalCode}
 use Rattle.plan_report.specs.declared.reply.RefusalCode.TheVariants as r
 use Rattle.script_reader.specs.declared.command_words.CommandWord.{CommandWord}
-use Rattle.node_report.specs.Words.{printed_word}
+use Rattle.plan_report.specs.Words.{printed_word}
 use Rattle.line_causes.specs.declared.causes.Cause.{Cause}
 use Rattle.line_causes.specs.declared.causes.Cause.TheVariants as cause
-use Rattle.line_words.specs.declared.words.QuoteFault.{QuoteFault}
-use Rattle.line_words.specs.declared.words.QuoteFault.TheVariants as quote
+use Rattle.line_causes.specs.declared.words.QuoteFault.{QuoteFault}
+use Rattle.line_causes.specs.declared.words.QuoteFault.TheVariants as quote
 use Rattle.line_causes.specs.Forms.{form, front_words, next_words, slot_code, slot_words}
 
 -- what a code says of a line, where no more is known

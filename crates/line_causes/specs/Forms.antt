@@ -1,7 +1,7 @@
 -- What stands behind the first word of a line, place by place, and how that is said. The forms are those of the project's own language of
 -- scripts, whose grammar is in `script_reader/specs/Arguments`.
 use Rattle.std.specs.Prelude.{ℕ, List, [], ◌∷◌, Option, None, Some, codes, map}
-use Rattle.node_report.specs.Layout.{spaced}
+use Rattle.plan_report.specs.Layout.{spaced}
 use Rattle.plan_report.specs.declared.reply.RefusalCode.{RefusalCode}
 use Rattle.plan_report.specs.declared.reply.RefusalCode.TheVariants.{Q2, Q3, Q5}
 use Rattle.script_reader.specs.declared.command_words.CommandWord.{CommandWord}

@@ -1,11 +1,11 @@
 // Why a line is refused, in words.
 ghost use Rattle.std.specs.Prelude.{◌≡◌, ◌++◌, IfOk, codes, string_bytes};
-ghost use Rattle.node_report.specs.Words.{printed_word};
+ghost use Rattle.plan_report.specs.Words.{printed_word};
 ghost use Rattle.line_causes.specs.Causes.{cause_text, code_of, code_words, done_by_text, kind_noun, no_row_text, quote_words, stands_text, warmer_text};
 ghost use Rattle.line_causes.specs.Forms.{slot_words};
 
+use crate::QuoteFault;
 use crate::forms::{Slot, form_of, front_words, next_words, slot_code, slot_words};
-use line_words::QuoteFault;
 use plan_base::{Kind, Text};
 use plan_report::{RefusalCode, printed_word};
 use script_reader::CommandWord;

@@ -5,6 +5,8 @@
 
 mod causes;
 mod forms;
+mod words;
 
 pub use causes::{Cause, Short, cause_text, code_of, code_words};
 pub use forms::{Slot, form_of, slot_code};
+pub use words::{LineWord, QuoteFault, Unread, words_of};

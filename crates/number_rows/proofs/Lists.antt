@@ -10,7 +10,7 @@ use Rattle.fractions.specs.Fracs.{pos_product}
 use Rattle.fractions.specs.Gcd.{gcd, gcd_is, gcd_pos, gcd-zero}
 use Rattle.fractions.proofs.Printed.{gcd-one}
 use Rattle.linear_table.specs.Plans.{number_at}
-use Rattle.number_rows.specs.Tops.{top_at, AreWithinBelow}
+use Rattle.number_rows.specs.Tops.{top_at, AreWithin, AreWithinBelow, IsCombined}
 
 -- ---- numbers of 64 bits
 abbrev pub wrap : ℤ → ℤ
@@ -42,6 +42,10 @@ within_more tops bound k t more lt grows fits h =
           (λ j q. subst (λ (x : ℤ). unsigned_abs x ≤ more) (sym (get_or-set_other tops k j t (pos 0) (λ e. omega arith))) (omega (arith, h.within j q, grows)))
           (subst (λ (x : ℤ). unsigned_abs x ≤ more) (sym (get_or-set_same tops k t (pos 0) lt)) fits);
     }
+
+pub within_one : (tops : List ℤ) (bound more k : ℕ) → bound ≤ more → unsigned_abs (top_at tops k) ≤ more → AreWithinBelow tops bound k → AreWithinBelow tops more (k + 1)
+within_one tops bound more k grows fits h =
+    record { within = below_more (λ j. unsigned_abs (top_at tops j) ≤ more) k (λ j q. omega (arith, h.within j q, grows)) fits }
 
 pub record IsDividedBelow (old : List ℤ) (d : ℕ) (tops : List ℤ) (k : ℕ) : Type 0 where
   pub done : (j : ℕ) → j < k → top_at tops j *ℤ pos d ≡ top_at old j
@@ -95,6 +99,19 @@ combined_more old s other f tops k t lt e h =
 pub bounded : (a b m n s f : ℕ) → a ≤ m → b ≤ n → m * s + n * f < 2 ^ 62 → a * s + b * f < 2 ^ 62
 bounded a b m n s f p q h = omega (arith, mul-le-mul_right s p, mul-le-mul_right f q)
 
+combined_size : (t s o f : ℤ) (m n : ℕ) → unsigned_abs t ≤ m → unsigned_abs o ≤ n → unsigned_abs (t *ℤ s -ℤ o *ℤ f) ≤ m * unsigned_abs s + n * unsigned_abs f
+combined_size t s o f m n p q = omega (arith, abs_minus (t *ℤ s) (o *ℤ f), unsigned_abs-mul t s, unsigned_abs-mul o f, mul-le-mul_right (unsigned_abs s) p, mul-le-mul_right (unsigned_abs f) q)
+
+pub combined_within : (old other new : List ℤ) (s s' f f' : ℤ) (m n r : ℕ) → r ≡ m * unsigned_abs s + n * unsigned_abs f → s' ≡ s → f' ≡ f → AreWithin old m → AreWithin other n → length old ≡ length other → IsCombined old s' other f' new → AreWithin new r
+combined_within old other new s s' f f' m n r e es ef ho hn len h = λ k lt.
+    let q : k < length old = omega (arith, lt, h.length_is) in
+    let is : top_at new k ≡ top_at old k *ℤ s -ℤ top_at other k *ℤ f = h.numbers k q ∙ (ap (λ a. top_at old k *ℤ a -ℤ top_at other k *ℤ f') es ∙ ap (λ a. top_at old k *ℤ s -ℤ top_at other k *ℤ a) ef) in
+    subst (λ (x : ℕ). unsigned_abs (top_at new k) ≤ x) (sym e)
+    (subst (λ (x : ℤ). unsigned_abs x ≤ m * unsigned_abs s + n * unsigned_abs f) (sym is) (combined_size (top_at old k) s (top_at other k) f m n (ho k q) (hn k (omega (arith, q, len)))))
+
+pub same_combined : (old other new : List ℤ) (s s' f f' : ℤ) → s' ≡ s → f' ≡ f → IsCombined old s' other f' new → IsCombined old s other f new
+same_combined old other new s s' f f' es ef h = subst (λ (a : ℤ). IsCombined old a other f new) es (subst (λ (a : ℤ). IsCombined old s' other a new) ef h)
+
 pub record AreOverBelow (tops : List ℤ) (bottom : ℕ) (row : List Fraction) (k : ℕ) : Type 0 where
   pub done : (j : ℕ) → j < k → number_at row j ≡ frac (top_at tops j) bottom
 
@@ -141,6 +158,9 @@ combined_at cur other scale factor result t o k et eo ht ho e small =
 
 pub fits_at : (t t' s s' o o' f f' : ℤ) (m n : ℕ) → t' ≡ t → s' ≡ s → o' ≡ o → f' ≡ f → unsigned_abs t ≤ m → unsigned_abs o ≤ n → m * unsigned_abs s + n * unsigned_abs f < 2 ^ 62 → unsigned_abs t' * unsigned_abs s' + unsigned_abs o' * unsigned_abs f' < 2 ^ 62
 fits_at t t' s s' o o' f f' m n et es eo ef p q h = rw (et, es, eo, ef) (bounded (unsigned_abs t) (unsigned_abs o) m n (unsigned_abs s) (unsigned_abs f) p q h)
+
+pub same_fits : (t t' s s' o o' f f' : ℤ) → t' ≡ t → s' ≡ s → o' ≡ o → f' ≡ f → unsigned_abs t * unsigned_abs s + unsigned_abs o * unsigned_abs f < 2 ^ 62 → unsigned_abs t' * unsigned_abs s' + unsigned_abs o' * unsigned_abs f' < 2 ^ 62
+same_fits t t' s s' o o' f f' et es eo ef h = rw (et, es, eo, ef) h
 
 pub size_below : (u m : ℕ) (r : ℤ) → u ≡ unsigned_abs r → u ≤ m → unsigned_abs r ≤ m
 size_below u m r e h = omega (arith, e, h)

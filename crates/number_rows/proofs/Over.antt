@@ -3,7 +3,7 @@ use Rattle.std.specs.Prelude.{◌≡◌, ℕ, ◌*◌, ◌/◌, ◌<◌, ◌^◌
 use Rattle.std.specs.Int.{◌∣◌, w128, w64}
 use Rattle.std.proofs.Common.{sym, ap, subst, ◌∙◌, arith, to_z, of_z}
 use Rattle.std.proofs.Math.Nat.{mul-div_cancel', div-le_self}
-use Rattle.std.proofs.lemmas.Int.{unsigned_abs-mul}
+use Rattle.std.proofs.lemmas.Int.{ints, to_z_pos, unsigned_abs-mul}
 use Rattle.std.proofs.lemmas.Nat.{mul-lt}
 use Rattle.fractions.specs.Fraction.{Fraction, frac, lower_pos}
 use Rattle.fractions.specs.Fracs.{frac_same, frac_scale}
@@ -30,6 +30,16 @@ pub over_is : (x : Fraction) (b : ℕ) → x.den ∣ b → 0 < b → frac (x.num
 over_is x b h p =
     ap (λ d. frac (x.num *ℤ pos (b / x.den)) d) (sym (mul-div_cancel' x.den h))
     ∙ (frac_scale x.num x.den (b / x.den) x.positive (lower_pos b x.den p h) ∙ frac_same x)
+
+times_nothing : (n : ℕ) → pos 0 *ℤ pos n ≡ pos 0
+times_nothing n = omega (arith, ints)
+
+-- where the numerator is 0, so is what stands over the denominator
+pub nothing_over : (x : Fraction) (r : ℤ) (b : ℕ) → r ≡ x.num → unsigned_abs r < 2 ^ 127 → x.den ∣ b → 0 < b → of_z w128 r ≡ 0 → x ≡ frac (pos 0) b
+nothing_over x r b er hr db pb e =
+    let n : x.num ≡ pos 0 = sym (wrap_same r x.num hr er) ∙ (ap (λ (k : ℕ). to_z w128 k) e ∙ to_z_pos w128 0 (omega arith)) in
+    let z : x.num *ℤ pos (b / x.den) ≡ pos 0 = ap (λ (k : ℤ). k *ℤ pos (b / x.den)) n ∙ times_nothing (b / x.den) in
+    sym (ap (λ (t : ℤ). frac t b) (sym z) ∙ over_is x b db pb)
 
 pub top_is : (x : Fraction) (r d : ℤ) (b u v : ℕ) → r ≡ x.num → unsigned_abs r < 2 ^ 127 → d ≡ pos x.den → unsigned_abs d < 2 ^ 127 → x.den ∣ b → 0 < b → b < 2 ^ 62 → u ≡ unsigned_abs (wrap128 r) → u < 2 ^ 62 → v ≡ unsigned_abs (wrap128 (wrap128 r *ℤ to_z w128 (b / unsigned_abs (wrap128 d)))) → v < 2 ^ 62 →
     (x ≡ frac (wrap64 (wrap128 (wrap128 r *ℤ to_z w128 (b / unsigned_abs (wrap128 d))))) b) × (unsigned_abs (wrap64 (wrap128 (wrap128 r *ℤ to_z w128 (b / unsigned_abs (wrap128 d))))) < 2 ^ 62)

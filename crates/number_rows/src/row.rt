@@ -13,7 +13,7 @@ ghost use Rattle.number_rows.specs.Tops.{top_at, AreWithin};
 
 use crate::long::Long;
 use crate::tops::{
-    LIMIT, combine, combine_lowered, common_factor, content, divide_all, keeps_within,
+    LIMIT, combine, combine_lowered, common_factor, content, divide_all, greatest, keeps_within,
     long_product, product_keeps_within, quotient, turn_all,
 };
 use fractions::Ratio;
@@ -268,6 +268,30 @@ impl Row {
         true
     }
 
+    // Makes the bound of a short row as small as it may be.
+    fn tighten(&mut self)
+        ensures { self.new ≡ self.old }
+    {
+        if !self.short {
+            return;
+        }
+        self.bound = greatest(&self.tops);
+    }
+
+    // The same as `reduce_short`, also where the bound has to be made smaller first.
+    fn reduce_within(&mut self, enter: usize, pivot_row: &Row) -> bool
+        requires inside { enter < length self.old.items }
+        requires width { length self.old.items ≡ length pivot_row.now.items }
+        ensures done { OnTrue result (IsReducedRow self.old.items (number_at self.old.items enter) pivot_row.now.items self.new.items) }
+        ensures not { OnFalse result (self.new ≡ self.old) }
+    {
+        if self.reduce_short(enter, pivot_row) {
+            return true;
+        }
+        self.tighten();
+        self.reduce_short(enter, pivot_row)
+    }
+
     // The same where what all numbers that this makes have in common brings them within the limits.
     fn reduce_over(&mut self, enter: usize, pivot_row: &Row) -> bool
         requires inside { enter < length self.old.items }
@@ -358,7 +382,7 @@ impl Row {
         if self.is_zero(enter) {
             return Ok(());
         }
-        if self.reduce_short(enter, pivot_row) {
+        if self.reduce_within(enter, pivot_row) {
             return Ok(());
         }
         if self.reduce_over(enter, pivot_row) {

@@ -157,8 +157,46 @@ fn combined(top: i64, scale: i64, other: i64, factor: i64) -> i64
     top * scale - other * factor
 }
 
+// How great what `combine` makes of numbers is at most, of which two bounds are known.
+fn combined_bound(bound: u64, scale: u64, other_bound: u64, factor: u64) -> u64
+    requires { bound * scale + other_bound * factor < 2 ^ 62 }
+    ensures value { result ≡ bound * scale + other_bound * factor }
+    ensures small { result < 2 ^ 62 }
+{
+    bound * scale + other_bound * factor
+}
+
+// Makes of each number that number times the scale, less the other row's times the factor.
+fn combine_each(tops: &mut [i64], scale: i64, others: &[i64], factor: i64)
+    requires lengths { length tops.old ≡ length others.now }
+    requires tops { (k : ℕ) → k < length tops.old → unsigned_abs (top_at tops.old k) < 2 ^ 62 }
+    requires others { (k : ℕ) → k < length others.now → unsigned_abs (top_at others.now k) < 2 ^ 62 }
+    requires fits { (k : ℕ) → k < length tops.old → unsigned_abs (top_at tops.old k) * unsigned_abs scale + unsigned_abs (top_at others.now k) * unsigned_abs factor < 2 ^ 62 }
+    ensures { IsCombined tops.old scale others.now factor tops.new }
+{
+    for k in 0..tops.len() {
+        let top = combined(tops[k], scale, others[k], factor);
+        tops[k] = top;
+    }
+}
+
+// The same, with steps of their own where the scale is 1, as it mostly is.
+fn combine_by(tops: &mut [i64], scale: i64, others: &[i64], factor: i64)
+    requires lengths { length tops.old ≡ length others.now }
+    requires tops { (k : ℕ) → k < length tops.old → unsigned_abs (top_at tops.old k) < 2 ^ 62 }
+    requires others { (k : ℕ) → k < length others.now → unsigned_abs (top_at others.now k) < 2 ^ 62 }
+    requires fits { (k : ℕ) → k < length tops.old → unsigned_abs (top_at tops.old k) * unsigned_abs scale + unsigned_abs (top_at others.now k) * unsigned_abs factor < 2 ^ 62 }
+    ensures { IsCombined tops.old scale others.now factor tops.new }
+{
+    if scale == 1 {
+        combine_each(tops, 1, others, factor);
+    } else {
+        combine_each(tops, scale, others, factor);
+    }
+}
+
 /// Makes of each number that number times the scale, less the other row's times the factor. Says how great their
-/// magnitudes are at most.
+/// magnitudes are at most, as the bounds tell it.
 pub fn combine(
     tops: &mut [i64],
     scale: i64,
@@ -177,11 +215,25 @@ pub fn combine(
     ensures within { AreWithin tops.new result }
     ensures small { result < 2 ^ 62 }
 {
+    let most = combined_bound(
+        bound,
+        scale.unsigned_abs(),
+        other_bound,
+        factor.unsigned_abs(),
+    );
+    combine_by(tops, scale, others, factor);
+    most
+}
+
+/// How great the magnitudes are at most.
+pub fn greatest(tops: &[i64]) -> u64
+    requires { (k : ℕ) → k < length tops.now → unsigned_abs (top_at tops.now k) < 2 ^ 62 }
+    ensures within { AreWithin tops.now result }
+    ensures small { result < 2 ^ 62 }
+{
     let mut most = 0;
     for k in 0..tops.len() {
-        let top = combined(tops[k], scale, others[k], factor);
-        most = greater(most, top.unsigned_abs());
-        tops[k] = top;
+        most = greater(most, tops[k].unsigned_abs());
     }
     most
 }
@@ -460,6 +512,10 @@ fn next_bottom(bottom: u64, number: &Ratio) -> Option<u64>
     if own >= LIMIT as u128 {
         return None;
     }
+    let rest = bottom % own as u64;
+    if rest == 0 {
+        return Some(bottom);
+    }
     let common = common_divisor(own as u64, bottom);
     let next = bottom as u128 * (own as u64 / common) as u128;
     if next >= LIMIT as u128 {
@@ -490,6 +546,9 @@ fn top_over(number: &Ratio, bottom: u64) -> Option<i64>
     ensures { IfSome result (λ t. (number.now ≡ frac t bottom) × (unsigned_abs t < 2 ^ 62)) }
 {
     let own = number.numerator();
+    if own == 0 {
+        return Some(0);
+    }
     if own.unsigned_abs() >= LIMIT as u128 {
         return None;
     }

@@ -59,6 +59,9 @@ pub fn fraction(top: i128, bottom: u64) -> Ratio
     requires small_bottom { bottom < 2 ^ 62 }
     ensures { result ≡ frac top bottom }
 {
+    if top == 0 {
+        return Ratio::zero();
+    }
     match Ratio::whole_number(top).div(&Ratio::whole_number(bottom as i128)) {
         Ok(number) => number,
         Err(_) => unreachable!(),

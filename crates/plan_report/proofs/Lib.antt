@@ -1,1 +1,4 @@
 pub mod PlanTexts
+pub mod Read
+pub mod Texts
+pub mod WordLemmas

@@ -2,7 +2,7 @@
 use Rattle.std.proofs.Common.{◌≡◌, ◌∙◌, ◌++◌, List, [], ◌∷◌, ℕ, map, refl, ap, ap₂, append-nil}
 use Rattle.std.specs.List.{flat_map}
 use Rattle.std.proofs.lemmas.Grind.{flat_map-append}
-use Rattle.node_report.specs.Layout.{Line, further_line, further_text}
+use Rattle.plan_report.specs.Layout.{Line, further_line, further_text}
 
 -- lines of lines
 pub further_append : (lines more : List Line) → further_text (lines ++ more) ≡ further_text lines ++ further_text more

@@ -13,9 +13,9 @@ use Rattle.linear_table.specs.declared.Plan.{Plan}
 use Rattle.linear_table.specs.declared.Place.TheVariants.{Entry, Value, Reduced, Total}
 use Rattle.linear_table.specs.declared.SolveAnswer.{SolveAnswer}
 use Rattle.linear_table.specs.declared.SolveAnswer.TheVariants.{Planned, Infeasible, TooWide, OutOfBudget}
-use Rattle.node_report.specs.Layout.{Line}
-use Rattle.node_report.specs.Nodes.{good_word}
-use Rattle.node_report.specs.Words.{printed_word}
+use Rattle.plan_report.specs.Layout.{Line}
+use Rattle.plan_report.specs.Nodes.{good_word}
+use Rattle.plan_report.specs.Words.{printed_word}
 use Rattle.plan_report.specs.declared.reply.Figures.{Figures}
 
 -- ---- a plan

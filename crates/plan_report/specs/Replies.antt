@@ -6,10 +6,10 @@ use Rattle.plan_base.specs.declared.shape.Kind.{Kind}
 use Rattle.game_types.specs.declared.effects.Effects.{Effects}
 use Rattle.game_types.specs.declared.effects.Rates.{Rates}
 use Rattle.game_types.specs.declared.games.Game.{Game}
-use Rattle.node_report.specs.Layout.{Line, reply_text}
-use Rattle.node_report.specs.Nodes.{node_word}
-use Rattle.node_report.specs.Questions.{list_lines, mask_line, milestones_lines, missing_lines, reach_line, summary_line, why_lines}
-use Rattle.node_report.specs.Words.{object_word, printed_word}
+use Rattle.plan_report.specs.Layout.{Line, reply_text}
+use Rattle.plan_report.specs.Nodes.{node_word}
+use Rattle.plan_report.specs.Questions.{list_lines, mask_line, milestones_lines, missing_lines, reach_line, summary_line, why_lines}
+use Rattle.plan_report.specs.Words.{object_word, printed_word}
 use Rattle.plan_report.specs.declared.reply.Detail.{Detail}
 use Rattle.plan_report.specs.declared.reply.Detail.TheVariants.{Bare, Word, Node, Effect, Row}
 use Rattle.plan_report.specs.declared.reply.Reply.{Reply}

@@ -4,12 +4,21 @@
 //! lines are written is in `node_report`.
 #![tactic(auto)]
 
+mod answers;
 mod codes;
+pub mod laws;
+mod nodes;
 mod numbers;
 mod plans;
 mod printing;
+mod questions;
 mod reply;
+mod words;
 
-pub use node_report::{kind_word, object_word, printed_word};
+pub use answers::{
+    list_text, mask_text, milestones_text, missing_text, reach_text, summary_text, why_text,
+};
+pub use nodes::{good_word, node_word};
 pub use printing::print_reply;
 pub use reply::{Detail, Figures, RefusalCode, Reply};
+pub use words::{kind_word, object_word, printed_word};

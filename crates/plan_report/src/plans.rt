@@ -3,16 +3,16 @@ ghost use Rattle.std.specs.Prelude.{◌≡◌, ◌∷◌, ◌++◌, [], IfOk, co
 ghost use Rattle.std.specs.List.{flat_map, zip};
 ghost use Rattle.fractions.specs.Print.{printed};
 ghost use Rattle.game_types.specs.Sound.{IsSound};
-ghost use Rattle.node_report.specs.Nodes.{good_word};
-ghost use Rattle.node_report.specs.Layout.{further_line, further_text, line_then};
+ghost use Rattle.plan_report.specs.Nodes.{good_word};
+ghost use Rattle.plan_report.specs.Layout.{further_line, further_text, line_then};
 ghost use Rattle.plan_report.specs.Plans.{column_kind, column_name, exchange_line, figure_word, place_line, price_line, price_lines, row_line, stream_lines, total_line, use_words};
 
 use crate::numbers::number_end;
 use crate::reply::Figures;
+use crate::{good_word, printed_word};
 use fractions::Ratio;
 use game_types::Game;
 use linear_table::{Column, Exchange, Place};
-use node_report::{good_word, printed_word};
 use plan_base::{GoodId, NoMemory, Text};
 use std::alloc::Global;
 

@@ -1,7 +1,7 @@
 //! The text of a reply.
 ghost use Rattle.std.specs.Prelude.{◌≡◌, ◌∷◌, ◌++◌, [], IfOk, string_bytes};
 ghost use Rattle.game_types.specs.Sound.{IsSound};
-ghost use Rattle.node_report.specs.Layout.{further_text, line_then, reply_text};
+ghost use Rattle.plan_report.specs.Layout.{further_text, line_then, reply_text};
 ghost use Rattle.plan_report.specs.Plans.{infeasible_lines, out_of_budget_lines, plan_further_lines, plan_lines, solved_lines, too_wide_lines};
 ghost use Rattle.plan_report.specs.Replies.{at_words, consumption_words, detail_words, effects_words, fuel_words, named_word, printed_reply, rate_line, rates_words};
 
@@ -11,13 +11,13 @@ use crate::plans::{
     exchange_lines, exchange_words, place_line, price_lines, row_lines, stream_lines, total_line,
 };
 use crate::reply::{Detail, Figures, RefusalCode, Reply};
-use fractions::Ratio;
-use game_types::{Effects, Game, Rates};
-use linear_table::{Column, Exchange, Place, Plan, SolveAnswer};
-use node_report::{
+use crate::{
     list_text, mask_text, milestones_text, missing_text, node_word, object_word, printed_word,
     reach_text, summary_text, why_text,
 };
+use fractions::Ratio;
+use game_types::{Effects, Game, Rates};
+use linear_table::{Column, Exchange, Place, Plan, SolveAnswer};
 use plan_base::{GoodId, Kind, NoMemory, Text};
 use std::alloc::Global;
 

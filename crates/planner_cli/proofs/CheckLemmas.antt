@@ -5,7 +5,7 @@ use Rattle.plan_io.specs.Store.{Shelf, Begun, named_in}
 use Rattle.planner_core.specs.Lines.{Planned}
 use Rattle.certificate_file.specs.declared.CertEntry.{CertEntry}
 use Rattle.script_runner.specs.Checks.{EndsCheck}
-use Rattle.script_lines.specs.Lines.{lines_of}
+use Rattle.script_runner.specs.Lines.{lines_of}
 use Rattle.script_runner.specs.TrialLines.{TellsMany}
 use Rattle.script_runner.specs.declared.run.ScriptEnd.{ScriptEnd}
 use Rattle.script_runner.specs.declared.run.ScriptEnd.TheVariants as script

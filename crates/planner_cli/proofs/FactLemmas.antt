@@ -26,14 +26,14 @@ use Rattle.planner_tables.specs.Effects.{table_at, table_named}
 use Rattle.planner_tables.specs.Questions.{linear_named, linear_outcome, IsSolveReply, IsSolveReplyAt, IsSolvedWhere}
 use Rattle.state_changes.specs.Effects.{effect_of}
 use Rattle.state_changes.specs.States.{State}
-use Rattle.planner_replies.specs.Replies.{refused_as}
+use Rattle.planner_core.specs.Replies.{refused_as}
 use Rattle.planner_core.specs.Lines.{Held, IsFree, IsSessionOf, IsStep, IsStepIn, Moves, Planned, is_refused}
 use Rattle.planner_core.specs.Posing.{IsPosed, IsPosedWhere, form_asked}
 use Rattle.planner_core.specs.declared.posing.Posed.{Posed}
 use Rattle.planner_core.specs.declared.posing.Posed.TheVariants as posed
-use Rattle.plan_verdicts.specs.Verdicts.{IsPlanVerdict, IsVerdict, claim_at}
-use Rattle.plan_verdicts.specs.declared.verdict.Verdict.{Verdict}
-use Rattle.plan_verdicts.specs.declared.verdict.Verdict.TheVariants.{ProvedPlan, ProvedInfeasible, Open, Rejected}
+use Rattle.script_runner.specs.Verdicts.{IsPlanVerdict, IsVerdict, claim_at}
+use Rattle.script_runner.specs.declared.verdict.Verdict.{Verdict}
+use Rattle.script_runner.specs.declared.verdict.Verdict.TheVariants.{ProvedPlan, ProvedInfeasible, Open, Rejected}
 use Rattle.script_runner.specs.Answers.{Answered, IsAnswered, IsReply, Reading}
 use Rattle.planner_cli.specs.Facts.{Asks, CheckHeadline, Headline, IsAfresh, IsShown, ProvesTruly, SolvesOrTellsWhy, TakesBack, TellsByRounds, TellsWhyNot}
 use Rattle.script_runner.specs.Plans.{TellsOfTable}

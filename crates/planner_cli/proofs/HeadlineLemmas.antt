@@ -8,7 +8,7 @@ use Rattle.linear_table.specs.declared.SolveAnswer.{SolveAnswer}
 use Rattle.certificate_file.specs.declared.CertEntry.{CertEntry}
 use Rattle.state_changes.specs.States.{first_state}
 use Rattle.planner_core.specs.Lines.{first_planned}
-use Rattle.script_lines.specs.Lines.{lines_of}
+use Rattle.script_runner.specs.Lines.{lines_of}
 use Rattle.script_runner.specs.Certificates.{CertifiesAll, EndsProof}
 use Rattle.script_runner.specs.Checks.{EndsCheck, JudgesAll, JudgesSome}
 use Rattle.script_runner.specs.Leaves.{Leaves}

@@ -20,13 +20,13 @@ use Rattle.planner_tables.specs.Questions.{linear_named}
 use Rattle.state_changes.specs.Actions.{node_named}
 use Rattle.state_changes.specs.Effects.{effect_of}
 use Rattle.state_changes.specs.States.{State}
-use Rattle.kept_worlds.specs.Worlds.{is_reached, rank_of}
-use Rattle.planner_replies.specs.Replies.{AboutNode, IsWhyReply, list_reply, mask_reply, missing_reply, refused_as, summary_reply}
+use Rattle.planning_state.specs.Worlds.{is_reached, rank_of}
+use Rattle.planner_core.specs.Replies.{AboutNode, IsWhyReply, list_reply, mask_reply, missing_reply, refused_as, summary_reply}
 use Rattle.planner_core.specs.Lines.{Planned}
 use Rattle.planner_core.specs.Posing.{form_asked}
 use Rattle.planner_core.specs.declared.posing.Posed.TheVariants as posed
-use Rattle.plan_verdicts.specs.declared.verdict.Verdict.{Verdict}
-use Rattle.plan_verdicts.specs.declared.verdict.Verdict.TheVariants.{ProvedPlan, ProvedInfeasible}
+use Rattle.script_runner.specs.declared.verdict.Verdict.{Verdict}
+use Rattle.script_runner.specs.declared.verdict.Verdict.TheVariants.{ProvedPlan, ProvedInfeasible}
 use Rattle.script_runner.specs.Answers.{Answered}
 use Rattle.script_runner.specs.Plans.{HasNoPlanBy, IsLeastCostPlan, TellsOfTable}
 use Rattle.script_runner.specs.Trials.{Judged}

@@ -1,3 +1,4 @@
 pub mod Lines
 pub mod Planners
 pub mod Posing
+pub mod Replies

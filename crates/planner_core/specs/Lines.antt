@@ -19,9 +19,9 @@ use Rattle.state_changes.specs.Actions.{Outcome, can_be_held, node_named}
 use Rattle.state_changes.specs.States.{State, first_state}
 use Rattle.state_changes.specs.Effects.{effect_of, is_entry}
 use Rattle.state_changes.specs.Undoing.{LeadsBack}
-use Rattle.kept_worlds.specs.Work.{work_of}
-use Rattle.kept_worlds.specs.Worlds.{is_reached, rank_of}
-use Rattle.planner_replies.specs.Replies.{AboutNode, IsWhyReply, done_reply, held_reply, list_reply, mask_reply, missing_reply, refused, refused_as, reply_work, summary_reply}
+use Rattle.planning_state.specs.Work.{work_of}
+use Rattle.planning_state.specs.Worlds.{is_reached, rank_of}
+use Rattle.planner_core.specs.Replies.{AboutNode, IsWhyReply, done_reply, held_reply, list_reply, mask_reply, missing_reply, refused, refused_as, reply_work, summary_reply}
 
 -- a change that is held in a batch, with its line
 abbrev pub Held : Type 0

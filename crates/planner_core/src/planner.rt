@@ -11,7 +11,7 @@ ghost use Rattle.edit_undo.specs.Session.{last_of, redo_of, undo_of};
 ghost use Rattle.edit_undo.specs.Kept.{session_of};
 ghost use Rattle.script_reader.specs.declared.command.Command.TheVariants as CommandLine;
 ghost use Rattle.state_changes.specs.Actions.{can_be_held};
-ghost use Rattle.planner_replies.specs.Replies.{done_reply, held_reply, refused_as};
+ghost use Rattle.planner_core.specs.Replies.{done_reply, held_reply, refused_as};
 ghost use Rattle.planner_tables.specs.Questions.{linear_named};
 ghost use Rattle.planner_core.specs.Posing.{IsFormed, IsPosed, IsPosedTable, posed_work};
 ghost use Rattle.planner_core.specs.declared.posing.Posed.TheVariants.{Reply as PosedReply};
@@ -20,14 +20,14 @@ ghost use Rattle.std.specs.List.{list_all};
 ghost use Rattle.planner_core.specs.Lines.{changes_of, entry_work, first_planned, is_free, is_refused, line_at, line_work, Does, Ends, Held as HeldChange, Holds, HoldsChange, IsFree, IsOpen, IsSessionOf, IsStep, Moves};
 
 use crate::posing::{Posed, pose_table};
+use crate::{
+    list_reply, mask_reply, milestones_reply, missing_reply, rate_reply, reach_reply, refused,
+    refused_as, solve_reply, summary_reply, why_reply,
+};
 use edit_undo::{DoFault, History};
 use game_types::Game;
 use plan_base::{NoMemory, Steps, Text};
 use plan_report::{RefusalCode, Reply};
-use planner_replies::{
-    list_reply, mask_reply, milestones_reply, missing_reply, rate_reply, reach_reply, refused,
-    refused_as, solve_reply, summary_reply, why_reply,
-};
 use planning_state::{LoadFault, Planning, Undo, can_be_held};
 use production_table::Table;
 use script_reader::{Change, Command};

@@ -14,8 +14,8 @@ use Rattle.plan_report.specs.declared.reply.Reply.{Reply}
 use Rattle.plan_report.specs.declared.reply.Reply.TheVariants as reply
 use Rattle.state_changes.specs.Actions.{known, node_named}
 use Rattle.state_changes.specs.States.{State}
-use Rattle.kept_worlds.specs.Worlds.{is_reached, mask_in, rank_of}
-use Rattle.planner_replies.specs.Replies.{AboutNode, mask_reply, refused_as}
+use Rattle.planning_state.specs.Worlds.{is_reached, mask_in, rank_of}
+use Rattle.planner_core.specs.Replies.{AboutNode, mask_reply, refused_as}
 use Rattle.planner_core.specs.Lines.{Held, IsStep, IsStepIn, Planned, is_free}
 use Rattle.planner_questions.specs.Told.{mask_of, mask_where, told_mask, told_milestones, told_rank}
 

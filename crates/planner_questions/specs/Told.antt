@@ -5,7 +5,7 @@ use Rattle.plan_base.specs.declared.ids.NodeId.{NodeId}
 use Rattle.plan_report.specs.declared.reply.Reply.{Reply}
 use Rattle.plan_report.specs.declared.reply.Reply.TheVariants as reply
 use Rattle.state_changes.specs.States.{State}
-use Rattle.kept_worlds.specs.Worlds.{is_reached, mask_in}
+use Rattle.planning_state.specs.Worlds.{is_reached, mask_in}
 
 -- the rank that is told; 0 where none is
 abbrev pub told_rank : Reply → ℕ

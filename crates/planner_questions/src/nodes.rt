@@ -3,7 +3,7 @@ ghost use Rattle.std.specs.Prelude.{◌≡◌, ◌<◌, IfNone, IfOk, IfSome, No
 ghost use Rattle.plan_base.specs.Shape.{node_count};
 ghost use Rattle.game_types.specs.Nodes.{find_node, shape_of};
 ghost use Rattle.game_types.specs.Sound.{IsSound};
-ghost use Rattle.kept_worlds.specs.Worlds.{rank_of};
+ghost use Rattle.planning_state.specs.Worlds.{rank_of};
 ghost use Rattle.planner_core.specs.Lines.{is_free};
 ghost use Rattle.planner_questions.specs.Told.{mask_of, place_of, places_of, told_mask, told_milestones, told_rank};
 

@@ -18,8 +18,8 @@ use Rattle.state_changes.specs.declared.undos.Undo.TheVariants.{Taken}
 use Rattle.state_changes.specs.Actions.{Outcome, can_be_held, node_named}
 use Rattle.state_changes.specs.States.{State, state_of, AreSoundMilestones}
 use Rattle.state_changes.specs.Undoing.{Fits, FitsTaken, LeadsBack, taken_back}
-use Rattle.kept_worlds.specs.Work.{milestone_named, work_by, work_of, work_of_book, work_of_milestone}
-use Rattle.kept_worlds.specs.Worlds.{ranks_in, world_of}
+use Rattle.planning_state.specs.Work.{milestone_named, work_by, work_of, work_of_book, work_of_milestone}
+use Rattle.planning_state.specs.Worlds.{ranks_in, world_of}
 
 -- ---- the work of an entry
 pub work-add : (s own t : State) (changes : List Change) (object : Object) → own ≡ s → changes ≡ Milestone object ∷ [] → work_of_milestone (node_named own.book.game object) own t ≡ work_of s changes t

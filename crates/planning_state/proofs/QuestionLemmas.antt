@@ -23,8 +23,8 @@ use Rattle.milestone_masks.specs.Worlds.{AreWorlds, Kept, mask_of, milestones_of
 use Rattle.milestone_masks.proofs.LawLemmas.{mask-same, ranked-reached}
 use Rattle.production_table.specs.declared.tables.Table.{Table}
 use Rattle.state_changes.specs.States.{State, state_of}
-use Rattle.kept_worlds.specs.Worlds.{is_reached, mask_in, rank_of, ranks_in, world_of, IsKept}
-use Rattle.kept_worlds.proofs.Kept.{are-ranks_in, is-whole}
+use Rattle.planning_state.specs.Worlds.{is_reached, mask_in, rank_of, ranks_in, world_of, IsKept}
+use Rattle.planning_state.proofs.Kept.{are-ranks_in, is-whole}
 
 module _ (s : State) (book : Book) (tables : List Table) (rows : List Row) (kept : Kept) (view : state_of book (milestones_of kept) tables ≡ s) (keeps : IsKept book rows kept) where
   long : length kept.base ≡ node_count (shape_of book.game)

@@ -26,11 +26,11 @@ use Rattle.planner_tables.specs.Effects.{is_of_tables, tables_effect}
 use Rattle.state_changes.specs.Actions.{Outcome, can_be_held, edit_and, edits_named}
 use Rattle.state_changes.specs.States.{State, state_of}
 use Rattle.state_changes.specs.Effects.{effect_of, with_tables}
-use Rattle.kept_worlds.specs.Work.{touched_in, work_of}
-use Rattle.kept_worlds.specs.Worlds.{worlds_of}
+use Rattle.planning_state.specs.Work.{touched_in, work_of}
+use Rattle.planning_state.specs.Worlds.{worlds_of}
 use Rattle.state_changes.proofs.Changing.{effect-tables, no-edit}
 use Rattle.planning_state.proofs.EntryLemmas.{held-work}
-use Rattle.kept_worlds.proofs.HeldLemmas.{both, ok-same, then-ok}
+use Rattle.planning_state.proofs.HeldLemmas.{both, ok-same, then-ok}
 
 -- ---- the book and the milestones stay
 table-alone : (s t : State) (outcome : Result (List ProductionTable) TableRefusal) → with_tables s outcome ≡ Ok t → (s.book ≡ t.book) × (s.milestones ≡ t.milestones)

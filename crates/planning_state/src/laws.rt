@@ -6,7 +6,7 @@ ghost use Rattle.script_reader.specs.declared.change.Change.{Change};
 ghost use Rattle.planner_tables.specs.Effects.{is_of_tables};
 ghost use Rattle.state_changes.specs.States.{State};
 ghost use Rattle.state_changes.specs.Effects.{effect_of};
-ghost use Rattle.kept_worlds.specs.Work.{work_of};
+ghost use Rattle.planning_state.specs.Work.{work_of};
 
 /// Law: an entry of changes of the tables alone takes no step, forth or back.
 pub fn tables_take_no_step()

@@ -10,22 +10,22 @@ ghost use Rattle.depend_rows.specs.Rows.{rows_of};
 ghost use Rattle.milestone_masks.specs.Why.{IsWhy};
 ghost use Rattle.milestone_masks.specs.Worlds.{missing_in, AreWorlds};
 ghost use Rattle.state_changes.specs.Actions.{node_named, Gives};
-ghost use Rattle.kept_worlds.specs.Worlds.{is_reached, mask_in, rank_of, ranks_in, world_of};
+ghost use Rattle.planning_state.specs.Worlds.{is_reached, mask_in, rank_of, ranks_in, world_of};
 ghost use Rattle.planner_tables.specs.Effects.{AreSoundTables};
 ghost use Rattle.state_changes.specs.States.{first_state, state_of, State};
 ghost use Rattle.state_changes.specs.Effects.{effect_of, is_entry};
 ghost use Rattle.state_changes.specs.Undoing.{LeadsBack};
-ghost use Rattle.kept_worlds.specs.Work.{work_of};
+ghost use Rattle.planning_state.specs.Work.{work_of};
 
+use crate::{
+    add_milestone, apply_held, drop_milestone, put_milestone, restore_held, take_milestone,
+};
 use data_edit::Book;
 use depend_index::Index;
 use depend_rows::{RowsFault, rows_within};
 use edit_undo::{Editable, EntryFault};
 use game_types::Game;
 use graph_store::{Graph, Group, Row, Rows};
-use kept_worlds::{
-    add_milestone, apply_held, drop_milestone, put_milestone, restore_held, take_milestone,
-};
 use milestone_masks::Worlds;
 use plan_base::{Kind, NoMemory, NodeId, Steps};
 use production_table::Table;
@@ -61,7 +61,7 @@ pub struct Planning {
 impl Model for Planning {
     ghost use Rattle.state_changes.specs.States.{State, state_of};
     ghost use Rattle.milestone_masks.specs.Worlds.{milestones_of};
-    ghost use Rattle.kept_worlds.specs.Worlds.{IsKept};
+    ghost use Rattle.planning_state.specs.Worlds.{IsKept};
     ghost use Rattle.planner_tables.specs.Effects.{AreSoundTables};
     ghost use Rattle.depend_index.specs.Indexed.{IsIndex};
 

@@ -5,3 +5,8 @@ pub mod Shares
 pub mod Activities
 pub mod Power
 pub mod Crafts
+pub mod Items
+pub mod Launches
+pub mod Reached
+pub mod Dumped
+pub mod Catalysts

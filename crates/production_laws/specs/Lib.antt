@@ -1,2 +1,4 @@
 pub mod Amounts
 pub mod Balance
+pub mod Reached
+pub mod Dumped

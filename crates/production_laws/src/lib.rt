@@ -2,8 +2,13 @@
 //! takes.
 #![tactic(auto)]
 
+mod launches;
 mod laws;
 
+pub use launches::{
+    dumps_have_their_launches, items_choose_themselves, launches_are_reached_by_their_parts,
+    launches_take_item_and_parts, productivity_adds_nothing_to_launches,
+};
 pub use laws::{
     columns_sum, crafts_give_and_take, goods_balance, labs_take_packs, power_balances,
     research_balances,

@@ -4,6 +4,9 @@
 mod ends;
 mod files;
 mod lines;
+mod sink;
+mod store;
+mod watch;
 mod words;
 
 /// The version of the programs.
@@ -15,4 +18,7 @@ pub const NO_SCRIPT: &str = "/dev/null";
 pub use ends::{End, Names, end_by, ended, written};
 pub use files::whole_file;
 pub use lines::{LINES, answered, loaded};
+pub use sink::WatchedSink;
+pub use store::WatchedStore;
+pub use watch::Watch;
 pub use words::{end_by_words, program_words};

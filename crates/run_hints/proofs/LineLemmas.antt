@@ -6,7 +6,7 @@ use Rattle.std.specs.Fmt.{digit_glyph, digits, digits_onto}
 use Rattle.std.proofs.lemmas.List.Folds.{list_all-append}
 use Rattle.std.proofs.lemmas.List.Concat.{flat_map-cons}
 use Rattle.std.proofs.lemmas.Grind.{common_steps}
-use Rattle.node_report.specs.Words.{in_quotes, is_bare, needs_quotes, printed_word, quoted}
+use Rattle.plan_report.specs.Words.{in_quotes, is_bare, needs_quotes, printed_word, quoted}
 use Rattle.run_hints.specs.Places.{is_newline}
 use Rattle.run_hints.specs.Hints.{IsLine, cert_text, hint_line, hint_of, is_unbroken, long_hint, name_part}
 use Rattle.run_hints.specs.Faults.{fault_text, field_text, field_words, front_text, is_gzip, is_marked, json_text_at, json_words, kind_text, known_place, or_else, part, text_by, words_at}

@@ -7,7 +7,7 @@ use Rattle.json_text.specs.declared.fault.JsonFault.{JsonFault}
 use Rattle.craft_reader.specs.declared.fault.DumpCode.{DumpCode}
 use Rattle.craft_reader.specs.declared.fault.DumpCode.TheVariants as d
 use Rattle.craft_reader.specs.declared.fault.DumpFault.{DumpFault}
-use Rattle.node_report.specs.Words.{printed_word}
+use Rattle.plan_report.specs.Words.{printed_word}
 use Rattle.run_hints.specs.Places.{place_at}
 use Rattle.run_hints.specs.declared.place.Place.{Place}
 

@@ -1,7 +1,7 @@
 -- What is said on standard error of how a run ended: one line, or nothing where every line of the script was answered.
 use Rattle.std.specs.Prelude.{◌≡◌, ℕ, List, [], ◌++◌, Bool, not, true, Option, None, Some, codes}
 use Rattle.std.specs.List.{list_all}
-use Rattle.node_report.specs.Words.{printed_word}
+use Rattle.plan_report.specs.Words.{printed_word}
 use Rattle.certificate_file.specs.declared.CertFault.{CertFault}
 use Rattle.certificate_file.specs.declared.CertFault.TheVariants as fault
 use Rattle.run_inputs.specs.declared.status.Long.{Long}

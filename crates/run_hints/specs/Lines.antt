@@ -1,6 +1,6 @@
 -- What is said of the lines of a script: of a refused one, and of one that solves a table which has no plan.
 use Rattle.std.specs.Prelude.{ℕ, List, [], ◌++◌, Option, None, Some, codes, decimal}
-use Rattle.node_report.specs.Words.{printed_word}
+use Rattle.plan_report.specs.Words.{printed_word}
 use Rattle.line_causes.specs.Causes.{cause_text}
 use Rattle.run_hints.specs.Hints.{hint_line}
 use Rattle.line_causes.specs.declared.causes.Cause.{Cause}

@@ -6,7 +6,7 @@ use Rattle.json_text.specs.declared.fault.JsonFault.{JsonFault}
 use Rattle.craft_reader.specs.declared.fault.DumpCode.{DumpCode}
 use Rattle.craft_reader.specs.declared.fault.DumpCode.TheVariants as d
 use Rattle.craft_reader.specs.declared.fault.DumpFault.{DumpFault}
-use Rattle.node_report.specs.Words.{printed_word}
+use Rattle.plan_report.specs.Words.{printed_word}
 
 abbrev pub json_name : JsonCode → List ℕ
 json_name j.NotJson = codes "J1"

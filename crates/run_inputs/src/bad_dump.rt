@@ -4,7 +4,7 @@ ghost use Rattle.run_inputs.specs.BadDump.{code_name, fault_line, field_line, js
 
 use craft_reader::{DumpCode, DumpFault};
 use json_text::{JsonCode, JsonFault};
-use node_report::printed_word;
+use plan_report::printed_word;
 use std::alloc::{AllocError, Global};
 
 fn json_name(code: JsonCode) -> &'static str

@@ -2,9 +2,8 @@
 ghost use Rattle.game_types.specs.Sound.{IsSound};
 
 use game_types::Game;
-use hint_causes::{Found, Line, found_of, found_unread};
-use hint_words::short_of;
-use line_words::words_of;
+use hint_causes::{Found, Line, found_of, found_unread, short_of};
+use line_causes::words_of;
 use linear_table::{Linear, SolveAnswer};
 use plan_base::{NoMemory, Steps, Text};
 use plan_report::{Detail, RefusalCode, Reply};

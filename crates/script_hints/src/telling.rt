@@ -5,7 +5,7 @@ use crate::lines::{Script, script_hints, unread_hints};
 use cli_words::{PlainWords, plain_words};
 use game_reader::read_dump;
 use game_types::Game;
-use hint_words::is_bare;
+use hint_causes::is_bare;
 use linear_table::SolveAnswer;
 use plan_base::{NoMemory, Steps, Text};
 use planner_cli::{DUMP_LIMIT, SCRIPT_LIMIT, Status};

@@ -10,9 +10,9 @@ use Rattle.script_reader.specs.Reading.{Answers}
 use Rattle.script_runner.specs.declared.run.ScriptEnd.TheVariants.{TooManyLines, WriteFault}
 use Rattle.script_runner.specs.Answers.{is_no_memory}
 use Rattle.script_runner.specs.Leaves.{Leaves}
-use Rattle.script_lines.specs.Lines.{lines_of}
+use Rattle.script_runner.specs.Lines.{lines_of}
 use Rattle.script_runner.specs.Scripts.{EndsScript, is_cut}
-use Rattle.script_lines.specs.Writing.{AppendsFront}
+use Rattle.script_runner.specs.Writing.{AppendsFront}
 
 -- a fault that is told
 pub fault_read : {A : Type 0} (reading : Result A ScriptFault → Type 0) (why : ScriptFault) → Answers reading (Err why) → is_no_memory why ≡ false → reading (Err why)

@@ -32,9 +32,9 @@ use Rattle.script_runner.specs.Certificates.{claim_of, entries_of, entry_for, en
 use Rattle.script_runner.specs.Rechecks.{AreProvedButWide, is_wide}
 use Rattle.script_runner.specs.Sessions.{IsSession, some_refused}
 use Rattle.script_runner.specs.Trials.{IsJudgedBy, IsSaid, IsTrial, Judged, is_form, is_said_refused, is_shown, some_said_refused}
-use Rattle.plan_verdicts.specs.Verdicts.{IsPlanVerdict, IsVerdict, claim_at, is_of_line, is_proved}
-use Rattle.plan_verdicts.specs.declared.verdict.Verdict.{Verdict}
-use Rattle.plan_verdicts.specs.declared.verdict.Verdict.TheVariants as verdicts
+use Rattle.script_runner.specs.Verdicts.{IsPlanVerdict, IsVerdict, claim_at, is_of_line, is_proved}
+use Rattle.script_runner.specs.declared.verdict.Verdict.{Verdict}
+use Rattle.script_runner.specs.declared.verdict.Verdict.TheVariants as verdicts
 use Rattle.script_runner.proofs.AlikeLemmas.{alike_as, alike_left, alike_self, form_same, left_same, solves}
 use Rattle.script_runner.proofs.FollowLemmas.{Follows, follows}
 use Rattle.script_runner.proofs.FaultLemmas.{least_fault, none_fault, plan_fault}

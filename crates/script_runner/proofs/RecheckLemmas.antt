@@ -10,7 +10,7 @@ use Rattle.planner_core.specs.Lines.{IsSessionOf, Planned}
 use Rattle.certificate_file.specs.Said.{IsCertificate}
 use Rattle.script_runner.specs.Certificates.{CertifiesAll, EndsProof}
 use Rattle.script_runner.specs.Checks.{EndsCheck}
-use Rattle.script_lines.specs.Lines.{lines_of}
+use Rattle.script_runner.specs.Lines.{lines_of}
 use Rattle.script_runner.specs.Rechecks.{AreProvedButWide, IsNeverWide, IsProof, wide_count}
 use Rattle.script_runner.specs.Trials.{IsTrial, Judged, form_count, is_passed, proved_count, some_said_refused}
 use Rattle.script_runner.specs.declared.run.ScriptEnd.{ScriptEnd}

@@ -16,9 +16,9 @@ use Rattle.script_reader.specs.Lines.{command_of_line}
 use Rattle.script_runner.specs.Answers.{Reading, is_refusal_reply}
 use Rattle.script_runner.specs.TrialLines.{IsNote, IsNoted, JudgesLine}
 use Rattle.script_runner.specs.Trials.{IsJudgedBy, IsSaid, said_work, table_asked}
-use Rattle.plan_verdicts.specs.Verdicts.{IsVerdict, claim_at}
+use Rattle.script_runner.specs.Verdicts.{IsVerdict, claim_at}
 use Rattle.script_runner.specs.declared.trial.Note.{Note}
-use Rattle.plan_verdicts.specs.declared.verdict.Verdict.{Verdict}
+use Rattle.script_runner.specs.declared.verdict.Verdict.{Verdict}
 
 judges_line : (entries : List CertEntry) (number : ℕ) (line : List ℕ) (reading : Reading) (said : Posed) (verdict : Option Verdict) (before after : Planned) (note : Note) (old new : ℕ)
     → command_of_line line reading → IsSaid number before reading after said → IsJudgedBy (claim_at entries number) said verdict → ((base : State) → IsSessionOf base before → IsSessionOf base after)

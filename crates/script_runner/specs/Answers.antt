@@ -13,7 +13,7 @@ use Rattle.linear_table.specs.declared.SolveAnswer.{SolveAnswer}
 use Rattle.linear_table.specs.declared.SolveAnswer.TheVariants.{TooWide, OutOfBudget}
 use Rattle.state_changes.specs.States.{State}
 use Rattle.planner_core.specs.Lines.{Planned, IsSessionOf, IsStep, line_work}
-use Rattle.planner_replies.specs.Replies.{refused_as}
+use Rattle.planner_core.specs.Replies.{refused_as}
 
 -- what a line is read as: a command, none where it is blank or a comment, or why it has none
 abbrev pub Reading : Type 0

@@ -9,3 +9,6 @@ pub mod Certificates
 pub mod TrialLines
 pub mod Alike
 pub mod Rechecks
+pub mod Verdicts
+pub mod Lines
+pub mod Writing

@@ -8,11 +8,11 @@ use Rattle.planner_core.specs.Lines.{IsSessionOf, Planned}
 use Rattle.certificate_file.specs.Said.{IsCertificate}
 use Rattle.certificate_file.specs.declared.CertEntry.{CertEntry}
 use Rattle.script_runner.specs.Certificates.{EndsProof}
-use Rattle.script_lines.specs.Lines.{lines_of}
+use Rattle.script_runner.specs.Lines.{lines_of}
 use Rattle.script_runner.specs.Trials.{IsTrial, Judged, form_count, proved_count, some_said_refused}
 use Rattle.script_runner.specs.declared.run.ScriptEnd.TheVariants.{Done}
-use Rattle.plan_verdicts.specs.declared.verdict.Verdict.{Verdict}
-use Rattle.plan_verdicts.specs.declared.verdict.Verdict.TheVariants.{Rejected}
+use Rattle.script_runner.specs.declared.verdict.Verdict.{Verdict}
+use Rattle.script_runner.specs.declared.verdict.Verdict.TheVariants.{Rejected}
 
 -- From a planner that grew from a base the lines of the script were answered, none was refused, and each table was settled. This
 -- certificate was told of them, and these are its entries.

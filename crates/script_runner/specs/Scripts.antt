@@ -5,7 +5,7 @@ use Rattle.planner_core.specs.Lines.{Planned}
 use Rattle.script_runner.specs.declared.run.ScriptEnd.{ScriptEnd}
 use Rattle.script_runner.specs.declared.run.ScriptEnd.TheVariants.{Done, SomeRefused, TooManyLines, WriteFault, NoMemory}
 use Rattle.script_runner.specs.Answers.{Answered}
-use Rattle.script_lines.specs.Lines.{lines_of}
+use Rattle.script_runner.specs.Lines.{lines_of}
 use Rattle.script_runner.specs.Sessions.{IsSession, report, solutions, some_refused, work}
 
 -- the text is the report of a session of these lines, what the solver answered is what its replies tell, and the steps are those

@@ -10,14 +10,14 @@ use Rattle.plan_report.specs.Replies.{printed_reply}
 use Rattle.state_changes.specs.States.{State}
 use Rattle.planner_core.specs.Lines.{IsSessionOf, Planned}
 use Rattle.planner_core.specs.Posing.{IsPosed, posed_work}
-use Rattle.planner_replies.specs.Replies.{refused_as}
+use Rattle.planner_core.specs.Replies.{refused_as}
 use Rattle.planner_core.specs.declared.posing.Posed.{Posed}
 use Rattle.planner_core.specs.declared.posing.Posed.TheVariants as posed
 use Rattle.certificate_file.specs.declared.CertEntry.{CertEntry}
 use Rattle.certificate_file.specs.declared.Claim.{Claim}
 use Rattle.script_runner.specs.Answers.{Reading, fault_code, is_refusal_reply}
-use Rattle.plan_verdicts.specs.Verdicts.{IsVerdict, claim_at, is_proved, verdict_line}
-use Rattle.plan_verdicts.specs.declared.verdict.Verdict.{Verdict}
+use Rattle.script_runner.specs.Verdicts.{IsVerdict, claim_at, is_proved, verdict_line}
+use Rattle.script_runner.specs.declared.verdict.Verdict.{Verdict}
 
 -- a line with its number, what it is read as, what is posed or replied, the verdict where a form is posed, and the planner before and
 -- after it

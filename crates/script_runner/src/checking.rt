@@ -5,17 +5,17 @@ ghost use Rattle.state_changes.specs.States.{State};
 ghost use Rattle.planner_core.specs.Lines.{IsSessionOf};
 ghost use Rattle.script_runner.specs.Checks.{EndsCheck};
 ghost use Rattle.script_runner.specs.Leaves.{Leaves};
-ghost use Rattle.script_lines.specs.Lines.{lines_of};
+ghost use Rattle.script_runner.specs.Lines.{lines_of};
 ghost use Rattle.script_runner.specs.Scripts.{is_cut};
 ghost use Rattle.script_runner.specs.TrialLines.{TellsMany, TellsTally};
 
 use crate::run::{LINE_LIMIT, ScriptEnd};
 use crate::trial::judge_line;
+use crate::{line_count, split_line, trim_return, write_all};
 use certificate_file::CertEntry;
 use plan_base::Steps;
 use plan_io::Sink;
 use planner_core::Planner;
-use script_lines::{line_count, split_line, trim_return, write_all};
 use std::alloc::Global;
 
 /// Whether a script has more lines than it may.

@@ -12,7 +12,7 @@ ghost use Rattle.script_reader.specs.declared.command.Command.{Command};
 ghost use Rattle.script_runner.specs.Alike.{AreAlike};
 ghost use Rattle.script_runner.specs.Answers.{Answered};
 ghost use Rattle.script_runner.specs.Checks.{EndsCheck};
-ghost use Rattle.script_lines.specs.Lines.{lines_of};
+ghost use Rattle.script_runner.specs.Lines.{lines_of};
 ghost use Rattle.script_runner.specs.Plans.{SolvesRightly};
 ghost use Rattle.script_runner.specs.Rechecks.{AreProvedButWide, IsNeverWide, IsProof};
 ghost use Rattle.script_runner.specs.Sessions.{IsSession};

@@ -4,12 +4,15 @@
 mod answer;
 mod checking;
 mod laws;
+mod lines;
+mod output;
 mod proving;
 mod reading;
 mod report;
 mod run;
 mod solutions;
 mod trial;
+mod verdict;
 
 pub use answer::{is_refusal, reply_to};
 pub use checking::{check_lines, has_many_lines, tell_many_lines};
@@ -17,8 +20,9 @@ pub use laws::{
     certificates_prove_their_script, lines_lead_to_one_planner, planners_grow_from_the_base,
     plans_cost_least,
 };
-pub use plan_verdicts::Verdict;
+pub use lines::{line_count, split_line, trim_return};
+pub use output::write_all;
 pub use proving::prove_script;
 pub use reading::reading_of;
 pub use run::{LINE_LIMIT, ScriptEnd, run_script};
-pub use script_lines::{split_line, trim_return, write_all};
+pub use verdict::{Verdict, is_proved, verdict_line, verdict_on};

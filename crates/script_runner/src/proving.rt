@@ -2,25 +2,25 @@
 ghost use Rattle.std.specs.Prelude.{◌≡◌, ◌≤◌, ◌++◌, ◌∷◌, [], codes, MatchResult, IfOk, OnOk, OnErr, length, option_map, option_to_list};
 ghost use Rattle.std.specs.Io.KnownBytes.{Appends};
 ghost use Rattle.plan_io.specs.Causes.{HasCause, Rose};
-ghost use Rattle.script_lines.specs.Writing.{AppendsFront};
+ghost use Rattle.script_runner.specs.Writing.{AppendsFront};
 ghost use Rattle.state_changes.specs.States.{State};
 ghost use Rattle.planner_core.specs.Lines.{IsSessionOf};
 ghost use Rattle.script_runner.specs.Certificates.{claim_of, end_of, EndsProof, entry_for, IsEntered, IsEnteredInPart};
 ghost use Rattle.script_runner.specs.Leaves.{Leaves};
-ghost use Rattle.script_lines.specs.Lines.{lines_of};
+ghost use Rattle.script_runner.specs.Lines.{lines_of};
 ghost use Rattle.script_runner.specs.Scripts.{is_cut};
 
 use crate::answer::answer_line;
 use crate::checking::{has_many_lines, tell_many_lines};
 use crate::run::ScriptEnd;
 use crate::solutions::keep;
+use crate::{split_line, trim_return, write_all};
 use certificate_file::{CertEntry, Claim, write_cert};
 use fractions::Ratio;
 use linear_table::{Plan, SolveAnswer};
 use plan_base::{Items, NoMemory, Steps, Text};
 use plan_io::{Failed, Sink};
 use planner_core::Planner;
-use script_lines::{split_line, trim_return, write_all};
 use state_changes::put;
 use std::alloc::Global;
 

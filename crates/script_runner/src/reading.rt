@@ -1,7 +1,7 @@
 //! What a line is read as.
 ghost use Rattle.std.specs.Prelude.{◌≡◌, IfOk};
 ghost use Rattle.script_reader.specs.Lines.{command_of_line};
-ghost use Rattle.planner_replies.specs.Replies.{refused_as};
+ghost use Rattle.planner_core.specs.Replies.{refused_as};
 ghost use Rattle.script_runner.specs.Answers.{fault_code, is_no_memory};
 
 use plan_base::NoMemory;

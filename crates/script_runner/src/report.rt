@@ -4,17 +4,17 @@ ghost use Rattle.plan_io.specs.Causes.{Rose};
 ghost use Rattle.state_changes.specs.States.{State};
 ghost use Rattle.planner_core.specs.Lines.{IsSessionOf};
 ghost use Rattle.script_runner.specs.Leaves.{Leaves};
-ghost use Rattle.script_lines.specs.Lines.{lines_of};
+ghost use Rattle.script_runner.specs.Lines.{lines_of};
 ghost use Rattle.script_runner.specs.Scripts.{is_cut, EndsScript};
 
 use crate::answer::answer_line;
 use crate::run::ScriptEnd;
 use crate::solutions::keep;
+use crate::{split_line, trim_return, write_all};
 use linear_table::SolveAnswer;
 use plan_base::Steps;
 use plan_io::Sink;
 use planner_core::Planner;
-use script_lines::{split_line, trim_return, write_all};
 use std::alloc::Global;
 
 /// Answers each line, and writes its reply before the next line is answered.

@@ -7,11 +7,11 @@ ghost use Rattle.script_runner.specs.Leaves.{Leaves};
 ghost use Rattle.script_runner.specs.Scripts.{EndsScript, is_cut};
 
 use crate::report::answer_lines;
+use crate::{line_count, write_all};
 use linear_table::SolveAnswer;
 use plan_base::Steps;
 use plan_io::Sink;
 use planner_core::Planner;
-use script_lines::{line_count, write_all};
 use std::alloc::Global;
 
 /// The most lines that a script may have.

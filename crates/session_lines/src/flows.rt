@@ -9,10 +9,9 @@ use crate::answers::{
 use fractions::Ratio;
 use game_types::{BeaconGroup, Game};
 use linear_table::{Column, Linear, LinearColumn, Plan, SolveAnswer};
-use node_report::object_word;
 use page_parts::{Amount, Flow, column_flows, machine_name};
 use plan_base::{GoodId, Kind, NoMemory};
-use plan_report::{Figures, Reply};
+use plan_report::{Figures, Reply, object_word};
 use planner_core::Planner;
 use production_table::{Table, TableFault, TableRow};
 use std::alloc::Global;

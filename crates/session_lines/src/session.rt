@@ -9,7 +9,7 @@ use crate::wishes::Wishes;
 use plan_base::{NoMemory, Steps, Text};
 use plan_io::Sink;
 use planner_core::Planner;
-use script_lines::{trim_return, write_all};
+use script_runner::{trim_return, write_all};
 use shown_fields::ShownFields;
 use std::alloc::{AllocError, Global};
 use std::io::Read;

@@ -2,7 +2,7 @@
 use Rattle.std.specs.Prelude.{◌≡◌, ℕ, Bool, List, Contains}
 use Rattle.game_types.specs.declared.games.Game.{Game}
 use Rattle.production_table.specs.declared.tables.Table.{Table}
-use Rattle.kept_worlds.specs.Worlds.{is_reached}
+use Rattle.planning_state.specs.Worlds.{is_reached}
 use Rattle.planner_core.specs.Lines.{Planned}
 use Rattle.wish_checks.specs.Answers.{IsMet}
 use Rattle.wish_setups.specs.declared.wish.Met.{Met}

@@ -3,12 +3,18 @@
 #![tactic(auto)]
 
 mod estimates;
+mod found;
+mod further;
 mod reasons;
 mod variants;
+mod walk;
 
 pub use estimates::Estimates;
+pub use found::{Found, Ground, part_of};
+pub use further::walk_further;
 pub use reasons::why_unmade;
 pub use variants::{all_variants, given_variants};
+pub use walk::{Walk, walk_on};
 pub use wish_ways::{
     Give, NONE, Network, Take, Way, float_of, free_price, pump_price, rounded, source_price,
 };

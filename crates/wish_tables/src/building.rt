@@ -8,10 +8,9 @@ use game_types::{Game, Setup};
 use plan_base::{GoodId, NoMemory};
 use production_table::{LIMIT, Table, TableFault};
 use std::alloc::Global;
-use wish_estimates::source_price;
+use wish_estimates::{Found, Ground, Walk, source_price};
 use wish_lines::push_label;
 use wish_setups::{WishFault, is_fitting, is_good_marked, price_in};
-use wish_walk::{Found, Ground, Walk};
 
 /// What goes out or comes in beside what the rows call for, and how many watts are wanted beside the wish.
 #[derive(Drop)]

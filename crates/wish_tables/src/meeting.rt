@@ -13,9 +13,8 @@ use plan_base::{GoodId, Items, NoMemory};
 use production_table::{LIMIT, Table, TableFault, TableRow};
 use std::alloc::Global;
 use wish_checks::is_met;
-use wish_estimates::{Estimates, why_unmade};
+use wish_estimates::{Estimates, Ground, Walk, walk_further, walk_on, why_unmade};
 use wish_setups::{Met, State, Wish, WishFault, column_in, mined_goods, price_in, reached_fuels};
-use wish_walk::{Ground, Walk, walk_further, walk_on};
 
 // How the tables of a size ended.
 #[derive(Drop)]

@@ -2,7 +2,7 @@
 use game_types::Activity;
 use plan_base::NoMemory;
 use std::alloc::Global;
-use wish_walk::Walk;
+use wish_estimates::Walk;
 
 /// How many orders there are.
 pub const ORDERS: usize = 8;

@@ -13,8 +13,8 @@ use plan_base::{GoodId, Items, NoMemory};
 use production_table::Table;
 use std::alloc::Global;
 use wish_checks::{Solved, solve_table};
+use wish_estimates::{Ground, Walk};
 use wish_setups::{Met, WishFault, is_good_marked, price_in};
-use wish_walk::{Ground, Walk};
 
 /// The most times that a table gets more that comes in or goes out, or a larger reserve of power.
 const MENDS: u32 = 24;

@@ -1,5 +1,5 @@
 use Rattle.std.proofs.Common.{◌≡◌}
-use Rattle.kept_worlds.specs.Worlds.{is_reached}
+use Rattle.planning_state.specs.Worlds.{is_reached}
 use Rattle.carried_lines.specs.Marks.{MarksOnly}
 use Rattle.carried_lines.proofs.reached.mark_kinds.Given as goal
 

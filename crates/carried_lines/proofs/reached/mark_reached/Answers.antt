@@ -1,5 +1,5 @@
 use Rattle.std.proofs.Common.{subst}
-use Rattle.kept_worlds.specs.Worlds.{is_reached}
+use Rattle.planning_state.specs.Worlds.{is_reached}
 use Rattle.carried_lines.proofs.MarkLemmas.{list_lists, list_stays}
 use Rattle.carried_lines.proofs.reached.mark_reached.Goals as goal
 

@@ -1,6 +1,6 @@
 use Rattle.std.proofs.Common.{◌≡◌, ◌+◌, ◌∷◌, ◌∙◌, Bool, ap, arith, map, refl, subst, sym}
-use Rattle.script_lines.specs.Lines.{lines_of, without_return}
-use Rattle.script_lines.proofs.LinesLemmas.{no_lines}
+use Rattle.script_runner.specs.Lines.{lines_of, without_return}
+use Rattle.script_runner.proofs.LinesLemmas.{no_lines}
 use Rattle.carried_lines.specs.Leading.{AnswersSo}
 use Rattle.carried_lines.specs.declared.stepping.Progress.{Progress}
 use Rattle.carried_lines.proofs.LeadingLemmas.{so_far_continues, so_far_counted, so_far_first, so_far_next, so_far_room}

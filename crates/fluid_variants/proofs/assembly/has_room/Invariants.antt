@@ -1,5 +1,5 @@
 use Rattle.std.proofs.Common.{◌≡◌, ◌+◌}
-use Rattle.fluid_temperatures.specs.Contents.{contents}
+use Rattle.fluid_variants.specs.Contents.{contents}
 use Rattle.fluid_variants.specs.Records.{record_place}
 use Rattle.fluid_variants.proofs.assembly.has_room.Given as goal
 

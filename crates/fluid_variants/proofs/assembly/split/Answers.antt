@@ -1,8 +1,8 @@
 use Rattle.std.proofs.Common.{◌∙◌, ap, length, subst, sym}
 use Rattle.std.specs.Prelude.{All}
-use Rattle.fluid_temperatures.specs.Temperatures.{IsRising}
-use Rattle.fluid_temperatures.proofs.Rising.{all_rise}
-use Rattle.fluid_temperatures.specs.Contents.{contents}
+use Rattle.fluid_variants.specs.Temperatures.{IsRising}
+use Rattle.fluid_variants.proofs.Rising.{all_rise}
+use Rattle.fluid_variants.specs.Contents.{contents}
 use Rattle.fluid_variants.specs.Places.{Listed}
 use Rattle.fluid_variants.specs.Records.{all_records}
 use Rattle.fluid_variants.proofs.AssemblyLemmas.{as_many_lists, places_room, split_is}

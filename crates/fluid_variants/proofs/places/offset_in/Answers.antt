@@ -1,7 +1,7 @@
 use Rattle.std.proofs.Common.{◌<◌, length, subst, sym, arith}
 use Rattle.std.proofs.lemmas.Bool.Decides.{nat_tests}
-use Rattle.fluid_temperatures.specs.Temperatures.{IsRising}
-use Rattle.fluid_temperatures.proofs.Contents.{list_rises}
+use Rattle.fluid_variants.specs.Temperatures.{IsRising}
+use Rattle.fluid_variants.proofs.Contents.{list_rises}
 use Rattle.fluid_variants.proofs.places.offset_in.Goals as goal
 
 pub variant_offset-requires : goal.variant_offset-requires

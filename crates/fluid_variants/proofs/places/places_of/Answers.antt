@@ -1,5 +1,5 @@
 use Rattle.std.proofs.Common.{◌∙◌, ◌+◌, ℕ, List, ap, subst, sym, arith}
-use Rattle.fluid_temperatures.specs.Contents.{contents}
+use Rattle.fluid_variants.specs.Contents.{contents}
 use Rattle.fluid_variants.specs.Records.{record_count}
 use Rattle.fluid_variants.proofs.PlaceLemmas.{PlacesSoFar, places_few, places_more}
 use Rattle.fluid_variants.proofs.places.places_of.Goals as goal

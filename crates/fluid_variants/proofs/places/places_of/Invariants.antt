@@ -1,4 +1,4 @@
-use Rattle.fluid_temperatures.specs.Contents.{contents}
+use Rattle.fluid_variants.specs.Contents.{contents}
 use Rattle.fluid_variants.proofs.PlaceLemmas.{PlacesSoFar}
 use Rattle.fluid_variants.proofs.places.places_of.Given as goal
 

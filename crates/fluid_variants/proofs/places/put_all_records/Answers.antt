@@ -1,5 +1,5 @@
 use Rattle.std.proofs.Common.{◌∙◌, ◌++◌, ◌+◌, ap, sym, drop, get_or}
-use Rattle.fluid_temperatures.specs.Contents.{contents}
+use Rattle.fluid_variants.specs.Contents.{contents}
 use Rattle.fluid_variants.specs.Records.{all_records, record_place, records}
 use Rattle.fluid_variants.proofs.PlaceLemmas.{records_next}
 use Rattle.fluid_variants.proofs.places.put_all_records.Goals as goal

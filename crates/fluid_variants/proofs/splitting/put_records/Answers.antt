@@ -1,6 +1,6 @@
 use Rattle.std.proofs.Common.{◌≡◌, ◌∙◌, true, false, Err, ap, length, sym, arith}
 use Rattle.std.proofs.lemmas.Grind.{common_steps}
-use Rattle.fluid_temperatures.specs.Contents.{contents}
+use Rattle.fluid_variants.specs.Contents.{contents}
 use Rattle.fluid_variants.specs.Records.{all_names}
 use Rattle.fluid_variants.proofs.SplittingLemmas.{as_many, too_many}
 use Rattle.fluid_variants.proofs.splitting.put_records.Goals as goal

@@ -1,5 +1,5 @@
 use Rattle.std.proofs.Common.{◌≡◌, ◌∙◌, Err, None, Some, ap, length, sym}
-use Rattle.fluid_temperatures.specs.Contents.{contents}
+use Rattle.fluid_variants.specs.Contents.{contents}
 use Rattle.fluid_variants.specs.Naming.{lowest_place}
 use Rattle.fluid_variants.specs.Records.{all_variant_names}
 use Rattle.fluid_variants.proofs.SplittingLemmas.{as_many, none_named, one_named, one_within}

@@ -1,5 +1,5 @@
-use Rattle.record_links.specs.Links.{linked_item}
-use Rattle.record_links.proofs.Loops.{LinkedSoFar}
+use Rattle.game_reader.specs.Links.{linked_item}
+use Rattle.game_reader.proofs.Loops.{LinkedSoFar}
 use Rattle.std.specs.Vec.Iter.{into_iter_items, into_iter_len}
 use Rattle.game_reader.proofs.links.link_items.Given as goal
 

@@ -1,8 +1,8 @@
 use Rattle.std.proofs.Common.{◌∙◌}
 use Rattle.std.specs.Vec.Iter.{into_iter_items, into_iter_len}
 use Rattle.machine_reader.specs.declared.sections.Section.TheVariants as section
-use Rattle.record_links.specs.Links.{linked_recipe}
-use Rattle.record_links.proofs.Loops.{linked_first, linked_more, linked_fails}
+use Rattle.game_reader.specs.Links.{linked_recipe}
+use Rattle.game_reader.proofs.Loops.{linked_first, linked_more, linked_fails}
 use Rattle.game_reader.proofs.links.link_recipes.Goals as goal
 
 pub loop-recipe-init : goal.loop-recipe-init

@@ -1,7 +1,7 @@
 use Rattle.std.proofs.Common.{◌∙◌}
 use Rattle.std.specs.Vec.Iter.{into_iter_items, into_iter_len}
-use Rattle.record_links.specs.Links.{linked_source}
-use Rattle.record_links.proofs.Loops.{linked_first, linked_more, linked_fails}
+use Rattle.game_reader.specs.Links.{linked_source}
+use Rattle.game_reader.proofs.Loops.{linked_first, linked_more, linked_fails}
 use Rattle.game_reader.proofs.links.link_sources.Goals as goal
 
 pub loop-source-init : goal.loop-source-init

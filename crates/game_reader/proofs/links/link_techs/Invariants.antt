@@ -1,5 +1,5 @@
-use Rattle.record_links.specs.Links.{linked_tech}
-use Rattle.record_links.proofs.Loops.{LinkedSoFar}
+use Rattle.game_reader.specs.Links.{linked_tech}
+use Rattle.game_reader.proofs.Loops.{LinkedSoFar}
 use Rattle.machine_reader.specs.declared.sections.Section.TheVariants as section
 use Rattle.std.specs.Vec.Iter.{into_iter_items, into_iter_len}
 use Rattle.game_reader.proofs.links.link_techs.Given as goal

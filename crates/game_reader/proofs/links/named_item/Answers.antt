@@ -1,4 +1,4 @@
-use Rattle.record_links.specs.Links.{linked_item}
+use Rattle.game_reader.specs.Links.{linked_item}
 use Rattle.game_reader.proofs.links.named_item.Goals as goal
 
 pub returns : goal.returns

@@ -1,4 +1,4 @@
-use Rattle.record_links.specs.Links.{linked_recipe}
+use Rattle.game_reader.specs.Links.{linked_recipe}
 use Rattle.game_reader.proofs.links.named_recipe.Goals as goal
 
 pub returns : goal.returns

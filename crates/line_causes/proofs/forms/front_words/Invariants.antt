@@ -1,5 +1,5 @@
 use Rattle.std.proofs.Common.{◌∷◌, string_bytes}
-use Rattle.node_report.proofs.Texts.{TextSoFar}
+use Rattle.plan_report.proofs.Texts.{TextSoFar}
 use Rattle.line_causes.specs.Forms.{slot_name}
 use Rattle.line_causes.proofs.forms.front_words.Given as goal
 

@@ -1,5 +1,6 @@
 use Rattle.std.proofs.Common.{◌≡◌, ◌∙◌, ◌<◌, ◌*◌, ◌/◌, ℕ, sym, subst, arith, unsigned_abs}
 use Rattle.std.proofs.Math.Nat.{dvd_refl, one-dvd}
+use Rattle.std.proofs.lemmas.Nat.Gcd.{dvd_of_mod-eq-zero}
 use Rattle.std.specs.Int.{◌∣◌}
 use Rattle.number_rows.proofs.Lists.{common_is}
 use Rattle.number_rows.proofs.Over.{own_is, wrap128}
@@ -25,4 +26,14 @@ returns-then-own-eq1 c =
       c.requires.small,
       dvd_refl c.args.bottom,
       subst (λ (k : ℕ). k ∣ c.args.bottom) (sym c.if-own-eq1.true ∙ same) (one-dvd c.args.bottom),
+    )
+
+pub returns-then-rest-eq0 : goal.returns-then-rest-eq0
+returns-then-rest-eq0 c =
+    let own = unsigned_abs (wrap128 c.denominator-own.result) in
+    let same : own ≡ c.args.number.now.den = own_is c.denominator-own.result c.args.number.now.den c.denominator-own.ensures.value c.denominator-own.ensures.narrow in (
+      c.requires.positive,
+      c.requires.small,
+      dvd_refl c.args.bottom,
+      subst (λ (k : ℕ). k ∣ c.args.bottom) same (dvd_of_mod-eq-zero own c.if-rest-eq0.true),
     )

@@ -1,8 +1,9 @@
-use Rattle.std.proofs.Common.{◌≡◌, ◌∙◌, sym, ap, subst, arith}
+use Rattle.std.proofs.Common.{◌≡◌, ◌∙◌, ℕ, sym, ap, subst, arith, to_z}
 use Rattle.std.proofs.lemmas.Int.{to_z_pos}
-use Rattle.std.specs.Prelude.{pos}
+use Rattle.std.specs.Prelude.{pos, ℤ}
 use Rattle.std.specs.Int.{w128}
 use Rattle.fractions.specs.Fraction.{frac, whole_fraction, ◌/ʳ◌}
+use Rattle.fractions.specs.Fracs.{zero-frac}
 use Rattle.fractions.specs.Limits.{IsNarrow}
 use Rattle.fractions.proofs.Parts.{whole_back}
 use Rattle.number_rows.proofs.Slim.{narrow_frac}
@@ -25,3 +26,8 @@ unreachable-requires c =
 
 pub returns : goal.returns
 returns c = c.in-Ok.ensures.1 ∙ value (goal.at.returns c).After-div
+
+pub returns-then-top-eq0 : goal.returns-then-top-eq0
+returns-then-top-eq0 c =
+    let nothing : c.args.top ≡ pos 0 = sym (whole_back c.args.top (omega (arith, c.requires.small))) ∙ (ap (λ (k : ℕ). to_z w128 k) c.if-top-eq0.true ∙ to_z_pos w128 0 (omega arith)) in
+    c.zero.ensures ∙ (sym (zero-frac c.args.bottom c.requires.positive) ∙ ap (λ (t : ℤ). frac t c.args.bottom) (sym nothing))

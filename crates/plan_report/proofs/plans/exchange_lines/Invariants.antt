@@ -1,7 +1,7 @@
 use Rattle.std.proofs.Common.{string_bytes}
-use Rattle.node_report.specs.Layout.{further_line}
+use Rattle.plan_report.specs.Layout.{further_line}
 use Rattle.plan_report.specs.Plans.{exchange_line}
-use Rattle.node_report.proofs.Texts.{TextSoFar}
+use Rattle.plan_report.proofs.Texts.{TextSoFar}
 use Rattle.plan_report.proofs.plans.exchange_lines.Given as goal
 
 abbrev pub invariant-loop-exchange : goal.invariant-loop-exchange

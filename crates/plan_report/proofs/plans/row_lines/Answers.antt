@@ -2,7 +2,7 @@ use Rattle.std.proofs.Common.{ap, map, ◌∙◌}
 use Rattle.std.specs.List.{flat_map}
 use Rattle.std.proofs.lemmas.Iterator.{YieldsList-from_slice, YieldsList-from_zip}
 use Rattle.std.proofs.lemmas.Iterator.Consumers.{YieldsList-end}
-use Rattle.node_report.specs.Layout.{further_line}
+use Rattle.plan_report.specs.Layout.{further_line}
 use Rattle.plan_report.specs.Plans.{row_line}
 use Rattle.plan_report.proofs.plans.row_lines.Goals as goal
 

@@ -1,6 +1,6 @@
 use Rattle.std.proofs.Common.{◌≡◌, map, string_bytes}
 use Rattle.std.specs.List.{flat_map}
-use Rattle.node_report.specs.Layout.{further_line}
+use Rattle.plan_report.specs.Layout.{further_line}
 use Rattle.plan_report.specs.Plans.{row_line}
 use Rattle.plan_report.proofs.plans.row_lines.Given as goal
 

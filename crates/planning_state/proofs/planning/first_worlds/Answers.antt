@@ -2,7 +2,7 @@ use Rattle.std.proofs.Common.{subst}
 use Rattle.std.specs.Prelude.{None}
 use Rattle.reach_ranks.specs.Rounds.{World}
 use Rattle.reach_ranks.specs.Ranks.{AreRanks}
-use Rattle.kept_worlds.proofs.MilestoneLemmas.{same_world, whole-as}
+use Rattle.planning_state.proofs.MilestoneLemmas.{same_world, whole-as}
 use Rattle.planning_state.proofs.QuestionLemmas.{few-ranks, first-steps}
 use Rattle.planning_state.proofs.planning.first_worlds.Goals as goal
 

@@ -1,6 +1,6 @@
 use Rattle.std.proofs.Common.{arith, ap, sym, ◌≡◌, ◌∷◌, ◌∙◌, map}
-use Rattle.script_lines.specs.Lines.{lines_of, without_return}
-use Rattle.script_lines.proofs.LinesLemmas.{no_lines}
+use Rattle.script_runner.specs.Lines.{lines_of, without_return}
+use Rattle.script_runner.proofs.LinesLemmas.{no_lines}
 use Rattle.script_runner.proofs.TrialLemmas.{judging_cut, judging_ends, judging_next, judging_wants}
 use Rattle.script_runner.proofs.checking.check_lines.Goals as goal
 

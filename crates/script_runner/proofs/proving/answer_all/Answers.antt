@@ -1,6 +1,6 @@
 use Rattle.std.proofs.Common.{◌∷◌, ◌∙◌, ap, map, refl, sym}
-use Rattle.script_lines.specs.Lines.{lines_of, without_return}
-use Rattle.script_lines.proofs.LinesLemmas.{no_lines}
+use Rattle.script_runner.specs.Lines.{lines_of, without_return}
+use Rattle.script_runner.proofs.LinesLemmas.{no_lines}
 use Rattle.script_runner.proofs.ProvingLemmas.{proving_all, proving_first, proving_next, proving_part}
 use Rattle.script_runner.proofs.proving.answer_all.Goals as goal
 

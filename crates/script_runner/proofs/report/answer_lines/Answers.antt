@@ -1,6 +1,6 @@
 use Rattle.std.proofs.Common.{arith, ap, refl, sym, ◌≡◌, ◌∷◌, ◌∙◌, map}
-use Rattle.script_lines.specs.Lines.{lines_of, without_return}
-use Rattle.script_lines.proofs.LinesLemmas.{no_lines}
+use Rattle.script_runner.specs.Lines.{lines_of, without_return}
+use Rattle.script_runner.proofs.LinesLemmas.{no_lines}
 use Rattle.script_runner.proofs.SoFarLemmas.{ends_cut, ends_done, ends_refused, ends_wanting, so_far_next}
 use Rattle.script_runner.proofs.report.answer_lines.Goals as goal
 

@@ -1,4 +1,4 @@
-use Rattle.plan_verdicts.specs.Verdicts.{claim_at}
+use Rattle.script_runner.specs.Verdicts.{claim_at}
 use Rattle.script_runner.proofs.TrialNotes.{noted_form, noted_reply}
 use Rattle.script_runner.proofs.trial.note_of.Goals as goal
 

@@ -2,8 +2,8 @@ use Rattle.std.proofs.Common.{◌∙◌, List, ap, subst, sym, arith}
 use Rattle.std.specs.Prelude.{All, Vec}
 use Rattle.std.specs.Global.{Global}
 use Rattle.fractions.specs.Fraction.{Fraction}
-use Rattle.fluid_temperatures.specs.Temperatures.{IsRising}
-use Rattle.fluid_temperatures.specs.Contents.{contents}
+use Rattle.fluid_variants.specs.Temperatures.{IsRising}
+use Rattle.fluid_variants.specs.Contents.{contents}
 use Rattle.fluid_variants.specs.Records.{list_at, variant_offset}
 use Rattle.fluid_variants.proofs.PlaceLemmas.{made_of}
 use Rattle.fluid_variants.proofs.places.Places.made.Goals as goal

@@ -4,8 +4,8 @@ use Rattle.game_types.specs.Nodes.{shape_of}
 use Rattle.std.specs.Prelude.{insert}
 use Rattle.state_changes.specs.States.{State, AreSoundMilestones}
 use Rattle.state_changes.specs.Undoing.{FitsTaken}
-use Rattle.kept_worlds.specs.Books.{TakesBack}
-use Rattle.kept_worlds.proofs.HeldLemmas.{held-changes, takes-back}
+use Rattle.planning_state.specs.Books.{TakesBack}
+use Rattle.planning_state.proofs.HeldLemmas.{held-changes, takes-back}
 use Rattle.planning_state.proofs.EntryLemmas.{fits-put, put-sound, put-within, work-book, work-put}
 use Rattle.planning_state.proofs.planning.PlanningEditable.restore_all.Goals as goal
 

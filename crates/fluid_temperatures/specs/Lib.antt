@@ -1,2 +1,0 @@
-pub mod Temperatures
-pub mod Contents

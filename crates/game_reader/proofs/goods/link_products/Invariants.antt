@@ -1,0 +1,8 @@
+use Rattle.game_reader.specs.Links.{linked_product}
+use Rattle.game_reader.proofs.Loops.{each_onto}
+use Rattle.prototype_fields.specs.Values.{each}
+use Rattle.std.proofs.Common.{◌≡◌, drop}
+use Rattle.game_reader.proofs.goods.link_products.Given as goal
+
+abbrev pub invariant-loop-product : goal.invariant-loop-product
+invariant-loop-product l = each (linked_product l.names) l.product-items ≡ each_onto (linked_product l.names) l.linked.items (drop l.product-index l.product-items)

@@ -1,4 +1,0 @@
-pub mod Kept
-pub mod MilestoneLemmas
-pub mod SettleLemmas
-pub mod HeldLemmas

@@ -1,5 +1,0 @@
-use Rattle.launch_laws.proofs.Dumped.{dumped_launches}
-use Rattle.launch_laws.proofs.laws.dumps_have_their_launches.Goals as goal
-
-pub returns : goal.returns
-returns c = λ dump game has sound. dumped_launches dump game has sound

@@ -1,5 +1,0 @@
-use Rattle.launch_laws.proofs.Reached.{launch_reached}
-use Rattle.launch_laws.proofs.laws.launches_are_reached_by_their_parts.Goals as goal
-
-pub returns : goal.returns
-returns c = λ g barred granted extra recipe silo cargo item is plain. launch_reached g barred granted extra recipe silo cargo item is plain

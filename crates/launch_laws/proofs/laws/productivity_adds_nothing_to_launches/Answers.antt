@@ -1,5 +1,0 @@
-use Rattle.launch_laws.proofs.Catalysts.{launch_given}
-use Rattle.launch_laws.proofs.laws.productivity_adds_nothing_to_launches.Goals as goal
-
-pub returns : goal.returns
-returns c = λ one other item each. launch_given one other item.launch each

@@ -1,4 +1,0 @@
-pub mod Layout
-pub mod Nodes
-pub mod Questions
-pub mod Words

@@ -1,8 +1,0 @@
-use Rattle.record_links.specs.Links.{linked_launch}
-use Rattle.record_links.proofs.Loops.{each_onto}
-use Rattle.prototype_fields.specs.Values.{each}
-use Rattle.std.proofs.Common.{◌≡◌, drop}
-use Rattle.record_links.proofs.goods.link_launches.Given as goal
-
-abbrev pub invariant-loop-product : goal.invariant-loop-product
-invariant-loop-product l = each (linked_launch l.names) l.product-items ≡ each_onto (linked_launch l.names) l.linked.items (drop l.product-index l.product-items)
