@@ -5,7 +5,7 @@ ghost use Rattle.page_rows.specs.Things.{activity_thing, good_thing, marked_text
 
 use game_types::{Activity, Game};
 use name_table::Names;
-use node_report::kind_word;
+use plan_report::kind_word;
 use page_parts::escaped;
 use plan_base::{GoodId, Kind, NoMemory};
 use std::alloc::Global;

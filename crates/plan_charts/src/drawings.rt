@@ -3,7 +3,7 @@ use crate::amounts::amount_texts;
 use crate::cards::{Card, CardKind, Chart};
 use crate::dot::push_amount;
 use crate::widths::within;
-use node_report::kind_word;
+use plan_report::kind_word;
 use page_layout::{Board, End, Joint, Lane, channel_of, number_at, placed};
 use page_parts::{Done, Flow};
 use page_texts::{Piece, put};

@@ -3,7 +3,7 @@ ghost use Rattle.game_types.specs.Sound.{IsSound};
 
 use base64::engine::general_purpose::STANDARD;
 use game_types::{BeaconGroup, Game, Setup};
-use node_report::kind_word;
+use plan_report::kind_word;
 use page_parts::Done;
 use page_rows::{Thing, activity_thing, good_thing, thing_name};
 use page_texts::{Piece, put};

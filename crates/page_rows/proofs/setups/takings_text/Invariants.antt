@@ -1,5 +1,5 @@
 use Rattle.std.proofs.Common.{string_bytes}
-use Rattle.node_report.proofs.Texts.{TextSoFar}
+use Rattle.plan_report.proofs.Texts.{TextSoFar}
 use Rattle.page_rows.specs.Setups.{taken_text}
 use Rattle.page_rows.proofs.setups.takings_text.Given as goal
 

@@ -1,5 +1,5 @@
 use Rattle.std.proofs.Common.{string_bytes}
-use Rattle.node_report.proofs.Texts.{TextSoFar}
+use Rattle.plan_report.proofs.Texts.{TextSoFar}
 use Rattle.page_texts.specs.Pieces.{piece_text}
 use Rattle.page_texts.proofs.pieces.text_of.Given as goal
 
