@@ -301,6 +301,13 @@ fn first_tops(tops: &mut Vec<u32>, heights: &[u32]) -> Done {
     Ok(())
 }
 
+// So do all lanes.
+fn first_middles(lanes: &mut [Lane]) {
+    for place in 0..lanes.len() {
+        lanes[place].middle = BASE;
+    }
+}
+
 // The joints of a channel, one below another.
 fn spread_channel(alloc: Global, joints: &mut [Joint], channel: u32) -> Done {
     let mut order: Vec<(u32, usize)> = Vec::new(alloc);
@@ -388,6 +395,7 @@ pub fn placed(
     };
     first_tops(&mut board.tops, heights)?;
     add_goods(&mut board, ends, goods)?;
+    first_middles(board.lanes.as_mut_slice());
     move_joints(alloc, &mut board, ends)?;
     place_all(alloc, &mut board, heights, ends)?;
     spread_joints(alloc, &mut board)?;
