@@ -62,7 +62,7 @@ fn belts(thing: Thing, amount: &Option<Ratio>) -> Option<Ratio> {
         return Some(Ratio::zero());
     }
     match amount {
-        Some(amount) => amount.div(&Ratio::whole(BELT)).ok(),
+        Some(amount) => amount.mul(&Ratio::part(1, BELT)).ok(),
         None => None,
     }
 }
