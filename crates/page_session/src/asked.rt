@@ -32,10 +32,16 @@ fn command<'a>(alloc: Global, program: &'a str, about: &'a str) -> Result<Comman
 ///
 /// `AllocError` where memory could not be had.
 pub fn page_command<'a>(alloc: Global) -> Result<Command<'a>, AllocError> {
-    command(
+    let command = command(
         alloc,
         "factoplan_page",
         "Writes the replies to a script as one HTML page. With --flow as the first word it writes the graph of a table.",
+    )?;
+    command.arg(
+        Arg::new(alloc, "icons")
+            .long("icons")
+            .value_name("DIR")
+            .help("pictures of things: the folder script-output behind factorio --dump-icon-sprites"),
     )
 }
 
@@ -69,6 +75,11 @@ pub fn asked_files<'a>(matches: &ArgMatches<'a>) -> Names<'a> {
 /// The table that is asked for.
 pub fn asked_table<'a>(matches: &ArgMatches<'a>) -> &'a str {
     value(matches, "TABLE")
+}
+
+/// The folder of pictures, where one is asked for.
+pub fn asked_icons<'a>(matches: &ArgMatches<'a>) -> Option<&'a str> {
+    matches.get_str("icons")
 }
 
 fn push_words(alloc: Global, words: &[Text], all: &mut Vec<Text>) -> Result<(), NoMemory> {

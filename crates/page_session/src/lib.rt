@@ -4,6 +4,7 @@
 mod asked;
 mod fault;
 mod flow;
+mod pictures;
 mod running;
 mod session;
 mod tables;

@@ -1,12 +1,16 @@
 //! The runs of the program, from its words to its end.
 
-use crate::asked::{asked_files, asked_table, flow_command, flow_words, page_command};
+use crate::asked::{
+    asked_files, asked_icons, asked_table, flow_command, flow_words, page_command,
+};
 use crate::fault::end_by_fault;
 use crate::flow::flow_of;
+use crate::pictures::add_pictures;
 use crate::session::page_of;
 use clap::ArgMatches;
 use plan_base::{NoMemory, Steps, Text};
-use planner_cli::Ready;
+use plan_pages::Page;
+use planner_cli::{Ready, Status};
 use program_runs::{End, Names, end_by, end_by_words, loaded, written};
 use std::alloc::Global;
 use std::rt::Files;
@@ -15,17 +19,50 @@ use std::rt::Files;
 #[derive(Drop)]
 struct Program;
 
+// What a page is made of besides the planner: the files of the run, and a folder of pictures.
+#[derive(Clone, Copy)]
+struct Wanted<'a> {
+    names: Names<'a>,
+    icons: Option<&'a str>,
+}
+
+// The text of a page, with the pictures of a folder where one is wanted.
+fn page_text<R: Files>(
+    rt: &R,
+    alloc: Global,
+    page: &mut Page,
+    icons: Option<&str>,
+) -> Result<String, NoMemory> {
+    if let Some(folder) = icons {
+        add_pictures(rt, alloc, folder, page)?;
+    }
+    page.text(alloc)
+}
+
+fn written_page<R: Files + Print>(
+    rt: &R,
+    alloc: Global,
+    mut page: Page,
+    refused: bool,
+    wanted: Wanted<'_>,
+) -> End {
+    match page_text(rt, alloc, &mut page, wanted.icons) {
+        Ok(text) => written(rt, alloc, text.as_bytes(), u8::from(refused), wanted.names),
+        Err(NoMemory) => end_by(rt, alloc, &Status::NoMemory, wanted.names),
+    }
+}
+
 // Writes the page of what was loaded.
 fn page_end<R: Files + Print>(
     rt: &R,
     alloc: Global,
     ready: Ready,
-    names: Names<'_>,
+    wanted: Wanted<'_>,
     steps: &mut Steps<Program>,
 ) -> End {
     match page_of(alloc, ready, steps) {
-        Ok((text, refused)) => written(rt, alloc, text.as_bytes(), u8::from(refused), names),
-        Err(fault) => end_by_fault(rt, alloc, fault, names),
+        Ok((page, refused)) => written_page(rt, alloc, page, refused, wanted),
+        Err(fault) => end_by_fault(rt, alloc, fault, wanted.names),
     }
 }
 
@@ -44,12 +81,20 @@ fn flow_end<R: Files + Print>(
     }
 }
 
-fn page_run<R: Files + Print>(rt: &R, alloc: Global, names: Names<'_>) -> End {
+fn page_run<R: Files + Print>(rt: &R, alloc: Global, wanted: Wanted<'_>) -> End {
     let mut steps = Steps::new(Program);
-    match loaded(rt, alloc, names, &mut steps) {
-        Ok(ready) => page_end(rt, alloc, ready, names, &mut steps),
-        Err(status) => end_by(rt, alloc, &status, names),
+    match loaded(rt, alloc, wanted.names, &mut steps) {
+        Ok(ready) => page_end(rt, alloc, ready, wanted, &mut steps),
+        Err(status) => end_by(rt, alloc, &status, wanted.names),
     }
+}
+
+fn page_asked<R: Files + Print>(rt: &R, alloc: Global, matches: &ArgMatches<'_>) -> End {
+    let wanted = Wanted {
+        names: asked_files(matches),
+        icons: asked_icons(matches),
+    };
+    page_run(rt, alloc, wanted)
 }
 
 fn flow_run<R: Files + Print>(rt: &R, alloc: Global, names: Names<'_>, table: &str) -> End {
@@ -68,7 +113,7 @@ fn page_program<R: Files + Print + Eprint>(
 ) -> Result<End, NoMemory> {
     let command = page_command(alloc)?;
     match command.try_get_matches_from(words) {
-        Ok(matches) => Ok(page_run(rt, alloc, asked_files(&matches))),
+        Ok(matches) => Ok(page_asked(rt, alloc, &matches)),
         Err(error) => Ok(end_by_words(rt, &error)),
     }
 }

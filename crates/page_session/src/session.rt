@@ -141,11 +141,10 @@ fn page_in<L>(
     planner: &mut Planner,
     script: &[u8],
     steps: &mut Steps<L>,
-) -> Result<(String, bool), PageFault> {
+) -> Result<(Page, bool), PageFault> {
     let mut page = Page::new(alloc);
     let refused = add_lines(alloc, planner, script, &mut page, steps)?;
-    let text = page.text(alloc)?;
-    Ok((text, refused))
+    Ok((page, refused))
 }
 
 /// The page of a script over its planner, and whether some line was refused.
@@ -157,7 +156,7 @@ pub fn page_of<L>(
     alloc: Global,
     ready: Ready,
     steps: &mut Steps<L>,
-) -> Result<(String, bool), PageFault> {
+) -> Result<(Page, bool), PageFault> {
     let Ready {
         mut planner,
         script,

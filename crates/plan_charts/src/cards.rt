@@ -4,8 +4,9 @@ ghost use Rattle.game_types.specs.Sound.{IsSound};
 use fractions::Ratio;
 use game_types::Game;
 use linear_table::{Column, Linear, LinearColumn, Plan};
-use page_parts::{Amount, Done, Flow, column_flows, good_parts, machine_name};
-use plan_base::{Kind, NoMemory, Text};
+use page_parts::{Amount, Done, Flow, column_flows, machine_name};
+use page_rows::{Thing, good_thing, thing_name};
+use plan_base::{NoMemory, Text};
 use plan_report::Figures;
 use production_table::Table;
 use std::alloc::Global;
@@ -38,6 +39,8 @@ pub enum CardKind {
 #[derive(Drop)]
 pub struct Card {
     pub kind: CardKind,
+    /// The number of its row, where it is one.
+    pub row: Option<u32>,
     pub title: Text,
     pub about: Text,
     pub flows: Vec<Flow>,
@@ -46,7 +49,7 @@ pub struct Card {
 /// A good of a chart.
 #[derive(Drop)]
 pub struct ChartGood {
-    pub kind: Kind,
+    pub thing: Thing,
     pub name: Text,
 }
 
@@ -79,20 +82,28 @@ fn push_machines(alloc: Global, text: &mut String, shown: &Shown<'_>, row: usize
     requires { IsSound shown.now.game.now }
 {
     push_machine_count(alloc, text, shown.rows.get(row))?;
-    text.push_str(" × ")?;
     text.push_str(machine_of(shown, row))?;
+    Ok(())
+}
+
+// How many there are, but of a row without machines of its own.
+fn push_count(alloc: Global, text: &mut String, count: &Ratio) -> Done {
+    if count.is_zero() {
+        return Ok(());
+    }
+    let count = count.print(alloc)?;
+    text.push_str(count.as_str())?;
+    text.push_str(" × ")?;
     Ok(())
 }
 
 fn push_machine_count(alloc: Global, text: &mut String, figures: Option<&Figures>) -> Done {
     if let Some(figures) = figures {
-        if let Some(count) = figures.count {
-            let count = count.print(alloc)?;
-            text.push_str(count.as_str())?;
-            return Ok(());
+        if let Some(count) = &figures.count {
+            return push_count(alloc, text, count);
         }
     }
-    text.push_str("wide")?;
+    text.push_str("wide × ")?;
     Ok(())
 }
 
@@ -108,6 +119,13 @@ fn kind_of(column: Column) -> CardKind {
         Column::Line(_) => CardKind::Row,
         Column::Surplus(_) => CardKind::Surplus,
         _ => CardKind::Import,
+    }
+}
+
+fn row_of(column: Column) -> Option<u32> {
+    match column {
+        Column::Line(row) => Some(row),
+        _ => None,
     }
 }
 
@@ -154,6 +172,7 @@ fn card_of(
     let flows = sorted_flows(alloc, column.parts.as_slice(), rate)?;
     Ok(Card {
         kind: kind_of(column.column),
+        row: row_of(column.column),
         title,
         about,
         flows,
@@ -177,6 +196,7 @@ fn want_card(alloc: Global, good: u32, rate: &Ratio) -> Result<Card, NoMemory> {
     let flows = want_flows(alloc, good, rate)?;
     Ok(Card {
         kind: CardKind::Want,
+        row: None,
         title,
         about,
         flows,
@@ -232,9 +252,9 @@ fn add_wants(alloc: Global, wants: &[Ratio], cards: &mut Vec<Card>) -> Done {
     Ok(())
 }
 
-fn add_good(alloc: Global, kind: Kind, name: &str, goods: &mut Vec<ChartGood>) -> Done {
+fn add_good(alloc: Global, thing: Thing, name: &str, goods: &mut Vec<ChartGood>) -> Done {
     let name = Text::copy(alloc, name)?;
-    goods.push(ChartGood { kind, name })?;
+    goods.push(ChartGood { thing, name })?;
     Ok(())
 }
 
@@ -242,8 +262,8 @@ fn add_goods(alloc: Global, shown: &Shown<'_>, goods: &mut Vec<ChartGood>) -> Do
     requires { IsSound shown.now.game.now }
 {
     for good in shown.linear.goods.as_slice() {
-        let (kind, name) = good_parts(shown.game, *good);
-        add_good(alloc, kind, name, goods)?;
+        let thing = good_thing(shown.game, *good);
+        add_good(alloc, thing, thing_name(shown.game, thing), goods)?;
     }
     Ok(())
 }

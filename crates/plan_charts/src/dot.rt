@@ -1,6 +1,9 @@
 //! A chart as a graph for Graphviz.
+use crate::amounts::size_of;
 use crate::cards::{Card, CardKind, Chart};
-use page_parts::{Done, Flow, Piece, push_text, put};
+use page_parts::{Amount, Done, Flow};
+use page_texts::{Piece, is_whole, put};
+use fractions::Ratio;
 use plan_base::NoMemory;
 use std::alloc::Global;
 
@@ -10,6 +13,30 @@ fn look(kind: CardKind) -> &'static str {
         CardKind::Import => "shape=box, style=\"rounded,dashed\"",
         CardKind::Surplus => "shape=box, style=\"rounded,dashed\"",
         CardKind::Want => "shape=box, style=\"rounded,bold\"",
+    }
+}
+
+fn push_size(alloc: Global, out: &mut String, size: &Ratio) -> Done {
+    if is_whole(size) {
+        return put(alloc, out, &[Piece::Exact(size)]);
+    }
+    put(
+        alloc,
+        out,
+        &[
+            Piece::Exact(size),
+            Piece::Text(" ("),
+            Piece::Near(size),
+            Piece::Text(")"),
+        ],
+    )
+}
+
+// An amount without its sign: the fraction, and a decimal where it isn't whole.
+pub(crate) fn push_amount(alloc: Global, out: &mut String, amount: &Amount) -> Done {
+    match amount {
+        Amount::Exact(number) => push_size(alloc, out, &size_of(number)),
+        Amount::Wide => put(alloc, out, &[Piece::Text("wide")]),
     }
 }
 
@@ -29,15 +56,9 @@ fn push_flow(alloc: Global, out: &mut String, card: usize, flow: &Flow) -> Done 
             &[Piece::Text("  g"), good, Piece::Text(" -> c"), card],
         )?;
     }
-    put(
-        alloc,
-        out,
-        &[
-            Piece::Text(" [label=\""),
-            Piece::Amount(&flow.amount),
-            Piece::Text("\"];\n"),
-        ],
-    )
+    put(alloc, out, &[Piece::Text(" [label=\"")])?;
+    push_amount(alloc, out, &flow.amount)?;
+    put(alloc, out, &[Piece::Text("\"];\n")])
 }
 
 // What stands between the title and what is behind it, where there is something.
@@ -125,7 +146,7 @@ fn push_graph(alloc: Global, out: &mut String, table: &str, chart: &Chart) -> Do
     )?;
     push_goods(alloc, out, chart)?;
     push_cards(alloc, out, chart)?;
-    push_text(out, "}\n")
+    put(alloc, out, &[Piece::Text("}\n")])
 }
 
 /// The graph of a chart: boxes for what is done, ellipses for goods, and on each edge how much flows per second.

@@ -1,104 +1,120 @@
 //! A chart as a drawing.
+use crate::amounts::amount_texts;
 use crate::cards::{Card, CardKind, Chart};
-use page_parts::layout::{Arrow, Graph, Layout, at, laid_out, last_layer};
-use page_parts::{Done, Flow, Piece, push_text, put};
-use plan_base::{Kind, NoMemory};
+use crate::dot::push_amount;
+use crate::widths::within;
 use plan_report::kind_word;
+use page_layout::{Board, End, Joint, Lane, channel_of, number_at, placed};
+use page_parts::{Done, Flow};
+use page_texts::{Piece, put};
+use plan_base::{Kind, NoMemory};
 use std::alloc::Global;
 
 // Sizes, in points of the drawing.
-const CARD: u32 = 200;
+const CARD: u32 = 236;
 
-const SIDE: u32 = 30;
+const CHANNEL: u32 = 84;
 
-const HEAD: u32 = 38;
+const HEAD: u32 = 40;
 
-const LINE: u32 = 15;
+const LINE: u32 = 17;
 
-const EDGE: u32 = 12;
+const EDGE: u32 = 14;
 
-fn height_of(card: &Card) -> u32 {
-    let lines = card.flows.len().min(2_000) as u32;
-    let head = if card.about.as_str().is_empty() {
+const PICTURE: u32 = 18;
+
+const INSIDE: u32 = CARD - 20;
+
+// A point of the drawing.
+type Point = (u32, u32);
+
+fn head_of(card: &Card) -> u32 {
+    if card.about.as_str().is_empty() {
         HEAD - LINE
     } else {
         HEAD
-    };
-    head + LINE * lines + 4
-}
-
-// The arrow of a flow of a card.
-fn arrow_of(node: usize, joint: usize, gives: bool) -> Arrow {
-    if gives {
-        Arrow {
-            from: node,
-            to: joint,
-        }
-    } else {
-        Arrow {
-            from: joint,
-            to: node,
-        }
     }
 }
 
-fn add_arrows(arrows: &mut Vec<Arrow>, first_joint: usize, node: usize, flows: &[Flow]) -> Done {
-    for flow in flows {
-        let joint = first_joint.saturating_add(flow.good as usize);
-        arrows.push(arrow_of(node, joint, flow.gives))?;
-    }
-    Ok(())
+fn height_of(card: &Card) -> u32 {
+    let lines = card.flows.len().min(2_000) as u32;
+    head_of(card)
+        .saturating_add(LINE * lines)
+        .saturating_add(8)
 }
 
-fn add_nodes(graph: &mut Graph, chart: &Chart) -> Done {
-    for (node, card) in chart.cards.as_slice().iter().enumerate() {
-        graph.heights.push(height_of(card))?;
-        add_arrows(
-            &mut graph.arrows,
-            graph.first_joint,
-            node,
-            card.flows.as_slice(),
-        )?;
-    }
-    for _ in chart.goods.as_slice() {
-        graph.heights.push(0)?;
+// How far below the top of a card the middle of a line of it is.
+fn line_middle(card: &Card, line: usize) -> u32 {
+    let line = line.min(2_000) as u32;
+    head_of(card)
+        .saturating_add(line.saturating_mul(LINE))
+        .saturating_add(LINE / 2)
+}
+
+fn add_ends(ends: &mut Vec<End>, place: usize, card: &Card) -> Done {
+    for (line, flow) in card.flows.as_slice().iter().enumerate() {
+        ends.push(End {
+            card: place,
+            good: flow.good as usize,
+            gives: flow.gives,
+            below: line_middle(card, line),
+        })?;
     }
     Ok(())
 }
 
-// The graph of a chart: its cards, and behind them a joint for each good.
-fn graph_of(alloc: Global, chart: &Chart) -> Result<Graph, NoMemory> {
-    let mut graph = Graph {
-        heights: Vec::new(alloc),
-        first_joint: chart.cards.len(),
-        arrows: Vec::new(alloc),
-    };
-    add_nodes(&mut graph, chart)?;
-    Ok(graph)
+fn ends_of(alloc: Global, cards: &[Card]) -> Result<Vec<End>, NoMemory> {
+    let mut ends = Vec::new(alloc);
+    for (place, card) in cards.iter().enumerate() {
+        add_ends(&mut ends, place, card)?;
+    }
+    Ok(ends)
 }
 
-// How far a card stands from the left, and a joint.
-fn card_left(layer: u32) -> u32 {
-    (layer / 2)
-        .saturating_mul(CARD + 2 * SIDE)
-        .saturating_add(EDGE)
+fn heights_of(alloc: Global, cards: &[Card]) -> Result<Vec<u32>, NoMemory> {
+    let mut heights = Vec::new(alloc);
+    for card in cards {
+        heights.push(height_of(card))?;
+    }
+    Ok(heights)
 }
 
-fn joint_left(layer: u32) -> u32 {
-    card_left(layer).saturating_add(CARD + SIDE)
+// The left side of a column, and the middle of a channel.
+fn left_of(column: u32) -> u32 {
+    column
+        .saturating_mul(CARD + CHANNEL)
+        .saturating_add(CHANNEL / 2 + EDGE)
 }
 
-fn good_kind(chart: &Chart, good: u32) -> &'static str {
-    match chart.goods.as_slice().get(good as usize) {
-        Some(good) => kind_word(good.kind),
-        None => kind_word(Kind::Tech),
+fn middle_of(channel: u32) -> u32 {
+    left_of(channel).saturating_sub(CHANNEL / 2)
+}
+
+fn joint_point(board: &Board, good: usize, channel: u32) -> Point {
+    (
+        middle_of(channel),
+        board.joint_middle(good, channel).saturating_add(EDGE),
+    )
+}
+
+fn kind_of(chart: &Chart, good: usize) -> Kind {
+    match chart.goods.as_slice().get(good) {
+        Some(good) => good.thing.kind,
+        None => Kind::Tech,
     }
 }
 
-fn good_name<'a>(chart: &'a Chart, good: u32) -> &'a str {
-    match chart.goods.as_slice().get(good as usize) {
+fn name_of<'a>(chart: &'a Chart, good: usize) -> &'a str {
+    match chart.goods.as_slice().get(good) {
         Some(good) => good.name.as_str(),
         None => "",
+    }
+}
+
+fn index_of(chart: &Chart, good: usize) -> u32 {
+    match chart.goods.as_slice().get(good) {
+        Some(good) => good.thing.index,
+        None => 0,
     }
 }
 
@@ -111,226 +127,335 @@ fn card_word(kind: CardKind) -> &'static str {
     }
 }
 
-// How far a curve from a point to another bends.
-fn bend(from: u32, to: u32) -> u32 {
-    if from < to { (to - from) / 2 } else { 2 * SIDE }
+fn push_plain(alloc: Global, out: &mut String, text: &str) -> Done {
+    put(alloc, out, &[Piece::Text(text)])
 }
 
-// A curve from a point to another, with the name of the good.
-fn push_curve<'a>(
-    alloc: Global,
-    out: &mut String,
-    chart: &'a Chart,
-    flow: &'a Flow,
-    from: (u32, u32),
-    to: (u32, u32),
-) -> Done {
-    let width = bend(from.0, to.0);
+// A point, behind a letter that says how it is reached.
+fn push_point(alloc: Global, out: &mut String, letter: &str, point: Point) -> Done {
     put(
         alloc,
         out,
         &[
-            Piece::Text("<path class=\""),
-            Piece::Text(good_kind(chart, flow.good)),
-            Piece::Text("\" d=\"M"),
-            Piece::Count(from.0 as u64),
+            Piece::Text(letter),
+            Piece::Count(point.0 as u64),
             Piece::Text(" "),
-            Piece::Count(from.1 as u64),
-            Piece::Text("C"),
-            Piece::Count(from.0.saturating_add(width) as u64),
-            Piece::Text(" "),
-            Piece::Count(from.1 as u64),
-            Piece::Text(" "),
-            Piece::Count(to.0.saturating_sub(width) as u64),
-            Piece::Text(" "),
-            Piece::Count(to.1 as u64),
-            Piece::Text(" "),
-            Piece::Count(to.0 as u64),
-            Piece::Text(" "),
-            Piece::Count(to.1 as u64),
-            Piece::Text("\"><title>"),
-            Piece::Name(good_name(chart, flow.good)),
-            Piece::Text(": "),
-            Piece::Amount(&flow.amount),
-            Piece::Text(" per second</title></path>\n"),
+            Piece::Count(point.1 as u64),
         ],
     )
 }
 
-// How far the middle of a card's line stands from the top of the card.
-fn line_middle(card: &Card, line: u32) -> u32 {
-    let head = if card.about.as_str().is_empty() {
-        HEAD - LINE
-    } else {
-        HEAD
-    };
-    head.saturating_add(line.saturating_mul(LINE))
-        .saturating_add(LINE / 2)
+// A curve from a point to another on its right, level at both.
+fn push_curve(alloc: Global, out: &mut String, from: Point, to: Point) -> Done {
+    let bend = to.0.saturating_sub(from.0) / 2;
+    push_point(alloc, out, "C", (from.0.saturating_add(bend), from.1))?;
+    push_point(alloc, out, " ", (to.0.saturating_sub(bend), to.1))?;
+    push_point(alloc, out, " ", to)
 }
 
-// The joint of a good.
-fn joint_at(chart: &Chart, layout: &Layout, good: usize) -> (u32, u32) {
-    let joint = chart.cards.len().saturating_add(good);
-    (
-        joint_left(at(layout.layers.as_slice(), joint)),
-        at(layout.tops.as_slice(), joint).saturating_add(EDGE),
-    )
-}
+// ---- the lines of a good
 
-// The left upper corner of a card.
-fn corner(layout: &Layout, node: usize) -> (u32, u32) {
-    (
-        card_left(at(layout.layers.as_slice(), node)),
-        at(layout.tops.as_slice(), node).saturating_add(EDGE),
-    )
-}
-
-// Where a curve of a card meets it.
-fn side(layout: &Layout, node: usize, middle: u32, gives: bool) -> (u32, u32) {
-    let (left, top) = corner(layout, node);
-    let width = if gives { CARD } else { 0 };
-    (left.saturating_add(width), top.saturating_add(middle))
-}
-
-fn push_flow_curve(
-    alloc: Global,
-    out: &mut String,
-    chart: &Chart,
-    layout: &Layout,
-    node: usize,
-    middle: u32,
-    flow: &Flow,
-) -> Done {
-    let joint = joint_at(chart, layout, flow.good as usize);
-    let card = side(layout, node, middle, flow.gives);
+// The end of a line at a card, and at its joint, from left to right.
+fn end_points(board: &Board, card: usize, below: u32, flow: &Flow) -> (Point, Point) {
+    let column = number_at(board.columns.as_slice(), card);
+    let joint = joint_point(
+        board,
+        flow.good as usize,
+        channel_of(column, flow.gives),
+    );
+    let top = number_at(board.tops.as_slice(), card).saturating_add(EDGE);
+    let left = left_of(column);
+    let middle = top.saturating_add(below);
     if flow.gives {
-        push_curve(alloc, out, chart, flow, card, joint)
+        ((left.saturating_add(CARD), middle), joint)
     } else {
-        push_curve(alloc, out, chart, flow, joint, card)
+        (joint, (left, middle))
     }
 }
 
-// The number of a line of a card, at most 2,000.
-fn line_number(line: usize) -> u32 {
-    line.min(2_000) as u32
-}
-
-fn push_card_curves(
+fn push_end(
     alloc: Global,
     out: &mut String,
     chart: &Chart,
-    layout: &Layout,
-    node: usize,
+    board: &Board,
+    card: usize,
+    below: u32,
+    flow: &Flow,
+) -> Done {
+    let (from, to) = end_points(board, card, below, flow);
+    push_plain(alloc, out, "<path d=\"")?;
+    push_point(alloc, out, "M", from)?;
+    push_curve(alloc, out, from, to)?;
+    put(
+        alloc,
+        out,
+        &[
+            Piece::Text("\"><title>"),
+            Piece::Name(name_of(chart, flow.good as usize)),
+            Piece::Text(": "),
+        ],
+    )?;
+    push_amount(alloc, out, &flow.amount)?;
+    push_plain(alloc, out, " per second</title></path>\n")
+}
+
+fn push_card_ends(
+    alloc: Global,
+    out: &mut String,
+    chart: &Chart,
+    board: &Board,
+    good: usize,
+    place: usize,
     card: &Card,
 ) -> Done {
     for (line, flow) in card.flows.as_slice().iter().enumerate() {
-        let middle = line_middle(card, line_number(line));
-        push_flow_curve(alloc, out, chart, layout, node, middle, flow)?;
+        if flow.good as usize == good {
+            let below = line_middle(card, line);
+            push_end(alloc, out, chart, board, place, below, flow)?;
+        }
     }
     Ok(())
 }
 
-fn push_curves(alloc: Global, out: &mut String, chart: &Chart, layout: &Layout) -> Done {
-    for (node, card) in chart.cards.as_slice().iter().enumerate() {
-        push_card_curves(alloc, out, chart, layout, node, card)?;
-    }
-    Ok(())
-}
-
-const RIGHT: u64 = (CARD - 8) as u64;
-
-// A good that comes out stands on the right, and how much on the left.
-fn push_given_line<'a>(
+fn push_ends(
     alloc: Global,
     out: &mut String,
-    chart: &'a Chart,
-    base: u32,
-    flow: &'a Flow,
+    chart: &Chart,
+    board: &Board,
+    good: usize,
 ) -> Done {
+    for (place, card) in chart.cards.as_slice().iter().enumerate() {
+        push_card_ends(alloc, out, chart, board, good, place, card)?;
+    }
+    Ok(())
+}
+
+// A lane with the curves to the joints on both of its sides.
+fn push_lane(alloc: Global, out: &mut String, board: &Board, lane: &Lane) -> Done {
+    let left = left_of(lane.column);
+    let middle = lane.middle.saturating_add(EDGE);
+    let from = joint_point(board, lane.good, lane.column);
+    let to = joint_point(board, lane.good, lane.column.saturating_add(1));
+    push_plain(alloc, out, "<path d=\"")?;
+    push_point(alloc, out, "M", from)?;
+    push_curve(alloc, out, from, (left, middle))?;
+    push_point(alloc, out, "L", (left.saturating_add(CARD), middle))?;
+    push_curve(alloc, out, (left.saturating_add(CARD), middle), to)?;
+    push_plain(alloc, out, "\"/>\n")
+}
+
+fn push_lanes(alloc: Global, out: &mut String, board: &Board, good: usize) -> Done {
+    for lane in board.lanes.as_slice() {
+        if lane.good == good {
+            push_lane(alloc, out, board, lane)?;
+        }
+    }
+    Ok(())
+}
+
+fn push_joint(alloc: Global, out: &mut String, joint: &Joint) -> Done {
     put(
         alloc,
         out,
         &[
-            Piece::Text("<text class=\""),
-            Piece::Text(good_kind(chart, flow.good)),
-            Piece::Text("\" x=\""),
-            Piece::Count(RIGHT),
-            Piece::Text("\" y=\""),
-            Piece::Count(base as u64),
-            Piece::Text("\" text-anchor=\"end\">"),
-            Piece::Short(good_name(chart, flow.good), 21),
-            Piece::Text(" →</text><text x=\"8\" y=\""),
-            Piece::Count(base as u64),
-            Piece::Text("\">"),
-            Piece::Rough(&flow.amount),
-            Piece::Text("</text>\n"),
+            Piece::Text("<circle cx=\""),
+            Piece::Count(middle_of(joint.channel) as u64),
+            Piece::Text("\" cy=\""),
+            Piece::Count(joint.middle.saturating_add(EDGE) as u64),
+            Piece::Text("\" r=\"2.5\"/>\n"),
         ],
     )
 }
 
-// A good that goes in stands on the left, and how much on the right.
-fn push_taken_line<'a>(
+// A point where more than two lines come together.
+fn push_joints(alloc: Global, out: &mut String, board: &Board, good: usize) -> Done {
+    for joint in board.joints.as_slice() {
+        if joint.good == good && joint.lines > 2 {
+            push_joint(alloc, out, joint)?;
+        }
+    }
+    Ok(())
+}
+
+fn push_good_lines(
     alloc: Global,
     out: &mut String,
-    chart: &'a Chart,
+    chart: &Chart,
+    board: &Board,
+    good: usize,
+) -> Done {
+    put(
+        alloc,
+        out,
+        &[
+            Piece::Text("<g class=\"line "),
+            Piece::Text(kind_word(kind_of(chart, good))),
+            Piece::Text("\"><title>"),
+            Piece::Name(name_of(chart, good)),
+            Piece::Text("</title>\n"),
+        ],
+    )?;
+    push_ends(alloc, out, chart, board, good)?;
+    push_lanes(alloc, out, board, good)?;
+    push_joints(alloc, out, board, good)?;
+    push_plain(alloc, out, "</g>\n")
+}
+
+fn push_lines(alloc: Global, out: &mut String, chart: &Chart, board: &Board) -> Done {
+    for good in 0..chart.goods.len() {
+        push_good_lines(alloc, out, chart, board, good)?;
+    }
+    Ok(())
+}
+
+// ---- cards
+
+// A text of a card at a place, which ends there or begins there.
+fn push_text_head<'a>(
+    alloc: Global,
+    out: &mut String,
+    kind: &'a str,
+    mark: &'a str,
+    x: u32,
     base: u32,
-    flow: &'a Flow,
 ) -> Done {
     put(
         alloc,
         out,
         &[
             Piece::Text("<text class=\""),
-            Piece::Text(good_kind(chart, flow.good)),
-            Piece::Text("\" x=\"8\" y=\""),
-            Piece::Count(base as u64),
-            Piece::Text("\">→ "),
-            Piece::Short(good_name(chart, flow.good), 21),
-            Piece::Text("</text><text x=\""),
-            Piece::Count(RIGHT),
+            Piece::Text(kind),
+            Piece::Text(mark),
+            Piece::Text("\" x=\""),
+            Piece::Count(x as u64),
             Piece::Text("\" y=\""),
             Piece::Count(base as u64),
-            Piece::Text("\" text-anchor=\"end\">"),
-            Piece::Rough(&flow.amount),
-            Piece::Text("</text>\n"),
+            Piece::Text("\">"),
         ],
+    )
+}
+
+// The place of the picture of a good.
+fn push_icon(
+    alloc: Global,
+    out: &mut String,
+    kind: &str,
+    index: u32,
+    left: u32,
+    base: u32,
+) -> Done {
+    put(
+        alloc,
+        out,
+        &[
+            Piece::Text("<use class=\"i\" href=\"#"),
+            Piece::Text(kind),
+            Piece::Text("-"),
+            Piece::Count(index as u64),
+            Piece::Text("\" x=\""),
+            Piece::Count(left as u64),
+            Piece::Text("\" y=\""),
+            Piece::Count(base.saturating_sub(12) as u64),
+            Piece::Text("\" width=\"15\" height=\"15\"/>"),
+        ],
+    )
+}
+
+// The end of a text: a name, or so much of it as there is room for.
+fn push_name(alloc: Global, out: &mut String, name: &str, most: u32) -> Done {
+    let name = within(alloc, name, most)?;
+    put(
+        alloc,
+        out,
+        &[Piece::Name(name.as_str()), Piece::Text("</text>\n")],
     )
 }
 
 // A line of a card: a good on the side where it flows, and how much on the other.
-fn push_card_line<'a>(
-    alloc: Global,
-    out: &mut String,
-    chart: &'a Chart,
-    base: u32,
-    flow: &'a Flow,
-) -> Done {
+fn push_card_line(alloc: Global, out: &mut String, chart: &Chart, base: u32, flow: &Flow) -> Done {
+    let good = flow.good as usize;
+    let kind = kind_of(chart, good);
+    let word = kind_word(kind);
+    let amount = amount_texts(alloc, kind == Kind::Special, &flow.amount)?;
+    let most = (10 * (INSIDE - PICTURE - 14)).saturating_sub(amount.width);
+    let name = name_of(chart, good);
+    let index = index_of(chart, good);
     if flow.gives {
-        push_given_line(alloc, out, chart, base, flow)
+        push_icon(alloc, out, word, index, CARD - 25, base)?;
+        push_text_head(alloc, out, word, " right", CARD - 10, base)?;
+        push_name(alloc, out, name, most)?;
+        push_text_head(alloc, out, "amount", "", 10, base)?;
     } else {
-        push_taken_line(alloc, out, chart, base, flow)
+        push_icon(alloc, out, word, index, 10, base)?;
+        push_text_head(alloc, out, word, " left", 10, base)?;
+        push_name(alloc, out, name, most)?;
+        push_text_head(alloc, out, "amount", " end", CARD - 10, base)?;
     }
+    put(
+        alloc,
+        out,
+        &[
+            Piece::Text(amount.text.as_str()),
+            Piece::Text("</text>\n"),
+        ],
+    )
 }
 
 fn push_card_lines(alloc: Global, out: &mut String, chart: &Chart, card: &Card) -> Done {
     for (line, flow) in card.flows.as_slice().iter().enumerate() {
-        let base = line_middle(card, line_number(line)).saturating_add(4);
+        let base = line_middle(card, line).saturating_add(4);
         push_card_line(alloc, out, chart, base, flow)?;
     }
     Ok(())
 }
 
-fn push_card_head(alloc: Global, out: &mut String, card: &Card, left: u32, top: u32) -> Done {
+// A card that is a row leads to its row, others lead nowhere.
+fn push_open(alloc: Global, out: &mut String, line: u32, card: &Card) -> Done {
+    match card.row {
+        Some(row) => put(
+            alloc,
+            out,
+            &[
+                Piece::Text("<a class=\"card row\" id=\"c"),
+                Piece::Count(line as u64),
+                Piece::Text("-"),
+                Piece::Count(row as u64),
+                Piece::Text("\" href=\"#r"),
+                Piece::Count(line as u64),
+                Piece::Text("-"),
+                Piece::Count(row as u64),
+                Piece::Text("\""),
+            ],
+        ),
+        None => put(
+            alloc,
+            out,
+            &[
+                Piece::Text("<g class=\"card "),
+                Piece::Text(card_word(card.kind)),
+                Piece::Text("\""),
+            ],
+        ),
+    }
+}
+
+fn push_close(alloc: Global, out: &mut String, card: &Card) -> Done {
+    let end = match card.row {
+        Some(_) => "</a>\n",
+        None => "</g>\n",
+    };
+    push_plain(alloc, out, end)
+}
+
+fn push_card_head(alloc: Global, out: &mut String, card: &Card, corner: Point) -> Done {
     put(
         alloc,
         out,
         &[
-            Piece::Text("<g class=\""),
-            Piece::Text(card_word(card.kind)),
-            Piece::Text("\" transform=\"translate("),
-            Piece::Count(left as u64),
+            Piece::Text(" transform=\"translate("),
+            Piece::Count(corner.0 as u64),
             Piece::Text(" "),
-            Piece::Count(top as u64),
+            Piece::Count(corner.1 as u64),
             Piece::Text(")\"><title>"),
             Piece::Name(card.title.as_str()),
             Piece::Text(" "),
@@ -339,102 +464,75 @@ fn push_card_head(alloc: Global, out: &mut String, card: &Card, left: u32, top: 
             Piece::Count(CARD as u64),
             Piece::Text("\" height=\""),
             Piece::Count(height_of(card) as u64),
-            Piece::Text("\" rx=\"6\"/>\n<text class=\"name\" x=\"8\" y=\"17\">"),
-            Piece::Short(card.title.as_str(), 25),
-            Piece::Text("</text>\n"),
+            Piece::Text("\" rx=\"7\"/>\n<text class=\"name\" x=\"10\" y=\"18\">"),
         ],
-    )
+    )?;
+    push_name(alloc, out, card.title.as_str(), 8 * INSIDE)
 }
 
 fn push_about(alloc: Global, out: &mut String, about: &str) -> Done {
     if about.is_empty() {
         return Ok(());
     }
-    put(
-        alloc,
-        out,
-        &[
-            Piece::Text("<text class=\"what\" x=\"8\" y=\"32\">"),
-            Piece::Short(about, 30),
-            Piece::Text("</text>\n"),
-        ],
+    push_plain(alloc, out, "<text class=\"what\" x=\"10\" y=\"34\">")?;
+    push_name(alloc, out, about, 10 * INSIDE)
+}
+
+fn corner_of(board: &Board, place: usize) -> Point {
+    (
+        left_of(number_at(board.columns.as_slice(), place)),
+        number_at(board.tops.as_slice(), place).saturating_add(EDGE),
     )
 }
 
 fn push_card(
     alloc: Global,
     out: &mut String,
+    line: u32,
     chart: &Chart,
-    layout: &Layout,
-    node: usize,
+    board: &Board,
+    place: usize,
     card: &Card,
 ) -> Done {
-    let (left, top) = corner(layout, node);
-    push_card_head(alloc, out, card, left, top)?;
+    push_open(alloc, out, line, card)?;
+    push_card_head(alloc, out, card, corner_of(board, place))?;
     push_about(alloc, out, card.about.as_str())?;
     push_card_lines(alloc, out, chart, card)?;
-    push_text(out, "</g>\n")
+    push_close(alloc, out, card)
 }
 
-fn push_cards(alloc: Global, out: &mut String, chart: &Chart, layout: &Layout) -> Done {
-    for (node, card) in chart.cards.as_slice().iter().enumerate() {
-        push_card(alloc, out, chart, layout, node, card)?;
+fn push_cards(alloc: Global, out: &mut String, line: u32, chart: &Chart, board: &Board) -> Done {
+    for (place, card) in chart.cards.as_slice().iter().enumerate() {
+        push_card(alloc, out, line, chart, board, place, card)?;
     }
     Ok(())
 }
 
-fn push_joint(alloc: Global, out: &mut String, kind: Kind, place: (u32, u32)) -> Done {
-    put(
-        alloc,
-        out,
-        &[
-            Piece::Text("<circle class=\""),
-            Piece::Text(kind_word(kind)),
-            Piece::Text("\" cx=\""),
-            Piece::Count(place.0 as u64),
-            Piece::Text("\" cy=\""),
-            Piece::Count(place.1 as u64),
-            Piece::Text("\" r=\"3\"/>\n"),
-        ],
-    )
-}
+// ---- the whole
 
-fn push_joints(
-    alloc: Global,
-    out: &mut String,
-    chart: &Chart,
-    layout: &Layout,
-    used: &[Arrow],
-) -> Done {
-    for (good, shown) in chart.goods.as_slice().iter().enumerate() {
-        let joint = chart.cards.len().saturating_add(good);
-        if used.iter().any(|arrow| arrow.to == joint) {
-            push_joint(alloc, out, shown.kind, joint_at(chart, layout, good))?;
-        }
+// The lowest end of all that stands on a board.
+fn bottom(board: &Board, heights: &[u32]) -> u32 {
+    let mut bottom = 0u32;
+    for (top, height) in board.tops.as_slice().iter().zip(heights) {
+        bottom = bottom.max(top.saturating_add(*height));
     }
-    Ok(())
-}
-
-fn bottom(graph: &Graph, layout: &Layout) -> u32 {
-    let mut bottom = 0;
-    for node in 0..graph.heights.len() {
-        let end = at(layout.tops.as_slice(), node).saturating_add(at(
-            graph.heights.as_slice(),
-            node,
-        ));
-        bottom = end.max(bottom);
+    for lane in board.lanes.as_slice() {
+        bottom = bottom.max(lane.middle);
+    }
+    for joint in board.joints.as_slice() {
+        bottom = bottom.max(joint.middle);
     }
     bottom
 }
 
-fn push_head(alloc: Global, out: &mut String, table: &str, width: u32, height: u32) -> Done {
-    let width = Piece::Count(width as u64);
-    let height = Piece::Count(height as u64);
+fn push_head(alloc: Global, out: &mut String, table: &str, size: Point) -> Done {
+    let width = Piece::Count(size.0 as u64);
+    let height = Piece::Count(size.1 as u64);
     put(
         alloc,
         out,
         &[
-            Piece::Text("<svg xmlns=\"http://www.w3.org/2000/svg\" width=\""),
+            Piece::Text("<svg xmlns=\"http://www.w3.org/2000/svg\" class=\"flow\" width=\""),
             width,
             Piece::Text("\" height=\""),
             height,
@@ -442,40 +540,46 @@ fn push_head(alloc: Global, out: &mut String, table: &str, width: u32, height: u
             width,
             Piece::Text(" "),
             height,
-            Piece::Text("\" role=\"img\" aria-label=\"flow chart of "),
+            Piece::Text("\" role=\"group\" aria-label=\"flow chart of "),
             Piece::Name(table),
             Piece::Text("\">\n"),
         ],
     )
 }
 
-fn push_laid_out(
+fn push_board(
     alloc: Global,
     out: &mut String,
+    line: u32,
     table: &str,
     chart: &Chart,
-    graph: &Graph,
-    layout: &Layout,
+    board: &Board,
+    heights: &[u32],
 ) -> Done {
-    let width = card_left(last_layer(layout)).saturating_add(CARD + EDGE);
-    let height = bottom(graph, layout).saturating_add(2 * EDGE);
-    push_head(alloc, out, table, width, height)?;
-    push_curves(alloc, out, chart, layout)?;
-    push_joints(alloc, out, chart, layout, graph.arrows.as_slice())?;
-    push_cards(alloc, out, chart, layout)?;
-    push_text(out, "</svg>\n")
+    let width = left_of(board.column_count()).saturating_sub(CHANNEL / 2 - EDGE);
+    let height = bottom(board, heights).saturating_add(2 * EDGE);
+    push_head(alloc, out, table, (width, height))?;
+    push_lines(alloc, out, chart, board)?;
+    push_cards(alloc, out, line, chart, board)?;
+    push_plain(alloc, out, "</svg>\n")
 }
 
-/// Writes the drawing of a chart.
-pub fn push_drawing(alloc: Global, out: &mut String, table: &str, chart: &Chart) -> Done {
-    let graph = graph_of(alloc, chart)?;
-    let layout = laid_out(alloc, &graph)?;
-    push_laid_out(alloc, out, table, chart, &graph, &layout)
-}
-
-/// The drawing of a chart, as SVG.
-pub fn drawing(alloc: Global, table: &str, chart: &Chart) -> Result<String, NoMemory> {
-    let mut out = String::new(alloc);
-    push_drawing(alloc, &mut out, table, chart)?;
-    Ok(out)
+/// Writes the drawing of a chart of the plan of a line.
+///
+/// # Errors
+///
+/// `NoMemory` where memory could not be had.
+pub fn push_drawing(
+    alloc: Global,
+    out: &mut String,
+    line: u32,
+    table: &str,
+    chart: &Chart,
+) -> Done {
+    let cards = chart.cards.as_slice();
+    let heights = heights_of(alloc, cards)?;
+    let ends = ends_of(alloc, cards)?;
+    let goods = chart.goods.len();
+    let board = placed(alloc, heights.as_slice(), goods, ends.as_slice())?;
+    push_board(alloc, out, line, table, chart, &board, heights.as_slice())
 }

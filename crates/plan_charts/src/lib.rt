@@ -1,12 +1,14 @@
 //! A plan as a chart: cards with what flows into them and out of them, drawn and as a graph for Graphviz.
 //!
-//! Names come from dumps and scripts of others. Each is a piece of its kind, which `put` of `page_parts` escapes.
+//! Names come from dumps and scripts of others. Each is a piece of its kind, which `put` of `page_texts` escapes.
 #![tactic(auto)]
 
+mod amounts;
 mod cards;
 mod dot;
 mod drawings;
+mod widths;
 
 pub use cards::{Card, CardKind, Chart, ChartGood, Shown, chart_of};
 pub use dot::dot_text;
-pub use drawings::{drawing, push_drawing};
+pub use drawings::push_drawing;

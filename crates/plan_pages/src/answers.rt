@@ -3,8 +3,10 @@ ghost use Rattle.game_types.specs.Sound.{IsSound};
 
 use crate::meanings::meaning;
 use game_types::Game;
-use page_parts::{Done, Piece, node_parts, push_text, put};
-use plan_base::{Items, NodeId};
+use page_parts::Done;
+use page_rows::{Thing, thing_text};
+use page_texts::{Piece, put};
+use plan_base::{Items, Kind, NoMemory, NodeId};
 use plan_report::{RefusalCode, Reply, print_reply};
 use std::alloc::Global;
 
@@ -17,8 +19,13 @@ pub struct Site<'a> {
     pub words: &'a str,
 }
 
+// A text of this program.
+fn push_plain(at: &Site<'_>, out: &mut String, text: &str) -> Done {
+    put(at.alloc, out, &[Piece::Text(text)])
+}
+
 // The head of an entry that can be folded.
-fn push_head(at: &Site<'_>, out: &mut String, count: usize) -> Done {
+fn push_summary(at: &Site<'_>, out: &mut String, count: usize) -> Done {
     put(
         at.alloc,
         out,
@@ -29,13 +36,27 @@ fn push_head(at: &Site<'_>, out: &mut String, count: usize) -> Done {
             Piece::Count(count as u64),
             Piece::Text("</b> <small>line "),
             Piece::Count(at.line as u64),
-            Piece::Text("</small></summary><ol>\n"),
+            Piece::Text("</small></summary>"),
         ],
     )
 }
 
-fn push_tail(at: &Site<'_>, out: &mut String) -> Done {
-    push_text(out, "</ol></details>\n")
+// The same with the head of a table of nodes.
+fn push_table(at: &Site<'_>, out: &mut String, count: usize, heads: &str) -> Done {
+    push_summary(at, out, count)?;
+    put(
+        at.alloc,
+        out,
+        &[
+            Piece::Text("<div class=\"wide\"><table class=\"list\"><thead><tr>"),
+            Piece::Text(heads),
+            Piece::Text("</tr></thead><tbody>\n"),
+        ],
+    )
+}
+
+fn push_table_end(at: &Site<'_>, out: &mut String) -> Done {
+    push_plain(at, out, "</tbody></table></div></details>\n")
 }
 
 // An entry of one line.
@@ -65,44 +86,69 @@ fn push_line(at: &Site<'_>, out: &mut String, answer: &str) -> Done {
     push_entry(at, out, &[Piece::Name(answer)])
 }
 
-fn push_ranked(at: &Site<'_>, out: &mut String, node: NodeId, rank: u32, mark: &'static str) -> Done
+// The thing of a node. A node past the last counts as a technology without a name.
+fn node_thing(game: &Game, node: NodeId) -> Thing
+    requires { IsSound game.now }
+{
+    let shape = game.shape();
+    if node.0 < shape.len() {
+        let (kind, index) = shape.kind_of(node);
+        Thing { kind, index }
+    } else {
+        Thing {
+            kind: Kind::Tech,
+            index: u32::MAX,
+        }
+    }
+}
+
+fn node_text(at: &Site<'_>, node: NodeId) -> Result<String, NoMemory>
     requires { IsSound at.now.game.now }
 {
-    let (kind, name) = node_parts(at.game, node);
+    thing_text(at.alloc, at.game, node_thing(at.game, node))
+}
+
+// A line of a table: a node, and the round in which it is reached.
+fn push_ranked(at: &Site<'_>, out: &mut String, node: NodeId, rank: u32) -> Done
+    requires { IsSound at.now.game.now }
+{
+    let text = node_text(at, node)?;
     put(
         at.alloc,
         out,
         &[
-            Piece::Text("<li data-f>"),
-            Piece::Thing(kind, name),
-            Piece::Text(" <small>round "),
+            Piece::Text("<tr data-f><th>"),
+            Piece::Text(text.as_str()),
+            Piece::Text("</th><td data-l=\"round\" data-v=\""),
             Piece::Count(rank as u64),
-            Piece::Text(mark),
-            Piece::Text("</small></li>\n"),
+            Piece::Text("\">"),
+            Piece::Count(rank as u64),
+            Piece::Text("</td>"),
         ],
     )
 }
 
-fn push_node(at: &Site<'_>, out: &mut String, node: NodeId) -> Done
+fn push_item(at: &Site<'_>, out: &mut String, node: NodeId, front: &str, behind: &str) -> Done
     requires { IsSound at.now.game.now }
 {
-    let (kind, name) = node_parts(at.game, node);
-    put(
-        at.alloc,
-        out,
-        &[
-            Piece::Text("<li data-f>"),
-            Piece::Thing(kind, name),
-            Piece::Text("</li>\n"),
-        ],
-    )
+    let text = node_text(at, node)?;
+    push_plain(at, out, front)?;
+    push_plain(at, out, text.as_str())?;
+    push_plain(at, out, behind)
 }
 
-fn push_nodes(at: &Site<'_>, out: &mut String, nodes: &[NodeId]) -> Done
+// Nodes, each between two texts.
+fn push_nodes(
+    at: &Site<'_>,
+    out: &mut String,
+    nodes: &[NodeId],
+    front: &str,
+    behind: &str,
+) -> Done
     requires { IsSound at.now.game.now }
 {
     for node in nodes {
-        push_node(at, out, *node)?;
+        push_item(at, out, *node, front, behind)?;
     }
     Ok(())
 }
@@ -121,28 +167,71 @@ fn push_reach(at: &Site<'_>, out: &mut String, rank: u32) -> Done {
     )
 }
 
+// The heads of tables of nodes.
+const RANKED: &str = "<th>name</th><th>round</th>";
+
+const GRANTED: &str = "<th>name</th><th>round</th><th>granted</th>";
+
+const NAMED: &str = "<th>name</th>";
+
+fn push_reason(at: &Site<'_>, out: &mut String, node: NodeId, rank: u32, granted: bool) -> Done
+    requires { IsSound at.now.game.now }
+{
+    push_ranked(at, out, node, rank)?;
+    let mark = if granted { "granted" } else { "" };
+    put(
+        at.alloc,
+        out,
+        &[
+            Piece::Text("<td>"),
+            Piece::Text(mark),
+            Piece::Text("</td></tr>\n"),
+        ],
+    )
+}
+
+fn push_reasons(at: &Site<'_>, out: &mut String, nodes: &[(NodeId, u32, bool)]) -> Done
+    requires { IsSound at.now.game.now }
+{
+    for (node, rank, granted) in nodes {
+        push_reason(at, out, *node, *rank, *granted)?;
+    }
+    Ok(())
+}
+
 fn push_why(at: &Site<'_>, out: &mut String, nodes: &[(NodeId, u32, bool)]) -> Done
     requires { IsSound at.now.game.now }
 {
     if nodes.is_empty() {
         return push_line(at, out, "is not reached");
     }
-    push_head(at, out, nodes.len())?;
-    for (node, rank, granted) in nodes {
-        let mark = if *granted { ", granted" } else { "" };
-        push_ranked(at, out, *node, *rank, mark)?;
+    push_table(at, out, nodes.len(), GRANTED)?;
+    push_reasons(at, out, nodes)?;
+    push_table_end(at, out)
+}
+
+fn push_listed(at: &Site<'_>, out: &mut String, node: NodeId, rank: u32) -> Done
+    requires { IsSound at.now.game.now }
+{
+    push_ranked(at, out, node, rank)?;
+    push_plain(at, out, "</tr>\n")
+}
+
+fn push_all_listed(at: &Site<'_>, out: &mut String, nodes: &[(NodeId, u32)]) -> Done
+    requires { IsSound at.now.game.now }
+{
+    for (node, rank) in nodes {
+        push_listed(at, out, *node, *rank)?;
     }
-    push_tail(at, out)
+    Ok(())
 }
 
 fn push_list(at: &Site<'_>, out: &mut String, nodes: &[(NodeId, u32)]) -> Done
     requires { IsSound at.now.game.now }
 {
-    push_head(at, out, nodes.len())?;
-    for (node, rank) in nodes {
-        push_ranked(at, out, *node, *rank, "")?;
-    }
-    push_tail(at, out)
+    push_table(at, out, nodes.len(), RANKED)?;
+    push_all_listed(at, out, nodes)?;
+    push_table_end(at, out)
 }
 
 fn group_word(all: bool) -> &'static str {
@@ -161,8 +250,17 @@ fn push_group(at: &Site<'_>, out: &mut String, all: bool, members: &[NodeId]) ->
             Piece::Text("<ul>\n"),
         ],
     )?;
-    push_nodes(at, out, members)?;
-    push_text(out, "</ul></li>\n")
+    push_nodes(at, out, members, "<li data-f>", "</li>\n")?;
+    push_plain(at, out, "</ul></li>\n")
+}
+
+fn push_groups(at: &Site<'_>, out: &mut String, groups: &[(bool, Items<NodeId>)]) -> Done
+    requires { IsSound at.now.game.now }
+{
+    for (all, members) in groups {
+        push_group(at, out, *all, members.as_slice())?;
+    }
+    Ok(())
 }
 
 fn push_missing(
@@ -176,14 +274,15 @@ fn push_missing(
     if forbidden && groups.is_empty() {
         return push_line(at, out, "is forbidden");
     }
-    push_head(at, out, groups.len())?;
-    if forbidden {
-        push_text(out, "<li data-f>forbidden</li>\n")?;
-    }
-    for (all, members) in groups {
-        push_group(at, out, *all, members.as_slice())?;
-    }
-    push_tail(at, out)
+    push_summary(at, out, groups.len())?;
+    let head = if forbidden {
+        "<ol>\n<li data-f>forbidden</li>\n"
+    } else {
+        "<ol>\n"
+    };
+    push_plain(at, out, head)?;
+    push_groups(at, out, groups)?;
+    push_plain(at, out, "</ol></details>\n")
 }
 
 fn push_lacks(
@@ -216,9 +315,9 @@ fn push_milestones(at: &Site<'_>, out: &mut String, nodes: &[NodeId]) -> Done
     if nodes.is_empty() {
         return push_line(at, out, "no milestone");
     }
-    push_head(at, out, nodes.len())?;
-    push_nodes(at, out, nodes)?;
-    push_tail(at, out)
+    push_table(at, out, nodes.len(), NAMED)?;
+    push_nodes(at, out, nodes, "<tr data-f><th>", "</th></tr>\n")?;
+    push_table_end(at, out)
 }
 
 // A printed reply without the number of its line.
@@ -261,6 +360,11 @@ pub fn push_answer(at: &Site<'_>, out: &mut String, reply: &Reply) -> Done
     }
 }
 
+// The letters of a code.
+fn code_text(alloc: Global, code: RefusalCode) -> Result<String, NoMemory> {
+    Ok(format!(in alloc; "{code:?}")?)
+}
+
 // The head of a refusal, with its meaning.
 fn push_cause(at: &Site<'_>, out: &mut String, code: RefusalCode) -> Done {
     put(
@@ -270,9 +374,16 @@ fn push_cause(at: &Site<'_>, out: &mut String, code: RefusalCode) -> Done {
             Piece::Text("<details data-f><summary><code>"),
             Piece::Name(at.words),
             Piece::Text("</code> <b class=\"bad\">"),
-            Piece::Code(code),
-            Piece::Text(": "),
-            Piece::Text(meaning(code)),
+        ],
+    )?;
+    let letters = code_text(at.alloc, code)?;
+    push_plain(at, out, letters.as_str())?;
+    push_plain(at, out, ": ")?;
+    push_plain(at, out, meaning(code))?;
+    put(
+        at.alloc,
+        out,
+        &[
             Piece::Text("</b> <small>line "),
             Piece::Count(at.line as u64),
             Piece::Text("</small></summary><pre>"),

@@ -1,12 +1,16 @@
 //! The replies to a script as a page, with each plan as tables and as a drawing.
 //!
-//! Names come from dumps and scripts of others. Each is a piece of its kind, which `put` of `page_parts` escapes.
+//! Names come from dumps and scripts of others. Each is a piece of its kind, which `put` of `page_texts` escapes.
 #![tactic(auto)]
 
 mod answers;
+mod builds;
+mod goods;
 mod meanings;
 mod page;
+mod pictures;
 mod plans;
 mod style;
 
 pub use page::Page;
+pub use pictures::PageThing;

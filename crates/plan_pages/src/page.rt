@@ -2,16 +2,20 @@
 ghost use Rattle.game_types.specs.Sound.{IsSound};
 
 use crate::answers::{Site, push_answer, push_refusal};
+use crate::pictures::{PageThing, note_plan, push_picture};
 use crate::plans::{push_infeasible, push_plan};
-use crate::style::{HEAD, SCRIPT, STYLE};
+use crate::style::{HEAD, SCRIPT, STYLE, TOOLS};
 use game_types::Game;
 use linear_table::{Linear, SolveAnswer};
-use page_parts::{Done, Piece, cut, put};
+use page_parts::{Done, cut};
+use page_rows::Thing;
+use page_texts::{Piece, put};
 use plan_base::NoMemory;
 use plan_charts::Shown;
 use plan_report::{RefusalCode, Reply};
 use production_table::Table;
 use std::alloc::Global;
+use std::mem;
 
 // The most letters of a line that are shown.
 const WORDS: usize = 200;
@@ -45,6 +49,9 @@ pub struct Page {
     plans: Part,
     answers: Part,
     refusals: Part,
+    /// The things of its plans, each once.
+    things: Vec<PageThing>,
+    pictures: String,
 }
 
 impl Page {
@@ -54,7 +61,23 @@ impl Page {
             plans: Part::new(alloc),
             answers: Part::new(alloc),
             refusals: Part::new(alloc),
+            things: Vec::new(alloc),
+            pictures: String::new(alloc),
         }
+    }
+
+    /// Takes the things of the plans that came on it since this was called last, each once.
+    pub fn take_things(&mut self, alloc: Global) -> Vec<PageThing> {
+        mem::replace(&mut self.things, Vec::new(alloc))
+    }
+
+    /// The picture of a thing comes in: these bytes, of a PNG.
+    ///
+    /// # Errors
+    ///
+    /// `NoMemory` where memory could not be had.
+    pub fn add_picture(&mut self, alloc: Global, thing: Thing, bytes: &[u8]) -> Result<(), NoMemory> {
+        push_picture(alloc, &mut self.pictures, thing, bytes)
     }
 
     // One more line of the contents.
@@ -108,6 +131,7 @@ impl Page {
                     rows: rows.as_slice(),
                     total,
                 };
+                note_plan(at.alloc, &mut self.things, &shown)?;
                 push_plan(at.alloc, self.plans.next(), at.line, &shown)
             }
             SolveAnswer::Infeasible(prices) => {
@@ -181,6 +205,7 @@ impl Page {
 
     fn push_whole(&self, alloc: Global, out: &mut String) -> Done {
         self.push_front(alloc, out)?;
+        self.push_pictures(alloc, out)?;
         put(
             alloc,
             out,
@@ -202,6 +227,30 @@ impl Page {
         )
     }
 
+    // Where there are pictures, things have a place for theirs.
+    fn body_mark(&self) -> &'static str {
+        if self.pictures.is_empty() {
+            ""
+        } else {
+            " class=\"icons\""
+        }
+    }
+
+    fn push_pictures(&self, alloc: Global, out: &mut String) -> Done {
+        if self.pictures.is_empty() {
+            return Ok(());
+        }
+        put(
+            alloc,
+            out,
+            &[
+                Piece::Text("<svg class=\"hold\" aria-hidden=\"true\">\n"),
+                Piece::Text(self.pictures.as_str()),
+                Piece::Text("</svg>\n"),
+            ],
+        )
+    }
+
     // The head of the page, and the contents where there is a plan.
     fn push_front(&self, alloc: Global, out: &mut String) -> Done {
         put(
@@ -211,15 +260,22 @@ impl Page {
                 Piece::Text(HEAD),
                 Piece::Text("<style>"),
                 Piece::Text(STYLE),
-                Piece::Text("</style></head>\n<body>\n<header><h1>Plans</h1><p>plans "),
+                Piece::Text("</style></head>\n<body"),
+            ],
+        )?;
+        push_plain(alloc, out, self.body_mark())?;
+        put(
+            alloc,
+            out,
+            &[
+                Piece::Text(">\n<header><h1>Plans</h1><p>plans "),
                 Piece::Count(self.plans.count as u64),
                 Piece::Text(" · answers "),
                 Piece::Count(self.answers.count as u64),
                 Piece::Text(" · refusals "),
                 Piece::Count(self.refusals.count as u64),
-                Piece::Text(
-                    "</p><input id=\"find\" type=\"search\" placeholder=\"find\" aria-label=\"find\"></header>\n",
-                ),
+                Piece::Text("</p>"),
+                Piece::Text(TOOLS),
             ],
         )?;
         if self.plans.count == 0 {
@@ -235,6 +291,10 @@ impl Page {
             ],
         )
     }
+}
+
+fn push_plain(alloc: Global, out: &mut String, text: &str) -> Done {
+    put(alloc, out, &[Piece::Text(text)])
 }
 
 // A part of the page that can be folded, where there is something in it.

@@ -1,0 +1,4 @@
+pub mod Things
+pub mod Setups
+pub mod Cells
+pub mod Rows

@@ -1,0 +1,4 @@
+pub mod Numbers
+pub mod Amounts
+pub mod Labels
+pub mod Pieces
