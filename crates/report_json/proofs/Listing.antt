@@ -16,12 +16,12 @@ pub one_told : {A : Type 0} (tree : A → Data) (xs : List A) (k : ℕ) (old new
     → Wrote tree xs k old → Wrote tree xs (k + 1) new
 one_told tree xs k old new x v within at is put so = record {
   told =
-    ap (map view) put
-    ∙ (map-append view old (v ∷ [])
-    ∙ (ap (λ l. l ++ view v ∷ []) so.told
-    ∙ (ap (λ (d : Data). map tree (take k xs) ++ d ∷ []) (is ∙ ap tree at)
-    ∙ (sym (map-append tree (take k xs) (get_or xs k x ∷ []))
-    ∙ sym (ap (map tree) (take_more xs k x within))))));
+      ap (map view) put
+      ∙ (map-append view old (v ∷ [])
+      ∙ (ap (λ l. l ++ view v ∷ []) so.told
+      ∙ (ap (λ (d : Data). map tree (take k xs) ++ d ∷ []) (is ∙ ap tree at)
+      ∙ (sym (map-append tree (take k xs) (get_or xs k x ∷ []))
+      ∙ sym (ap (map tree) (take_more xs k x within))))));
 }
 
 pub all_told : {A : Type 0} (tree : A → Data) (xs : List A) (k : ℕ) (written : List Value) → length xs ≤ k → Wrote tree xs k written → map view written ≡ map tree xs

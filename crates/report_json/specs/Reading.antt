@@ -74,7 +74,7 @@ ranked_in d = node_in d ∷ codes "rank" ∷ decimal (count_in (field (codes "ra
 abbrev pub reach_in : Data → List Line
 reach_in d =
     (if count_in (field (codes "rank") d) == 0 then codes "reach" ∷ node_in d ∷ codes "no" ∷ []
-     else codes "reach" ∷ node_in d ∷ codes "rank" ∷ decimal (count_in (field (codes "rank") d)) ∷ []) ∷ []
+    else codes "reach" ∷ node_in d ∷ codes "rank" ∷ decimal (count_in (field (codes "rank") d)) ∷ []) ∷ []
 
 abbrev pub listed_in : Data → List Line
 listed_in d =
