@@ -70,7 +70,7 @@ column_split k n rate (p ∷ ps) good rises exact =
     by_good (p.0 == good) (is_positive p.1) p.1 rate (number_of (product p.1 rate)) (part_at ps good) (brought (flows_of rate ps) good) (taken (flows_of rate ps) good)
     (product_number p.1 rate exact.0)
     (λ same. let is : p.0 ≡ good = eqb-true p.0 good same in
-        (none_brought (suc p.0) n rate ps good rises.2 (omega arith), none_taken (suc p.0) n rate ps good rises.2 (omega arith)))
+    (none_brought (suc p.0) n rate ps good rises.2 (omega arith), none_taken (suc p.0) n rate ps good rises.2 (omega arith)))
     (column_split (suc p.0) n rate ps good rises.2 exact.1)
 
 -- ---- all columns
@@ -82,8 +82,8 @@ pub balances : (l : Linear) (rates : List Fraction) → IsWellFormed l → IsPla
 balances l rates formed plan exact = λ good within.
     sum_cong (column_count l) (λ j. brought (edges_at l rates j) good) (λ j. column_part l j good *ʳ number_at rates j +ʳ one_fraction *ʳ taken (edges_at l rates j) good)
     (λ j below. column_split 0 (good_count l) (number_at rates j) (parts_of (slice_get l.columns j)) good
-        (rises_at l (slice_get l.columns j) (λ c is. (formed.columns j c is).parts_rise)) (exact j below))
+    (rises_at l (slice_get l.columns j) (λ c is. (formed.columns j c is).parts_rise)) (exact j below))
     ∙ sum_plus (column_count l) (λ j. column_part l j good *ʳ number_at rates j) (λ j. taken (edges_at l rates j) good) one_fraction
     ∙ ap (λ x. x +ʳ one_fraction *ʳ sum_below (column_count l) (λ j. taken (edges_at l rates j) good)) (plan.balances good within)
     ∙ same_amount (atom (want_at l good) ⊞ unit ⊠ atom (sum_below (column_count l) (λ j. taken (edges_at l rates j) good)))
-        (atom (want_at l good) ⊞ atom (sum_below (column_count l) (λ j. taken (edges_at l rates j) good))) (omega arith)
+    (atom (want_at l good) ⊞ atom (sum_below (column_count l) (λ j. taken (edges_at l rates j) good))) (omega arith)

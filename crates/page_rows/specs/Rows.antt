@@ -41,7 +41,7 @@ activity_text g activity = thing_text g (activity_thing g activity).kind (activi
 unfoldable pub work_text : Game → TableRow → Fraction → List ℕ → List ℕ
 work_text g row rate note =
     codes "<td data-l=\"does\">" ++ (activity_text g row.setup.activity ++ (codes "</td><td data-l=\"by\">" ++ (setup_text g row.setup
-        ++ (note ++ (codes "</td>" ++ amount_cell (codes "crafts") (is_electric row.setup.activity) rate)))))
+    ++ (note ++ (codes "</td>" ++ amount_cell (codes "crafts") (is_electric row.setup.activity) rate)))))
 
 abbrev pub counts_text : Figures → List ℕ
 counts_text f = figure_cell (codes "machines") f.machines ++ figure_cell (codes "to build") f.count
@@ -58,7 +58,7 @@ uses_text f = powers_text f ++ around_text f
 unfoldable pub row_text : Game → List ℕ → TableRow → Fraction → Figures → List ℕ → List ℕ
 row_text g place row rate f note =
     codes "<tr data-f" ++ (idle_word rate ++ (codes " id=\"r" ++ (place ++ (codes "\">" ++ (label_text place row.label rate ++ (work_text g row rate note
-        ++ (counts_text f ++ (uses_text f ++ codes "</tr>\n"))))))))
+    ++ (counts_text f ++ (uses_text f ++ codes "</tr>\n"))))))))
 
 -- the texts of the numbers from 0 on below one, behind one another
 unfoldable pub texts_below : ℕ → (ℕ → List ℕ) → List ℕ

@@ -30,7 +30,7 @@ modules_text g modules = joined (map (module_text g) modules)
 abbrev pub beacon_item : ℕ → List ℕ → ℕ → List ℕ → List ℕ
 beacon_item count beacon share modules =
     codes "<li>" ++ (decimal count ++ (codes " &times; " ++ (beacon ++ (codes " <small>each for " ++ (decimal share
-        ++ (codes "</small><ul>" ++ (modules ++ codes "</ul></li>")))))))
+    ++ (codes "</small><ul>" ++ (modules ++ codes "</ul></li>")))))))
 
 unfoldable pub beacon_text : Game → BeaconGroup → List ℕ
 beacon_text g group = beacon_item group.count (machine_text g group.beacon) group.share (modules_text g group.modules)

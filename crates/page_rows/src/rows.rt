@@ -47,7 +47,9 @@ fn label_text(alloc: Global, place: &str, label: &str, rate: &Ratio) -> Result<S
     if is_zero(rate) {
         Ok(format!(in alloc; "<th data-l=\"row\" data-v=\"{label}\">{label}</th>")?)
     } else {
-        Ok(format!(in alloc; "<th data-l=\"row\" data-v=\"{label}\"><a href=\"#c{place}\">{label}</a></th>")?)
+        Ok(format!(in alloc;
+            "<th data-l=\"row\" data-v=\"{label}\"><a href=\"#c{place}\">{label}</a></th>"
+        )?)
     }
 }
 
@@ -75,7 +77,9 @@ fn work_text(
     let by = setup_text(alloc, game, &row.setup)?;
     let electric = is_electric(&row.setup.activity);
     let often = amount_cell(alloc, "crafts", electric, rate)?;
-    Ok(format!(in alloc; "<td data-l=\"does\">{does}</td><td data-l=\"by\">{by}{note}</td>{often}")?)
+    Ok(format!(in alloc;
+        "<td data-l=\"does\">{does}</td><td data-l=\"by\">{by}{note}</td>{often}"
+    )?)
 }
 
 // How many machines a row has.
@@ -361,5 +365,7 @@ pub fn total_text(alloc: Global, total: &Figures) -> Result<String, NoMemory>
     ensures { IfOk result (λ text. string_bytes text ≡ total_text total.now) }
 {
     let uses = uses_text(alloc, total)?;
-    Ok(format!(in alloc; "<tr><th data-l=\"row\">total</th><td class=\"e\" colspan=\"5\"></td>{uses}</tr>\n")?)
+    Ok(format!(in alloc;
+        "<tr><th data-l=\"row\">total</th><td class=\"e\" colspan=\"5\"></td>{uses}</tr>\n"
+    )?)
 }

@@ -13,7 +13,11 @@ use std::alloc::Global;
 /// # Errors
 ///
 /// `NoMemory` where memory could not be had.
-pub(crate) fn machine_text(alloc: Global, game: &Game, machine: EntityId) -> Result<String, NoMemory>
+pub(crate) fn machine_text(
+    alloc: Global,
+    game: &Game,
+    machine: EntityId,
+) -> Result<String, NoMemory>
     ensures { IfOk result (λ text. string_bytes text ≡ machine_text game.now machine) }
 {
     let thing = Thing {
@@ -67,7 +71,9 @@ fn beacon_item(
 ) -> Result<String, NoMemory>
     ensures { IfOk result (λ text. string_bytes text ≡ beacon_item count beacon.now share modules.now) }
 {
-    Ok(format!(in alloc; "<li>{count} &times; {beacon} <small>each for {share}</small><ul>{modules}</ul></li>")?)
+    Ok(format!(in alloc;
+        "<li>{count} &times; {beacon} <small>each for {share}</small><ul>{modules}</ul></li>"
+    )?)
 }
 
 // The beacons of a kind with their modules.

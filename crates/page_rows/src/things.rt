@@ -5,9 +5,9 @@ ghost use Rattle.page_rows.specs.Things.{activity_thing, good_thing, marked_text
 
 use game_types::{Activity, Game};
 use name_table::Names;
-use plan_report::kind_word;
 use page_parts::escaped;
 use plan_base::{GoodId, Kind, NoMemory};
+use plan_report::kind_word;
 use std::alloc::Global;
 
 /// A thing of a game: its kind, and its place among those of the kind.
@@ -118,7 +118,9 @@ pub fn activity_thing(game: &Game, activity: Activity) -> Thing
 fn picture_text(alloc: Global, kind: &str, index: u32) -> Result<String, NoMemory>
     ensures { IfOk result (λ text. string_bytes text ≡ picture_text kind.now index) }
 {
-    Ok(format!(in alloc; "<svg class=\"i\" aria-hidden=\"true\"><use href=\"#{kind}-{index}\"/></svg>")?)
+    Ok(format!(in alloc;
+        "<svg class=\"i\" aria-hidden=\"true\"><use href=\"#{kind}-{index}\"/></svg>"
+    )?)
 }
 
 // A name behind the place of a picture.

@@ -41,7 +41,9 @@ pub fn page_command<'a>(alloc: Global) -> Result<Command<'a>, AllocError> {
         Arg::new(alloc, "icons")
             .long("icons")
             .value_name("DIR")
-            .help("pictures of things: the folder script-output behind factorio --dump-icon-sprites"),
+            .help(
+                "pictures of things: the folder script-output behind factorio --dump-icon-sprites",
+            ),
     )
 }
 

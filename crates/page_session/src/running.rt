@@ -1,8 +1,6 @@
 //! The runs of the program, from its words to its end.
 
-use crate::asked::{
-    asked_files, asked_icons, asked_table, flow_command, flow_words, page_command,
-};
+use crate::asked::{asked_files, asked_icons, asked_table, flow_command, flow_words, page_command};
 use crate::fault::end_by_fault;
 use crate::flow::flow_of;
 use crate::pictures::add_pictures;

@@ -61,7 +61,12 @@ fn power_as(alloc: Global, watts: &Ratio, shown: &Ratio, unit: &str) -> Result<S
 }
 
 // A power in a unit, or in watts where it can't be told in it.
-fn power_by(alloc: Global, watts: &Ratio, shown: &Option<Ratio>, unit: &str) -> Result<String, NoMemory>
+fn power_by(
+    alloc: Global,
+    watts: &Ratio,
+    shown: &Option<Ratio>,
+    unit: &str,
+) -> Result<String, NoMemory>
     ensures { IfOk result (λ text. string_bytes text ≡ power_by watts.now unit.now shown.now) }
 {
     match shown {
@@ -125,7 +130,9 @@ pub fn power_text(alloc: Global, watts: &Ratio) -> Result<String, NoMemory>
     let best = best_power(alloc, watts)?;
     let kilo = power_in(alloc, watts, &thousandth(), "kW")?;
     let mega = power_in(alloc, watts, &millionth(), "MW")?;
-    Ok(format!(in alloc; "<span class=\"p\">{best}</span><span class=\"k\">{kilo}</span><span class=\"w\">{mega}</span>")?)
+    Ok(format!(in alloc;
+        "<span class=\"p\">{best}</span><span class=\"k\">{kilo}</span><span class=\"w\">{mega}</span>"
+    )?)
 }
 
 /// A power, or that it is past the limits of fractions.

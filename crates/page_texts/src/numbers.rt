@@ -62,7 +62,9 @@ pub fn short_text(alloc: Global, number: &Ratio) -> Result<String, NoMemory>
 pub(crate) fn folded(alloc: Global, shown: &str, behind: &str) -> Result<String, NoMemory>
     ensures { IfOk result (λ text. string_bytes text ≡ folded shown.now behind.now) }
 {
-    Ok(format!(in alloc; "<details class=\"f\"><summary>{shown}</summary><i>{behind}</i></details>")?)
+    Ok(format!(in alloc;
+        "<details class=\"f\"><summary>{shown}</summary><i>{behind}</i></details>"
+    )?)
 }
 
 fn folded_number(alloc: Global, number: &Ratio) -> Result<String, NoMemory>

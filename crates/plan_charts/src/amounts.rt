@@ -30,12 +30,7 @@ fn figure(alloc: Global, number: &Option<Ratio>) -> Result<String, NoMemory> {
 }
 
 // A power in a unit of so many watts.
-fn power_in(
-    alloc: Global,
-    watts: &Ratio,
-    part: &Ratio,
-    unit: &str,
-) -> Result<String, NoMemory> {
+fn power_in(alloc: Global, watts: &Ratio, part: &Ratio, unit: &str) -> Result<String, NoMemory> {
     let number = figure(alloc, &product(watts, part))?;
     Ok(format!(in alloc; "{number} {unit}")?)
 }
@@ -60,7 +55,9 @@ fn power_texts(alloc: Global, watts: &Ratio) -> Result<AmountTexts, NoMemory> {
     let width = width_of(best.as_str())
         .max(width_of(kilo.as_str()))
         .max(width_of(mega.as_str()));
-    let text = format!(in alloc; "<tspan class=\"p\">{best}</tspan><tspan class=\"k\">{kilo}</tspan><tspan class=\"w\">{mega}</tspan>")?;
+    let text = format!(in alloc;
+        "<tspan class=\"p\">{best}</tspan><tspan class=\"k\">{kilo}</tspan><tspan class=\"w\">{mega}</tspan>"
+    )?;
     Ok(AmountTexts { text, width })
 }
 
@@ -68,7 +65,9 @@ fn rate_texts(alloc: Global, rate: &Ratio) -> Result<AmountTexts, NoMemory> {
     let second = short_text(alloc, rate)?;
     let minute = figure(alloc, &product(rate, &Ratio::whole(60)))?;
     let width = width_of(second.as_str()).max(width_of(minute.as_str()));
-    let text = format!(in alloc; "<tspan class=\"s\">{second}</tspan><tspan class=\"m\">{minute}</tspan>")?;
+    let text = format!(in alloc;
+        "<tspan class=\"s\">{second}</tspan><tspan class=\"m\">{minute}</tspan>"
+    )?;
     Ok(AmountTexts { text, width })
 }
 

@@ -1,9 +1,9 @@
 //! A chart as a graph for Graphviz.
 use crate::amounts::size_of;
 use crate::cards::{Card, CardKind, Chart};
+use fractions::Ratio;
 use page_parts::{Amount, Done, Flow};
 use page_texts::{Piece, is_whole, put};
-use fractions::Ratio;
 use plan_base::NoMemory;
 use std::alloc::Global;
 

@@ -3,11 +3,11 @@ use crate::amounts::amount_texts;
 use crate::cards::{Card, CardKind, Chart};
 use crate::dot::push_amount;
 use crate::widths::within;
-use plan_report::kind_word;
 use page_layout::{Board, End, Joint, Lane, channel_of, number_at, placed};
 use page_parts::{Done, Flow};
 use page_texts::{Piece, put};
 use plan_base::{Kind, NoMemory};
+use plan_report::kind_word;
 use std::alloc::Global;
 
 // Sizes, in points of the drawing.
@@ -38,9 +38,7 @@ fn head_of(card: &Card) -> u32 {
 
 fn height_of(card: &Card) -> u32 {
     let lines = card.flows.len().min(2_000) as u32;
-    head_of(card)
-        .saturating_add(LINE * lines)
-        .saturating_add(8)
+    head_of(card).saturating_add(LINE * lines).saturating_add(8)
 }
 
 // How far below the top of a card the middle of a line of it is.
@@ -158,11 +156,7 @@ fn push_curve(alloc: Global, out: &mut String, from: Point, to: Point) -> Done {
 // The end of a line at a card, and at its joint, from left to right.
 fn end_points(board: &Board, card: usize, below: u32, flow: &Flow) -> (Point, Point) {
     let column = number_at(board.columns.as_slice(), card);
-    let joint = joint_point(
-        board,
-        flow.good as usize,
-        channel_of(column, flow.gives),
-    );
+    let joint = joint_point(board, flow.good as usize, channel_of(column, flow.gives));
     let top = number_at(board.tops.as_slice(), card).saturating_add(EDGE);
     let left = left_of(column);
     let middle = top.saturating_add(below);
@@ -217,13 +211,7 @@ fn push_card_ends(
     Ok(())
 }
 
-fn push_ends(
-    alloc: Global,
-    out: &mut String,
-    chart: &Chart,
-    board: &Board,
-    good: usize,
-) -> Done {
+fn push_ends(alloc: Global, out: &mut String, chart: &Chart, board: &Board, good: usize) -> Done {
     for (place, card) in chart.cards.as_slice().iter().enumerate() {
         push_card_ends(alloc, out, chart, board, good, place, card)?;
     }
@@ -394,10 +382,7 @@ fn push_card_line(alloc: Global, out: &mut String, chart: &Chart, base: u32, flo
     put(
         alloc,
         out,
-        &[
-            Piece::Text(amount.text.as_str()),
-            Piece::Text("</text>\n"),
-        ],
+        &[Piece::Text(amount.text.as_str()), Piece::Text("</text>\n")],
     )
 }
 

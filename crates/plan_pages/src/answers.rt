@@ -138,13 +138,7 @@ fn push_item(at: &Site<'_>, out: &mut String, node: NodeId, front: &str, behind:
 }
 
 // Nodes, each between two texts.
-fn push_nodes(
-    at: &Site<'_>,
-    out: &mut String,
-    nodes: &[NodeId],
-    front: &str,
-    behind: &str,
-) -> Done
+fn push_nodes(at: &Site<'_>, out: &mut String, nodes: &[NodeId], front: &str, behind: &str) -> Done
     requires { IsSound at.now.game.now }
 {
     for node in nodes {

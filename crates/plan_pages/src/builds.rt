@@ -98,12 +98,7 @@ impl Builds {
         Ok(())
     }
 
-    fn add_beacons(
-        &mut self,
-        game: &Game,
-        groups: &[BeaconGroup],
-        machines: &Option<Ratio>,
-    ) -> Done
+    fn add_beacons(&mut self, game: &Game, groups: &[BeaconGroup], machines: &Option<Ratio>) -> Done
         requires { IsSound game.now }
     {
         for group in groups {

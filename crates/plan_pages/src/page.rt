@@ -76,7 +76,12 @@ impl Page {
     /// # Errors
     ///
     /// `NoMemory` where memory could not be had.
-    pub fn add_picture(&mut self, alloc: Global, thing: Thing, bytes: &[u8]) -> Result<(), NoMemory> {
+    pub fn add_picture(
+        &mut self,
+        alloc: Global,
+        thing: Thing,
+        bytes: &[u8],
+    ) -> Result<(), NoMemory> {
         push_picture(alloc, &mut self.pictures, thing, bytes)
     }
 

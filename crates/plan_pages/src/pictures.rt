@@ -3,12 +3,12 @@ ghost use Rattle.game_types.specs.Sound.{IsSound};
 
 use base64::engine::general_purpose::STANDARD;
 use game_types::{BeaconGroup, Game, Setup};
-use plan_report::kind_word;
 use page_parts::Done;
 use page_rows::{Thing, activity_thing, good_thing, thing_name};
 use page_texts::{Piece, put};
 use plan_base::{EntityId, GoodId, Kind, Text};
 use plan_charts::Shown;
+use plan_report::kind_word;
 use production_table::TableRow;
 use std::alloc::Global;
 
