@@ -6,7 +6,7 @@ pub mod Activities
 pub mod Power
 pub mod Crafts
 pub mod Items
-pub mod Launches
+pub mod LaunchLemmas
 pub mod Reached
 pub mod Dumped
 pub mod Catalysts
