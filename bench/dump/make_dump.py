@@ -68,6 +68,26 @@ def tile(r, depth):
             "source_location": {"filename": "__base__/prototypes/noise \u2192 %d.lua" % r.randrange(50), "line_number": r.randrange(900)}}
 
 
+def write_filled(path, dump, length, r):
+    """Writes a dump, filled up to so many bytes with tiles that no planner reads, where it has fewer."""
+    text = json.dumps(dump, separators=(",", ":"), ensure_ascii=False).encode()
+    room = length - len(text) - len(',"tile":{}')
+    with open(path, "wb") as out:
+        out.write(text[:-1])
+        if room > 0:
+            out.write(b',"tile":{')
+            n = 0
+            while True:
+                entry = b'%s"tile-%d":%s' % (b"," if n else b"", n, json.dumps(tile(r, 7), separators=(",", ":"), ensure_ascii=False).encode())
+                if len(entry) > room:
+                    break
+                out.write(entry)
+                room -= len(entry)
+                n += 1
+            out.write(b"}" + b" " * room)
+        out.write(b"}")
+
+
 def main():
     words = argparse.ArgumentParser()
     words.add_argument("out")
@@ -97,22 +117,8 @@ def main():
         "lab": {machines[0]: lab},
         "technology": {"technology-%d" % n: technology(r, n, packs, counts["recipe"]) for n in range(counts["technology"])},
     }
-    text = json.dumps(dump, separators=(",", ":"), ensure_ascii=False).encode()
-    room = int(given.megabytes * 1e6) - len(text) - len(',"tile":{}')
-    with open(given.out, "wb") as out:
-        out.write(text[:-1])
-        if room > 0:
-            out.write(b',"tile":{')
-            n = 0
-            while True:
-                entry = b'%s"tile-%d":%s' % (b"," if n else b"", n, json.dumps(tile(r, 7), separators=(",", ":"), ensure_ascii=False).encode())
-                if len(entry) > room:
-                    break
-                out.write(entry)
-                room -= len(entry)
-                n += 1
-            out.write(b"}" + b" " * room)
-        out.write(b"}")
+    write_filled(given.out, dump, int(given.megabytes * 1e6), r)
 
 
-main()
+if __name__ == "__main__":
+    main()

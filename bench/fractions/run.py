@@ -1,57 +1,54 @@
 #!/usr/bin/env python3
-"""Builds and times the calls of crates/fractions beside the same in C, and prints a table.
+"""Times the calls of crates/fractions beside the same in C, by the clock.
 
-Usage: bench/fractions/run.py [FOLDER], FOLDER being where the program is built (a new temporary one if left out).
-Needs rt and gcc. Both programs print a sum of all results, and the script stops where the two differ.
+    bench/fractions/run.py [--bits 20,40,60,100]
+
+The program, speed.rt.txt over copies of crates/plan_base and crates/fractions, is proved and built before; the peer is speed.c by gcc. Both print a
+sum of all results, and the script stops where the two differ. Of the sizes of BITS figures are told.
 """
+import argparse
 import os
-import shutil
-import subprocess
 import sys
-import tempfile
 
-HERE = os.path.dirname(os.path.abspath(__file__))
-TOP = os.path.dirname(os.path.dirname(HERE))
+sys.dont_write_bytecode = True
+sys.path.insert(1, os.path.join(sys.path[0], ".."))
+import programs  # noqa: E402
+from table import beside, tell, without_peer  # noqa: E402
 
-
-def output(command, folder):
-    return subprocess.run(command, cwd=folder, check=True, stdout=subprocess.PIPE, text=True).stdout
+CALLS = {"mul": "products", "add": "sums", "sub": "differences", "sub_mul": "products subtracted", "cmp": "comparisons"}
 
 
 def rows(text):
+    """Of each call and number of bits the nanoseconds of a call, and the sum."""
     table = {}
     for line in text.splitlines():
         words = line.split()
-        if len(words) == 4 and words[0] in ("mul", "add", "sub", "sub_mul", "cmp"):
+        if len(words) == 4 and words[0] in CALLS:
             table[words[0], int(words[1])] = (int(words[2]) / 10, words[3])
     return table
 
 
-def build(folder):
-    speed = os.path.join(folder, "crates", "fraction_speed", "src")
-    os.makedirs(speed, exist_ok=True)
-    for crate in ("plan_base", "fractions"):
-        target = os.path.join(folder, "crates", crate)
-        if not os.path.exists(target):
-            shutil.copytree(os.path.join(TOP, "crates", crate), target, ignore=shutil.ignore_patterns("out"))
-    shutil.copy(os.path.join(HERE, "speed.rt.txt"), os.path.join(speed, "main.rt"))
-    shutil.copy(os.path.join(TOP, "HANDLES"), folder)
-    with open(os.path.join(folder, "crates.txt"), "w") as lines:
-        lines.write("plan_base:\nfractions: plan_base thiserror\nfraction_speed: plan_base fractions\n")
-    return os.path.dirname(speed)
-
-
-def main():
-    folder = sys.argv[1] if len(sys.argv) > 1 else tempfile.mkdtemp(prefix="fraction_speed")
-    crate = build(folder)
-    binary = os.path.join(folder, "speed_c")
-    subprocess.run(["gcc", "-O2", "-o", binary, os.path.join(HERE, "speed.c")], check=True)
-    ours, theirs = rows(output(["rt", "run"], crate)), rows(output([binary], folder))
-    print("%-8s %5s %10s %10s %6s" % ("call", "bits", "ours ns", "C ns", "ratio"))
-    for key in theirs:
-        if ours[key][1] != theirs[key][1]:
+def main() -> None:
+    options = argparse.ArgumentParser(description=__doc__, formatter_class=argparse.RawDescriptionHelpFormatter)
+    options.add_argument("--bits", type=lambda text: [int(bits) for bits in text.split(",")], default=[20, 60])
+    given = options.parse_args()
+    program = programs.built_copy("fraction_speed", "fractions/speed.rt.txt", ["plan_base", "fractions"])
+    peer = programs.compiled("fractions/speed.c", "fraction_speed_c")
+    ours, theirs = rows(programs.well([program]).said), rows(programs.well([peer]).said) if peer else {}
+    for key, (mine, result) in ours.items():
+        call, bits = key
+        what = "%s of fractions of %d bits" % (CALLS[call], bits)
+        if not peer:
+            print("%-40s %10.1f ns" % (what, mine))
+            if bits in given.bits:
+                tell(without_peer(what, [mine / 1e9], "gcc"))
+            continue
+        its, its_result = theirs[key]
+        if result != its_result:
             sys.exit("%s at %d bits: the results differ" % key)
-        print("%-8s %5d %10.1f %10.1f %6.2f" % (key[0], key[1], ours[key][0], theirs[key][0], ours[key][0] / theirs[key][0]))
+        print("%-40s %10.1f ns, C %10.1f ns" % (what, mine, its))
+        if bits in given.bits:
+            tell(beside(what, [mine / 1e9], "C", [its / 1e9], "gcc's __int128, the same steps; nothing is read"))
 
 
 main()

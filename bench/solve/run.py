@@ -1,25 +1,29 @@
-"""Times the solver on random tables like those of factories, beside `glpsol --exact` on the same table.
+#!/usr/bin/env python3
+"""Times the solver on random tables like those of factories, beside glpsol on the same table, in processor time.
 
-    apt-get update && apt-get install glpk-utils
-    (cd ../../crates/solve_tables && rt run < stdin > /dev/null)      builds out/solve_tables
-    python3 run.py [SIZE ..]
+    bench/solve/run.py [--rounds N] [SIZE ..]      10, 30, 100 and 200 rows where nothing is named
 
-For each table it prints how many exchanges the solver makes, the time that it takes, and the time of both processes, the
-best of three. The costs have to agree in every digit that glpsol prints.
+The solver is the program of crates/solve_tables, the peer Debian's glpk-utils: `glpsol --exact`, and glpsol with floating point. All are whole
+processes that read the table in text, the least of the rounds. For each table it also prints how many exchanges the solver makes and the time that
+it takes of the process. The costs have to agree in every digit that glpsol prints.
 """
+import argparse
+import os
 import random
 import re
-import subprocess
+import shutil
 import sys
-import tempfile
-import time
 from fractions import Fraction
-from pathlib import Path
+from typing import List
 
-from reference import text
+sys.dont_write_bytecode = True
+sys.path.insert(1, os.path.join(sys.path[0], ".."))
+import programs  # noqa: E402
+from reference import text  # noqa: E402
+from table import beside, tell, without_peer  # noqa: E402
 
-SOLVER = Path(__file__).resolve().parents[2] / "crates/solve_tables/out/solve_tables"
 SEEDS = (1, 2, 3)
+PEERS = [("`glpsol --exact`", ["--exact"]), ("`glpsol` (floating point)", [])]
 
 
 def factory(rows, seed):
@@ -69,64 +73,84 @@ def linear_program(table):
     return "\n".join(lines + ["end", ""])
 
 
-def ours(table, budget):
-    stdin = text((budget,) + table)
-    best = None
-    for _ in range(3):
-        begin = time.perf_counter()
-        out = subprocess.run([SOLVER, "time"], input=stdin, capture_output=True, text=True, check=True).stdout
-        wall = time.perf_counter() - begin
-        best = min(best or wall, wall)
-    kind, cost, nanoseconds = out.split()
-    return kind, cost, int(nanoseconds) / 1e9, best
+def solved(table, budget):
+    """The solver's run on a table with a budget, and its words: the kind of the answer, the cost and the nanoseconds."""
+    ran = programs.well([programs.program("solve_tables"), "time"], programs.written("table.txt", text((budget,) + table)))
+    return ran, ran.said.split()
 
 
 def exchanges(table):
     """The least budget that is enough."""
     high = 1
-    while ours(table, high)[0] == "out":
+    while solved(table, high)[1][0] == "out":
         high *= 2
     low = high // 2
     while low + 1 < high:
         middle = (low + high) // 2
-        low, high = (middle, high) if ours(table, middle)[0] == "out" else (low, middle)
+        low, high = (middle, high) if solved(table, middle)[1][0] == "out" else (low, middle)
     return high
 
 
-def theirs(table):
-    with tempfile.TemporaryDirectory() as folder:
-        program, result = Path(folder, "t.lp"), Path(folder, "t.txt")
-        program.write_text(linear_program(table))
-        best = None
-        for _ in range(3):
-            begin = time.perf_counter()
-            subprocess.run(["glpsol", "--exact", "--lp", program, "-o", result], capture_output=True, check=True)
-            wall = time.perf_counter() - begin
-            best = min(best or wall, wall)
-        found = result.read_text()
+def answer_of(result):
+    """The kind of an answer of glpsol, and its cost."""
+    found = result.read_text()
     if "UNDEFINED" in found or "INFEASIBLE" in found:
-        return "infeasible", "0", best
-    return "plan", re.search(r"Objective:\s+cost = (\S+)", found).group(1), best
+        return "infeasible", "0"
+    return "plan", re.search(r"Objective:\s+cost = (\S+)", found).group(1)
 
 
 def agree(cost, printed):
-    digits = len(re.sub(r"e.*|[-.]|^0+", "", printed)) or 1
-    return "%.*g" % (max(digits, 9), Fraction(cost)) == "%.*g" % (max(digits, 9), Fraction(printed))
+    """Whether a cost is what glpsol printed, in each of its digits."""
+    digits = max(9, len(re.sub(r"e.*|[-.]|^0+", "", printed)))
+    return "%.*g" % (digits, Fraction(cost)) == "%.*g" % (digits, Fraction(printed))
 
 
-def main(sizes):
-    print("rows seed goods columns answer exchanges ms us/exchange process_ms glpsol_ms ratio")
-    for size in sizes:
-        for seed in SEEDS:
-            table = factory(size, seed)
-            kind, cost, seconds, wall = ours(table, 1000000)
-            other, printed, their_wall = theirs(table)
-            if kind in ("plan", "infeasible"):
-                assert kind == other and (kind != "plan" or agree(cost, printed)), (kind, cost, other, printed)
-            count = exchanges(table)
-            print(size, seed, len(table[0]), len(table[1]), kind, count, "%.2f" % (seconds * 1e3),
-                  "%.1f" % (seconds * 1e6 / max(1, count)), "%.1f" % (wall * 1e3), "%.1f" % (their_wall * 1e3),
-                  "%.2f" % (their_wall / wall), flush=True)
+def measured(size: int, rounds: int) -> None:
+    """Tells what the tables of a size take."""
+    ours: List[float] = []
+    theirs: List[List[float]] = [[] for _ in PEERS]
+    kinds = []
+    has_peer = shutil.which("glpsol")
+    for seed in SEEDS:
+        table = factory(size, seed)
+        program, result = programs.written("table.lp", linear_program(table)), programs.scratch() / "result.txt"
+        runs: List[list] = [[] for _ in PEERS]
+        mine = []
+        for _ in range(rounds):
+            mine.append(solved(table, 1000000))
+            for (_, words), each in zip(PEERS, runs if has_peer else []):
+                each.append(programs.well(["glpsol", *words, "--lp", program]))
+        kind, cost, nanoseconds = mine[-1][1]
+        if has_peer:
+            programs.well(["glpsol", "--exact", "--lp", program, "-o", result])
+            other, printed = answer_of(result)
+            if kind in ("plan", "infeasible") and (kind != other or kind == "plan" and not agree(cost, printed)):
+                sys.exit("the answers differ: %s %s and %s %s" % (kind, cost, other, printed))
+            for each, spent in zip(runs, theirs):
+                spent.append(programs.least(each))
+        kinds.append(kind)
+        ours.append(min(ran.seconds for ran, _ in mine))
+        count = exchanges(table)
+        print("%d rows, seed %d: %d goods, %d columns, %s after %d exchanges, %.1f us each; the process %.2f ms; glpsol %s" % (
+            size, seed, len(table[0]), len(table[1]), kind, count, min(int(words[2]) for _, words in mine) / 1e3 / max(1, count), ours[-1] * 1e3,
+            ", ".join("%.2f ms" % (spent[-1] * 1e3) for spent in theirs if spent)), flush=True)
+    kinds = sorted(set(kinds))
+    what = "%d random tables of %d rows (%s)" % (len(SEEDS), size, ", ".join(kinds))
+    if not has_peer:
+        tell(without_peer(what, ours, "glpk-utils"))
+        return
+    for (name, _), spent in zip(PEERS, theirs):
+        tell(beside(what, ours, name, spent, "a whole process, which reads the table, as ours"))
 
 
-main([int(x) for x in sys.argv[1:]] or [10, 30, 100, 300])
+def main() -> None:
+    options = argparse.ArgumentParser(description=__doc__, formatter_class=argparse.RawDescriptionHelpFormatter)
+    options.add_argument("--rounds", type=int, default=5)
+    options.add_argument("sizes", type=int, nargs="*", default=[10, 30, 100, 200])
+    given = options.parse_args()
+    for size in given.sizes:
+        measured(size, given.rounds)
+
+
+if __name__ == "__main__":
+    main()

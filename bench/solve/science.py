@@ -1,42 +1,35 @@
-"""Times one large table: the science of the example's game, each recipe of it plain, and full of each of
-two productivity modules.
+#!/usr/bin/env python3
+"""Times one large table: the science of the example's game, each recipe of it plain, and full of each of two productivity modules.
 
-    apt-get update && apt-get install glpk-utils
-    (cd ../../crates/factoplan && rt run > /dev/null)      builds out/factoplan
-    python3 science.py [PROGRAM]
+    bench/solve/science.py [--rounds N] [--program PROGRAM]
 
-It prints the rows and goods of the table, the processor time of a whole run with the table and of one that only reads
-the dump, and that of `glpsol --exact` on the same table: the least of 45 each, in turns, and the median of the turns'
-ratios. The costs have to agree in every digit that glpsol prints.
-
-    (cd ../../crates/solve_tables && rt run < stdin > /dev/null)      builds out/solve_tables
-    python3 science.py linear [SOLVE_TABLES]
-
-times the table in its linear form alone, as `solve_tables` reads it, beside `glpsol --exact` in the same way.
+The table in its linear form, as the program of crates/solve_tables reads it, and the table as rows of a script, beside glpsol on the same linear
+form (Debian's glpk-utils): `glpsol --exact`, and glpsol with floating point. Processor times of whole processes, which run in turns; of the run of
+the script what a run over an empty script takes is left out. The figures are the least of the rounds, 45 where no number is named, and the ratio is the
+median of the rounds' ratios. The costs have to agree in every digit that glpsol prints.
 """
+import argparse
 import json
 import os
 import re
-import subprocess
+import shutil
 import sys
-import tempfile
 from fractions import Fraction
-from pathlib import Path
 from statistics import median
 
-from reference import text
+sys.dont_write_bytecode = True
+sys.path.insert(1, os.path.join(sys.path[0], ".."))
+import programs  # noqa: E402
+from reference import text  # noqa: E402
+from run import agree, PEERS  # noqa: E402
+from table import beside, ratio, tell, without_peer  # noqa: E402
 
-HERE = Path(__file__).resolve().parent
-TOP = HERE.parent.parent
-DUMP = TOP / "examples" / "factory.json"
-PROGRAM = TOP / "crates" / "factoplan" / "out" / "factoplan"
-SOLVE_TABLES = TOP / "crates" / "solve_tables" / "out" / "solve_tables"
+DUMP = programs.TOP / "examples" / "factory.json"
 ITEMS = ["item", "tool", "module", "ammo", "gun", "armor", "capsule", "repair-tool", "rail-planner"]
 PACKS = ["automation", "logistic", "military", "chemical", "production", "utility"]
 PRICES = {"item:iron-ore": "1", "item:copper-ore": "1", "item:coal": "1/2", "item:stone": "1/3", "item:wood": "2",
           "item:uranium-ore": "5", "fluid:crude-oil": "1/10", "fluid:water": "1/1000"}
 MODULES = ["productivity-module", "productivity-module-3"]
-ROUNDS = 45
 
 
 def part(entry):
@@ -139,78 +132,52 @@ class Science:
         return "\n".join(lines + ["end", ""])
 
 
-def once(words, given):
-    """The processor time of a program in milliseconds, and what it printed."""
-    with open(given) as source:
-        child = subprocess.Popen(words, stdin=source, stdout=subprocess.PIPE, text=True)
-    printed = child.stdout.read()
-    _, status, usage = os.wait4(child.pid, 0)
-    if status != 0:
-        sys.exit("%s: status %d\n%s" % (words[0], os.waitstatus_to_exitcode(status), printed))
-    return 1000 * (usage.ru_utime + usage.ru_stime), printed
-
-
-def spent(*programs):
-    """For each program, as its words and its input, the times of all rounds, and what it printed. They run in turns, since the speed of a
-    machine that does other work changes."""
-    turns = [[once(*program) for program in programs] for _ in range(ROUNDS)]
-    return [([time for time, _ in each], each[-1][1]) for each in zip(*turns)]
-
-
-def agree(cost, printed):
-    digits = len(re.sub(r"e.*|[-.]|^0+", "", printed)) or 1
-    return "%.*g" % (digits, Fraction(cost)) == "%.*g" % (digits, Fraction(printed))
-
-
-def peer(folder, science):
-    """The words that run glpsol on the table, and the cost that it finds."""
-    linear, result = Path(folder, "science.lp"), Path(folder, "result.txt")
-    linear.write_text(science.linear_program())
-    words = ["glpsol", "--exact", "--lp", linear]
-    subprocess.run([*words, "-o", result], stdout=subprocess.DEVNULL, check=True)
-    return words, re.search(r"Objective:\s+cost = (\S+)", result.read_text()).group(1)
-
-
-def compare(science, cost, report, printed):
+def cost_of(pattern, said, printed):
+    """The cost that a program printed, which must be glpsol's where that is there."""
+    cost = re.search(pattern, said, re.M)
     if not cost:
-        sys.exit(report)
-    if not agree(cost.group(1), printed):
+        sys.exit(said)
+    if printed and not agree(cost.group(1), printed):
         sys.exit("the costs differ: %s and %s" % (cost.group(1), printed))
-    print("%d rows, %d goods, cost %s" % (len(science.rows), len(science.goods()), cost.group(1)))
+    return cost.group(1)
 
 
-def whole(science, program):
-    with tempfile.TemporaryDirectory() as folder:
-        script, empty = Path(folder, "science.txt"), Path(folder, "nothing.txt")
-        script.write_text(science.script())
-        empty.write_text("")
-        words, printed = peer(folder, science)
-        (ours, report), (reading, _), (theirs, _) = spent(
-            ([program, "run", DUMP, script], os.devnull), ([program, "run", DUMP, empty], os.devnull), (words, os.devnull))
-    compare(science, re.search(r"^\d+ plan science cost (\S+)", report, re.M), report, printed)
-    beyond = [with_table - without for with_table, without in zip(ours, reading)]
-    print("factoplan: %.1f ms, of which reading %.1f; glpsol --exact: %.1f ms; beyond reading, median of the turns: %.2f of glpsol's" % (
-        min(ours), min(reading), min(theirs), median(x / y for x, y in zip(beyond, theirs))))
-
-
-def linear(science, program):
-    with tempfile.TemporaryDirectory() as folder:
-        table = Path(folder, "science.txt")
-        table.write_text(science.linear_table())
-        words, printed = peer(folder, science)
-        (ours, report), (theirs, _) = spent(([program], table), (words, os.devnull))
-    compare(science, re.search(r"^plan (\S+)", report), report, printed)
-    print("solve_tables: %.1f ms; glpsol --exact: %.1f ms; median of the turns: %.2f of glpsol's" % (
-        min(ours), min(theirs), median(x / y for x, y in zip(ours, theirs))))
-
-
-def main(words):
+def main() -> None:
+    options = argparse.ArgumentParser(description=__doc__, formatter_class=argparse.RawDescriptionHelpFormatter)
+    options.add_argument("--rounds", type=int, default=45)
+    options.add_argument("--program")
+    given = options.parse_args()
     science = Science(json.loads(DUMP.read_text()))
-    if words[:1] == ["linear"]:
-        linear(science, words[1] if len(words) > 1 else SOLVE_TABLES)
-    else:
-        whole(science, words[0] if words else PROGRAM)
+    planner, solver = given.program or programs.program("factoplan"), programs.program("solve_tables")
+    script, empty = programs.written("science.txt", science.script()), programs.written("empty.txt", "")
+    table, linear = programs.written("table.txt", science.linear_table()), programs.written("science.lp", science.linear_program())
+    printed = None
+    if shutil.which("glpsol"):
+        result = programs.scratch() / "result.txt"
+        programs.well(["glpsol", "--exact", "--lp", linear, "-o", result])
+        printed = re.search(r"Objective:\s+cost = (\S+)", result.read_text()).group(1)
+    plans, loads, linears, theirs = [], [], [], [[] for _ in PEERS]
+    for _ in range(given.rounds):
+        plans.append(programs.well([planner, "run", DUMP, script]))
+        loads.append(programs.well([planner, "run", DUMP, empty]))
+        linears.append(programs.well([solver], table))
+        for (_, words), runs in zip(PEERS, theirs if printed else []):
+            runs.append(programs.well(["glpsol", *words, "--lp", linear]))
+    cost = cost_of(r"^\d+ plan science cost (\S+)", plans[-1].said, printed)
+    cost_of(r"^plan (\S+)", linears[-1].said, printed)
+    print("%d rows, %d goods, cost %s" % (len(science.rows), len(science.goods()), cost))
+    beyond = [plan.seconds - load.seconds for plan, load in zip(plans, loads)]
+    for what, ours, holds in [
+        ("in its linear form", [ran.seconds for ran in linears], "a whole process, which reads the table, as ours"),
+        ("as rows of a script, without the reading of the dump", beyond, "a whole process, which reads the table in its linear form"),
+    ]:
+        what = "the science of the example's game, %d rows, %s" % (len(science.rows), what)
+        if not printed:
+            tell(without_peer(what, [min(ours)], "glpk-utils"))
+        for (name, _), runs in zip(PEERS, theirs if printed else []):
+            figure = beside(what, [min(ours)], name, [programs.least(runs)], holds)
+            tell(figure._replace(ratio=ratio(median(our / ran.seconds for our, ran in zip(ours, runs)))))
 
 
 if __name__ == "__main__":
-    main(sys.argv[1:])
+    main()

@@ -2,9 +2,10 @@
 use Rattle.std.proofs.Common.{◌≡◌, ◌≤◌, ◌+◌, ◌++◌, ◌∷◌, [], ℕ, suc, Bool, true, false, not, List, length, ap, sym, subst, refl, ◌∙◌, map, arith}
 use Rattle.std.specs.Prelude.{◌==◌, if◌then◌else◌, Option, Some, None, slice_get, ◌-◌}
 use Rattle.std.proofs.lemmas.List.{map-append, length-append}
+use Rattle.std.proofs.lemmas.Bool.{not-false, not-true}
 use native.Mathlib.Numerals.{unary_clauses}
 use Rattle.planner_core.specs.Lines.{Planned}
-use Rattle.script_runner.specs.Lines.{cut_lines, lines_of, onto_first, without_return}
+use Rattle.script_lines.specs.Lines.{cut_lines, lines_of, onto_first, without_return}
 use Rattle.carried_lines.specs.Leading.{Accepted, Continues, LeadsToPlan, ends_within, joined}
 use Rattle.carried_lines.specs.declared.stepping.Progress.{Progress}
 use Rattle.carried_lines.proofs.LeadingLemmas.{accepted_start}
@@ -46,24 +47,16 @@ some_lines byte rest none t = by_test (byte == 10) (cut_lines rest) none
     by_test false [] none = cc
     by_test false (line ∷ lines) none = cc
 
-one_newline : (b : Bool) → not b ≡ false → b ≡ true
-one_newline true is = refl
-one_newline false is = cc
-
 cut_append : (text more : List ℕ) → ends_within text ≡ false → cut_lines (text ++ more) ≡ cut_lines text ++ cut_lines more
 cut_append [] more ends = refl
-cut_append (byte ∷ []) more ends = cut_byte byte [] (cut_lines more) (λ none. one_newline (byte == 10) ends)
+cut_append (byte ∷ []) more ends = cut_byte byte [] (cut_lines more) (λ none. not-false (byte == 10) ends)
 cut_append (byte ∷ next ∷ rest) more ends =
     ap (λ l. if byte == 10 then [] ∷ l else onto_first byte l) (cut_append (next ∷ rest) more ends)
     ∙ cut_byte byte (cut_lines (next ∷ rest)) (cut_lines more) (λ none. some_lines next rest none (byte == 10))
 
-one_open : (b : Bool) → not b ≡ true → b ≡ false
-one_open true is = cc
-one_open false is = refl
-
 cut_newline : (text : List ℕ) → ends_within text ≡ true → cut_lines (text ++ 10 ∷ []) ≡ cut_lines text
 cut_newline [] ends = cc
-cut_newline (byte ∷ []) ends = rw (one_open (byte == 10) ends) refl
+cut_newline (byte ∷ []) ends = rw (not-true (byte == 10) ends) refl
 cut_newline (byte ∷ next ∷ rest) ends = ap (λ l. if byte == 10 then [] ∷ l else onto_first byte l) (cut_newline (next ∷ rest) ends)
 
 pub lines_of_joined : (script lines : List ℕ) → lines_of (joined script lines) ≡ lines_of script ++ lines_of lines

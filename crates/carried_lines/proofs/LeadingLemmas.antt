@@ -4,7 +4,7 @@ use Rattle.std.specs.Prelude.{◌||◌}
 use Rattle.std.proofs.lemmas.List.{append_assoc, length-append}
 use Rattle.planner_core.specs.Lines.{IsSessionOf, Planned}
 use Rattle.plan_report.specs.declared.reply.Reply.{Reply}
-use Rattle.script_runner.specs.Lines.{lines_of}
+use Rattle.script_lines.specs.Lines.{lines_of}
 use Rattle.script_reader.specs.Lines.{command_of_line}
 use Rattle.script_runner.specs.Answers.{Answered, IsReply, Reading, is_refusal, is_refusal_reply, solved_in}
 use Rattle.script_runner.specs.Sessions.{IsSession}
@@ -83,14 +83,6 @@ so_far_next {old} {now} {script} {rest} {before} {done} so line more next later 
   goes = λ first lines accepted. subst (λ l. Accepted first l later next) (append_assoc lines so.answered (line ∷ []))
       (accepted_more first (lines ++ so.answered) done later line now next (so.goes first lines accepted) seen count);
 }
-
--- a line is left, so that not all are answered
-pub so_far_room : {old now : Planned} {script rest : List ℕ} {before done : Progress} → (so : SoFar old script rest before now done) → (line more : List ℕ)
-    → lines_of rest ≡ line ∷ lines_of more → done.count + 1 ≤ before.count + length (lines_of script)
-so_far_room {script = script} {rest = rest} so line more is =
-    let long : length (so.answered ++ lines_of rest) ≡ length (lines_of script) = ap length so.left in
-    let some : length (lines_of rest) ≡ length (line ∷ lines_of more) = ap length is in
-    omega (arith, long, some, so.counted, length-append so.answered (lines_of rest))
 
 answers_all : {old now : Planned} {script rest : List ℕ} {before done : Progress} → (so : SoFar old script rest before now done) → lines_of rest ≡ [] → so.answered ≡ lines_of script
 answers_all so none = sym (append-nil so.answered) ∙ (ap (λ l. so.answered ++ l) (sym none) ∙ so.left)

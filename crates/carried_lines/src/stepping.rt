@@ -3,7 +3,7 @@ ghost use Rattle.std.specs.Prelude.{◌≡◌, ◌≤◌, ◌+◌, IfOk, IfSome,
 ghost use Rattle.game_types.specs.Sound.{IsSound};
 ghost use Rattle.state_changes.specs.States.{State};
 ghost use Rattle.planner_core.specs.Lines.{IsSessionOf};
-ghost use Rattle.script_runner.specs.Lines.{lines_of};
+ghost use Rattle.script_lines.specs.Lines.{lines_of};
 ghost use Rattle.script_runner.specs.Answers.{is_refusal_reply, solved_in};
 ghost use Rattle.carried_lines.specs.Leading.{is_plan, AnswersSo, Continues, TellsReply};
 
@@ -12,7 +12,8 @@ use linear_table::SolveAnswer;
 use plan_base::{NoMemory, Steps};
 use plan_report::{Reply, print_reply};
 use planner_core::Planner;
-use script_runner::{is_refusal, reading_of, reply_to, split_line, trim_return};
+use script_lines::Lines;
+use script_runner::{is_refusal, reading_of, reply_to};
 use std::alloc::Global;
 
 /// How far a planner has come with the lines of a script: how many it has answered, and whether the last was answered by a plan.
@@ -132,18 +133,15 @@ pub fn step_lines<L>(
     ensures counted { IfOk result (λ stepped. IfSome stepped (λ done. done.count ≡ before.count + length (lines_of lines.now))) }
     ensures history { (base : State) → IsSessionOf base planner.old → IsSessionOf base planner.new }
 {
-    let mut rest = lines;
+    let mut left = Lines::behind(before.count, lines);
     let mut done = before;
-    while !rest.is_empty() {
-        let (line, more) = split_line(rest);
-        let number = done.count + 1;
-        let seen = seen_line(alloc, planner, number, trim_return(line), what, said, steps)?;
+    while let Some(line) = left.next() {
+        let seen = seen_line(alloc, planner, line.number, line.bytes, what, said, steps)?;
         if seen.refused {
             return Ok(None);
         }
-        rest = more;
         done = Progress {
-            count: number,
+            count: line.number,
             planned: seen.planned,
         };
     }

@@ -1,17 +1,11 @@
 -- Lists of values, written one by one.
-use Rattle.std.proofs.Common.{◌≡◌, ◌∙◌, ◌<◌, ◌≤◌, ◌+◌, ℕ, List, [], ◌∷◌, ◌++◌, length, drop, get_or, refl, sym, ap, ap₂, append_assoc, append-nil, arith, drop-cons, add-one}
-use Rattle.std.proofs.lemmas.Grind.{common_steps}
+use Rattle.std.proofs.Common.{◌≡◌, ◌∙◌, ◌<◌, ◌≤◌, ◌+◌, ℕ, List, [], ◌∷◌, ◌++◌, length, drop, get_or, refl, sym, ap, ap₂, append_assoc, append-nil}
 use Rattle.std.specs.Prelude.{Bool, true, false, ◌==◌}
+use Rattle.plan_base.proofs.Walks.{next, drop_all}
 use Rattle.serde_json.specs.Data.{array, Data, Items, item, Members, put}
 use Rattle.serde_json.specs.View.{items_view, view}
 use Rattle.serde_json.specs.declared.value.Value.{Value}
 use Rattle.catalog_members.specs.Members.{items_tree, with_items}
-
-pub next : {X : Type 0} (xs : List X) (k : ℕ) (x : X) → k < length xs → x ≡ get_or xs k x → drop k xs ≡ x ∷ drop (k + 1) xs
-next xs k x within is = drop-cons xs k x within ∙ ap (λ j. get_or xs k x ∷ drop j xs) (sym (add-one k)) ∙ ap (λ y. y ∷ drop (k + 1) xs) (sym is)
-
-pub drop_all : {X : Type 0} (xs : List X) (k : ℕ) → length xs ≤ k → drop k xs ≡ []
-drop_all xs k end = grind (arith, common_steps)
 
 -- so much was written of a list: what the rest is written as stands behind that
 pub record WroteSoFar {A : Type 0} (tree : A → Data) (xs : List A) (k : ℕ) (written : List Value) : Type 0 where

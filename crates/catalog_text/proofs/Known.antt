@@ -13,7 +13,7 @@ use Rattle.depend_index.specs.declared.index.Index.{Index}
 use Rattle.state_changes.specs.States.{State}
 use Rattle.planning_state.specs.Worlds.{rank_of}
 use Rattle.planner_questions.specs.Told.{mask_of, places_of}
-use Rattle.shown_fields.specs.declared.shown.Shown.{Shown}
+use Rattle.catalog_text.specs.declared.fields.Shown.{Shown}
 use Rattle.serde_json.specs.Data.{Data}
 use Rattle.catalog_members.specs.Texts.{IsTextOf}
 use Rattle.catalog_things.specs.Nodes.{thing_node}

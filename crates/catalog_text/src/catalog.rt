@@ -15,16 +15,16 @@ ghost use Rattle.catalog_things.specs.Nodes.{thing_node};
 ghost use Rattle.catalog_text.specs.Catalog.{AreSources, IsCatalog, WritesBack, WritesFront, WritesSection, WritesThing, WritesThings, list_text, names, with_commas};
 ghost use Rattle.catalog_text.specs.Things.{IsThing, IsThingText};
 
+use crate::fields::{ShownFields, shown_of};
 use crate::things::{Thing, thing_text};
 use catalog_members::id_text;
 use catalog_things::thing_node;
 use depend_index::Index;
 use game_types::Game;
-use plan_base::{Kind, NoMemory, NodeId, Shape, Steps};
+use plan_base::{Kind, NoMemory, NodeId, Steps};
 use planner_core::Planner;
 use planner_questions::{mask_of, milestones_of, places_of, rank_of};
 use serde_json::Value;
-use shown_fields::{ShownFields, shown_of};
 use std::alloc::Global;
 
 /// What a catalog is written from, beside the planner.
@@ -33,21 +33,6 @@ struct Sources<'a> {
     index: &'a Index,
     milestones: &'a [NodeId],
     shown: &'a ShownFields,
-}
-
-// How many things of a kind there are.
-fn count_of(shape: &Shape, kind: Kind) -> u32
-    ensures { result ≡ count_of shape.now kind }
-{
-    match kind {
-        Kind::Special => 3,
-        Kind::Item => shape.items,
-        Kind::Fluid => shape.fluids,
-        Kind::Recipe => shape.recipes,
-        Kind::Source => shape.sources,
-        Kind::Machine => shape.machines,
-        Kind::Tech => shape.techs,
-    }
 }
 
 // The places of the milestones without which a node isn't reached.
@@ -202,7 +187,7 @@ fn write_section<L>(
     ensures stays { planner.new ≡ planner.old }
     ensures written { OnOk result (WritesSection planner.old.state sources.now.index.now head.now kind (string_bytes text.old) (string_bytes text.new)) }
 {
-    let count = count_of(&planner.game().shape(), kind);
+    let count = planner.game().shape().count_of(kind);
     text.push_str(head)?;
     text.push_str("[")?;
     write_things(alloc, planner, sources, kind, count, text, steps)?;

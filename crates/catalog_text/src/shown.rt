@@ -4,9 +4,9 @@ ghost use Rattle.std.specs.Option.{option_copied};
 ghost use Rattle.serde_json.specs.View.{members_view};
 ghost use Rattle.catalog_text.specs.Things.{with_shown, with_shown_where};
 
+use crate::fields::Shown;
 use catalog_members::{Members, put_amount_where, put_true, put_words};
 use plan_base::NoMemory;
-use shown_fields::Shown;
 use std::alloc::Global;
 
 // Puts what is shown of a thing.

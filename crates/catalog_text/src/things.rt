@@ -9,6 +9,7 @@ ghost use Rattle.catalog_things.specs.Ways.{with_recipe, with_source, with_tech}
 ghost use Rattle.catalog_things.specs.Machines.{with_machine};
 ghost use Rattle.catalog_text.specs.Things.{thing_value, with_fluid_where, with_head, with_item_where, with_kind};
 
+use crate::fields::Shown;
 use crate::shown::put_shown_where;
 use catalog_members::{Members, put_count, put_id, put_places, text_of};
 use catalog_things::{
@@ -18,7 +19,6 @@ use depend_index::Index;
 use game_types::Game;
 use plan_base::{EntityId, GoodId, Kind, NoMemory, NodeId, RecipeId, SourceId, TechId};
 use serde_json::Map;
-use shown_fields::Shown;
 use std::alloc::Global;
 
 /// A thing: its kind and its number among those, its node, at which rank it is reached and without which milestones it isn't.

@@ -20,7 +20,7 @@ use Rattle.node_lists.specs.Members.{those}
 use Rattle.depend_index.specs.Goods.{first_machine, putters, variants}
 use Rattle.serde_json.specs.Data.{Members, no_members}
 use Rattle.catalog_members.specs.Members.{with_amount, with_id_where, with_ids, with_object}
-use Rattle.row_choices.specs.Choices.{machines_for}
+use Rattle.catalog_things.specs.Choices.{machines_for}
 use Rattle.catalog_things.specs.Nodes.{good_node, thing_node}
 use Rattle.catalog_things.specs.Parts.{with_products, with_unless_zero}
 

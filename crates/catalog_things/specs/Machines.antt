@@ -17,7 +17,7 @@ use Rattle.game_types.specs.Lookups.{machine_at}
 use Rattle.depend_index.specs.Machines.{placers}
 use Rattle.serde_json.specs.Data.{Members}
 use Rattle.catalog_members.specs.Members.{with_amount, with_amount_where, with_count, with_id_where, with_ids, with_text, with_words}
-use Rattle.row_choices.specs.Choices.{fuels_of, modules_of}
+use Rattle.catalog_things.specs.Choices.{fuels_of, modules_of}
 use Rattle.catalog_things.specs.Goods.{good_node_where}
 use Rattle.catalog_things.specs.Nodes.{good_node, thing_node}
 use Rattle.catalog_things.specs.Parts.{with_unless_zero}

@@ -15,7 +15,7 @@ use Rattle.game_types.specs.Steps.{◌▸◌, subtracted}
 use Rattle.depend_index.specs.declared.index.Index.{Index}
 use Rattle.serde_json.specs.Data.{Data, Members, no_members, object}
 use Rattle.catalog_members.specs.Members.{items_tree, with_amount, with_amount_where, with_id, with_ids, with_items, with_text}
-use Rattle.row_choices.specs.Choices.{fits_of}
+use Rattle.catalog_things.specs.Choices.{fits_of}
 use Rattle.catalog_things.specs.Nodes.{good_node}
 
 -- ---- amounts

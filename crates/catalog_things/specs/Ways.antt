@@ -19,7 +19,7 @@ use Rattle.depend_index.specs.declared.index.Index.{Index}
 use Rattle.depend_index.specs.Goods.{unlockers}
 use Rattle.serde_json.specs.Data.{Members}
 use Rattle.catalog_members.specs.Members.{with_amount, with_amount_where, with_ids, with_true}
-use Rattle.row_choices.specs.Choices.{machines_for}
+use Rattle.catalog_things.specs.Choices.{machines_for}
 use Rattle.catalog_things.specs.Goods.{recipe_nodes}
 use Rattle.catalog_things.specs.Nodes.{thing_node}
 use Rattle.catalog_things.specs.Parts.{with_goods, with_parts, with_products, with_unless_one}

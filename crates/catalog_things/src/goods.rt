@@ -6,6 +6,7 @@ ghost use Rattle.depend_index.specs.Indexed.{IsIndex};
 ghost use Rattle.serde_json.specs.View.{members_view};
 ghost use Rattle.catalog_things.specs.Goods.{good_node_where, machine_node_where, makes_heat, reactors, special_makers, with_bonus, with_fluid, with_fluid_fuel, with_fuel, with_fuel_members, with_heat, with_hundredths, with_item, with_module, with_module_members, with_special};
 
+use crate::doers::machines_for;
 use crate::nodes::{good_node, thing_node};
 use crate::parts::{put_products, put_unless_zero};
 use crate::techs::recipe_nodes;
@@ -15,7 +16,6 @@ use fractions::{Ratio, is_zero};
 use game_types::{Activity, Bonus, Fluid, Fuel, Game, Item, Machine, MachineKind, Module};
 use node_lists::{Test, list_of, those};
 use plan_base::{EntityId, GoodId, Kind, NoMemory, NodeId};
-use row_choices::machines_for;
 use serde_json::Map;
 use std::alloc::Global;
 

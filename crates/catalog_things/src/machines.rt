@@ -8,6 +8,7 @@ ghost use Rattle.catalog_things.specs.Machines.{distribution_of, effect_words, e
 
 use crate::goods::good_node_where;
 use crate::nodes::{good_node, thing_node};
+use crate::offers::{fuels_of, modules_of};
 use crate::parts::put_unless_zero;
 use catalog_members::{
     Members, put_amount, put_amount_where, put_count, put_id_where, put_ids, put_text, put_words,
@@ -17,7 +18,6 @@ use fractions::Ratio;
 use game_types::{Allowed, Energy, Game, Machine, MachineKind};
 use node_lists::list_of;
 use plan_base::{EntityId, GoodId, Kind, NoMemory, NodeId, RecipeId, Text};
-use row_choices::{fuels_of, modules_of};
 use std::alloc::Global;
 
 #[tactic(auto, unfolding(crate::specs::Machines::kind_name))]

@@ -1,26 +1,11 @@
 //! The nodes of things by their kinds and numbers.
 ghost use Rattle.std.specs.Prelude.{◌≡◌, ◌-◌, if◌then◌else◌, nat_lt, length};
-ghost use Rattle.plan_base.specs.Shape.{count_of};
 ghost use Rattle.game_types.specs.Nodes.{shape_of};
 ghost use Rattle.game_types.specs.Sound.{IsSound};
 ghost use Rattle.catalog_things.specs.Nodes.{good_node, thing_node};
 
 use game_types::Game;
-use plan_base::{GoodId, Kind, NodeId, Shape};
-
-fn count_of(shape: &Shape, kind: Kind) -> u32
-    ensures { result ≡ count_of shape.now kind }
-{
-    match kind {
-        Kind::Special => 3,
-        Kind::Item => shape.items,
-        Kind::Fluid => shape.fluids,
-        Kind::Recipe => shape.recipes,
-        Kind::Source => shape.sources,
-        Kind::Machine => shape.machines,
-        Kind::Tech => shape.techs,
-    }
-}
+use plan_base::{GoodId, Kind, NodeId};
 
 /// The node of the thing of a kind with a number; past the last, the node behind all.
 pub fn thing_node(game: &Game, kind: Kind, number: u32) -> NodeId
@@ -28,7 +13,7 @@ pub fn thing_node(game: &Game, kind: Kind, number: u32) -> NodeId
     ensures { result ≡ thing_node game.now kind number }
 {
     let shape = game.shape();
-    if number < count_of(&shape, kind) {
+    if number < shape.count_of(kind) {
         shape.node_of(kind, number)
     } else {
         NodeId(shape.len())

@@ -6,6 +6,7 @@ ghost use Rattle.serde_json.specs.View.{items_view, members_view, view};
 ghost use Rattle.catalog_members.specs.Members.{items_tree};
 ghost use Rattle.catalog_things.specs.Parts.{free_of, good_value, is_alone, part_value, product_value, with_fits, with_good, with_goods, with_outcome, with_part, with_parts, with_product, with_products, with_range, with_unless_one, with_unless_zero, with_yield};
 
+use crate::fits::fits_of;
 use crate::nodes::good_node;
 use catalog_members::{
     Members, put_amount, put_amount_where, put_id, put_ids, put_items, put_text,
@@ -16,7 +17,6 @@ use game_types::steps::subtracted;
 use game_types::{Game, Part, Product, Wide};
 use machine_rates::yield_of;
 use plan_base::{GoodId, NoMemory, NodeId};
-use row_choices::fits_of;
 use serde_json::{Map, Value};
 use std::alloc::Global;
 

@@ -5,6 +5,7 @@ ghost use Rattle.depend_index.specs.Indexed.{IsIndex};
 ghost use Rattle.serde_json.specs.View.{members_view};
 ghost use Rattle.catalog_things.specs.Ways.{with_by, with_craft, with_marks, with_mining, with_recipe, with_source, with_source_fluid};
 
+use crate::doers::machines_for;
 use crate::makers::{character_crafts, character_mines};
 use crate::parts::{put_goods, put_parts, put_products, put_unless_one};
 use catalog_members::{Members, put_amount, put_ids, put_true};
@@ -12,7 +13,6 @@ use depend_index::{Index, techs_unlocking};
 use fractions::Ratio;
 use game_types::{Activity, Game, Recipe, Source};
 use plan_base::{GoodId, NoMemory, RecipeId, SourceId};
-use row_choices::machines_for;
 use std::alloc::Global;
 
 #[tactic(auto, unfolding(crate::specs::Ways::with_craft))]

@@ -1,18 +1,12 @@
 -- Loops that read an array or write one, value by value.
-use Rattle.std.proofs.Common.{◌≡◌, ◌∙◌, ◌<◌, ◌≤◌, ◌+◌, ℕ, List, [], ◌∷◌, ◌++◌, length, drop, get_or, sym, ap, ap₂, subst, append_assoc, append-nil, arith, drop-cons, add-one}
-use Rattle.std.proofs.lemmas.Grind.{common_steps}
+use Rattle.std.proofs.Common.{◌≡◌, ◌∙◌, ◌<◌, ◌≤◌, ◌+◌, ℕ, List, [], ◌∷◌, ◌++◌, length, drop, get_or, sym, ap, ap₂, subst, append_assoc, append-nil}
+use Rattle.plan_base.proofs.Walks.{next, drop_all}
 use Rattle.serde_json.specs.Data.{Data, Items, item}
 use Rattle.serde_json.specs.View.{items_view, view}
 use Rattle.serde_json.specs.declared.value.Value.{Value}
 use Rattle.certificate_file.specs.Said.{EachSays}
 use Rattle.certificate_file.specs.Tree.{items_tree}
 use Rattle.certificate_file.specs.Narrow.{EachIs}
-
-pub next : {X : Type 0} (xs : List X) (k : ℕ) (x : X) → k < length xs → x ≡ get_or xs k x → drop k xs ≡ x ∷ drop (k + 1) xs
-next xs k x within is = drop-cons xs k x within ∙ ap (λ j. get_or xs k x ∷ drop j xs) (sym (add-one k)) ∙ ap (λ y. y ∷ drop (k + 1) xs) (sym is)
-
-pub drop_all : {X : Type 0} (xs : List X) (k : ℕ) → length xs ≤ k → drop k xs ≡ []
-drop_all xs k end = grind (arith, common_steps)
 
 -- so much was read of the values: what the rest says stands behind that, and where the rest says nothing nor do all
 pub record ReadSoFar {A : Type 0} (Says : Data → A → Type 0) (values : List Value) (k : ℕ) (found : List A) : Type 0 where

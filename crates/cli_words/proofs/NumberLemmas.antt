@@ -4,18 +4,11 @@ use Rattle.std.specs.Prelude.{Option, Some, None, IfSome, cond}
 use Rattle.std.specs.Char.{digit_value}
 use Rattle.std.specs.Str.Parse.{AllDigits, digits_value}
 use Rattle.std.proofs.lemmas.Bool.Decides.{nat_tests}
+use Rattle.std.proofs.lemmas.Bool.{and_from, and_parts}
 use Rattle.fractions.specs.Split.{is_whole}
 use Rattle.fractions.proofs.Grammar.{whole_sound, whole_found}
 use Rattle.script_reader.specs.Fields.{WritesCount}
 use Rattle.cli_words.specs.Words.{are_digits, number_in}
-
-both : (a b : Bool) → (a && b) ≡ true → (a ≡ true) × (b ≡ true)
-both true b e = (refl, e)
-both false b e = let never : ⊥ = cc (e) in absurd never
-
-of_both : (a b : Bool) → a ≡ true → b ≡ true → (a && b) ≡ true
-of_both true b e f = f
-of_both false b e f = e
 
 below : (a b : ℕ) → nat_lt a b ≡ true → a < b
 below a b e = grind (arith, nat_tests, e)
@@ -32,21 +25,21 @@ is_within a b e = grind (arith, nat_tests, e)
 digits_all : (word : List ℕ) → are_digits word ≡ true → AllDigits 10 word
 digits_all [] e = tt
 digits_all (byte ∷ bytes) e =
-    let p = both (nat_lt (digit_value byte) 10) (are_digits bytes) e in
+    let p = and_parts (nat_lt (digit_value byte) 10) (are_digits bytes) e in
     (below (digit_value byte) 10 p.0, digits_all bytes p.1)
 
 all_digits : (word : List ℕ) → AllDigits 10 word → are_digits word ≡ true
 all_digits [] all = refl
-all_digits (byte ∷ bytes) all = of_both (nat_lt (digit_value byte) 10) (are_digits bytes) (is_below (digit_value byte) 10 all.0) (all_digits bytes all.1)
+all_digits (byte ∷ bytes) all = and_from (nat_lt (digit_value byte) 10) (are_digits bytes) (is_below (digit_value byte) 10 all.0) (all_digits bytes all.1)
 
 abbrev is_number : ℕ → ℕ → List ℕ → Bool
 is_number least most word = (are_digits word && is_whole word) && (nat_le least (digits_value 10 word) && nat_le (digits_value 10 word) most)
 
 writes : (least most : ℕ) (word : List ℕ) → is_number least most word ≡ true → WritesCount least most word (digits_value 10 word)
 writes least most word e =
-    let p = both (are_digits word && is_whole word) (nat_le least (digits_value 10 word) && nat_le (digits_value 10 word) most) e in
-    let digits = both (are_digits word) (is_whole word) p.0 in
-    let bounds = both (nat_le least (digits_value 10 word)) (nat_le (digits_value 10 word) most) p.1 in
+    let p = and_parts (are_digits word && is_whole word) (nat_le least (digits_value 10 word) && nat_le (digits_value 10 word) most) e in
+    let digits = and_parts (are_digits word) (is_whole word) p.0 in
+    let bounds = and_parts (nat_le least (digits_value 10 word)) (nat_le (digits_value 10 word) most) p.1 in
     record {
       digits = whole_sound word (digits_all word digits.0) digits.1;
       value = refl;
@@ -56,9 +49,9 @@ writes least most word e =
 
 is_written : (least most : ℕ) (word : List ℕ) (count : ℕ) → WritesCount least most word count → is_number least most word ≡ true
 is_written least most word count w =
-    of_both (are_digits word && is_whole word) (nat_le least (digits_value 10 word) && nat_le (digits_value 10 word) most)
-    (of_both (are_digits word) (is_whole word) (all_digits word w.digits.digits) (whole_found word w.digits))
-    (of_both (nat_le least (digits_value 10 word)) (nat_le (digits_value 10 word) most) (is_within least (digits_value 10 word) (subst (λ n. least ≤ n) w.value w.from))
+    and_from (are_digits word && is_whole word) (nat_le least (digits_value 10 word) && nat_le (digits_value 10 word) most)
+    (and_from (are_digits word) (is_whole word) (all_digits word w.digits.digits) (whole_found word w.digits))
+    (and_from (nat_le least (digits_value 10 word)) (nat_le (digits_value 10 word) most) (is_within least (digits_value 10 word) (subst (λ n. least ≤ n) w.value w.from))
     (is_within (digits_value 10 word) most (subst (λ n. n ≤ most) w.value w.to)))
 
 by_test : (least most : ℕ) (word : List ℕ) (found : Option ℕ) (test : Bool) → is_number least most word ≡ test → IfSome found (WritesCount least most word)

@@ -1,6 +1,5 @@
 -- What no edit changes of a game.
-use Rattle.std.proofs.Common.{◌≡◌, ℕ, zero, suc, List, [], ◌∷◌, Option, Some, None, Ok, length, map, refl, ap, ◌∙◌, subst, arith}
-use Rattle.std.specs.Prelude.{slice_get}
+use Rattle.std.proofs.Common.{◌≡◌, ℕ, zero, suc, List, [], ◌∷◌, Ok, length, map, refl, ap, ◌∙◌, subst, arith}
 use Rattle.game_types.specs.declared.games.Game.{Game}
 use Rattle.game_types.specs.declared.recipes.Recipe.{Recipe}
 use Rattle.game_types.specs.declared.research.Tech.{Tech}
@@ -12,21 +11,9 @@ use Rattle.data_edit.specs.declared.parts.RecipePart.{RecipePart}
 use Rattle.data_edit.specs.declared.parts.RecipePart.TheVariants.{Ingredients, Products, Time, Enabled}
 use Rattle.data_edit.specs.Names.{KeepsGame}
 use Rattle.data_edit.specs.Edits.{effect, replacement, restored, with_recipe_part, with_unlocks}
-use Rattle.plan_base.specs.Places.{changed_at, with_at}
-use Rattle.plan_base.proofs.Places.{with_at-past}
-use Rattle.data_edit.proofs.Soundness.{bind_ok, length-with_at}
-
-changed-suc : {A : Type 0} (f : A → A) (p : ℕ) (x : A) (xs : List A) (o : Option A) → changed_at f (suc p) (x ∷ xs) o ≡ x ∷ changed_at f p xs o
-changed-suc f p x xs None = refl
-changed-suc f p x xs (Some old) = refl
-
-with_at-suc : {A : Type 0} (f : A → A) (p : ℕ) (x : A) (xs : List A) → with_at f (suc p) (x ∷ xs) ≡ x ∷ with_at f p xs
-unfolding with_at
-with_at-suc f p x xs = changed-suc f p x xs (slice_get xs p)
-
-with_at-zero : {A : Type 0} (f : A → A) (x : A) (xs : List A) → with_at f zero (x ∷ xs) ≡ f x ∷ xs
-unfolding with_at
-with_at-zero f x xs = refl
+use Rattle.plan_base.specs.Places.{with_at}
+use Rattle.plan_base.proofs.Places.{with_at-past, length-with_at, with_at-suc, with_at-zero}
+use Rattle.data_edit.proofs.Soundness.{bind_ok}
 
 -- what is read of each element, where the change doesn't show in it
 map-with_at : {A B : Type 0} (read : A → B) (f : A → A) → ((x : A) → read (f x) ≡ read x) → (p : ℕ) (xs : List A) → map read (with_at f p xs) ≡ map read xs
@@ -34,7 +21,7 @@ map-with_at read f same p [] = ap (map read) (with_at-past f p [] (omega arith))
 map-with_at read f same zero (x ∷ xs) = ap (map read) (with_at-zero f x xs) ∙ ap (λ y. y ∷ map read xs) (same x)
 map-with_at read f same (suc p) (x ∷ xs) = ap (map read) (with_at-suc f p x xs) ∙ ap (λ ys. read x ∷ ys) (map-with_at read f same p xs)
 
-category_stays : (part : RecipePart) (recipe : Recipe) → (with_recipe_part part recipe).category ≡ recipe.category
+pub category_stays : (part : RecipePart) (recipe : Recipe) → (with_recipe_part part recipe).category ≡ recipe.category
 category_stays (Ingredients list) recipe = refl
 category_stays (Products list) recipe = refl
 category_stays (Time time) recipe = refl
@@ -64,7 +51,7 @@ techs_changed g techs same = record {
   techs = same;
 }
 
-same_game : (g : Game) → KeepsGame g g
+pub same_game : (g : Game) → KeepsGame g g
 same_game g = record {
   items = refl;
   fluids = refl;

@@ -3,6 +3,7 @@ use Rattle.std.proofs.Common.{◌≡◌, ℕ, List, Ok, length, refl, sym, ap, �
 use Rattle.plan_base.specs.declared.shape.Shape.{Shape}
 use Rattle.plan_base.specs.declared.shape.Kind.{Kind}
 use Rattle.plan_base.specs.declared.shape.Kind.TheVariants.{Special, Item, Fluid, Recipe as RecipeKind, Source, Machine, Tech as TechKind}
+use Rattle.plan_base.proofs.Places.{length-with_at}
 use Rattle.game_types.specs.Nodes.{names_of, shape_of}
 use Rattle.game_types.specs.declared.games.Game.{Game}
 use Rattle.game_types.specs.declared.recipes.Recipe.{Recipe}
@@ -13,7 +14,7 @@ use Rattle.data_edit.specs.declared.parts.Inverse.{Inverse}
 use Rattle.data_edit.specs.declared.parts.Inverse.TheVariants.{Recipe as OfRecipe, Unlocks, Barred, Granted}
 use Rattle.data_edit.specs.Names.{KeepsNames}
 use Rattle.data_edit.specs.Edits.{effect, replacement, restored, with_recipe_part, with_unlocks}
-use Rattle.data_edit.proofs.Soundness.{bind_ok, length-with_at}
+use Rattle.data_edit.proofs.Soundness.{bind_ok}
 
 -- another list of recipes, or of technologies, that is as long
 recipes_kept : (g : Game) (recipes : List Recipe) → length recipes ≡ length g.recipes → KeepsNames g (record g { recipes = recipes })

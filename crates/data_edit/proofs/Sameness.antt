@@ -3,6 +3,7 @@ use Rattle.std.proofs.Common.{◌≡◌, ℕ, ◌==◌, ◌&&◌, Bool, true, fa
 use Rattle.std.specs.Bool.{Decides}
 use Rattle.std.specs.Ordering.{int_eq}
 use Rattle.std.proofs.lemmas.Bool.Decides.{Decides-and, Decides-eqb, Decides-int_eq, Decides-like}
+use Rattle.std.proofs.lemmas.Option.{same_Some}
 use Rattle.fractions.specs.Fraction.{Fraction, same_fraction}
 use Rattle.plan_base.specs.declared.GoodId.{GoodId}
 use Rattle.plan_base.specs.declared.RecipeId.{RecipeId}
@@ -13,9 +14,6 @@ use Rattle.data_edit.specs.Lists.{is_bound, is_fraction, is_part, is_product, is
 pos_same : (m n : ℕ) → pos m ≡ pos n → m ≡ n
 pos_same m n e = cc
 
-some_same : {A : Type 0} (x y : A) → Some x ≡ Some y → x ≡ y
-some_same x y e = cc
-
 pub Decides-fraction : (x y : Fraction) → Decides (is_fraction x y) (x ≡ y)
 Decides-fraction x y =
     Decides-like (is_fraction x y) (λ e. same_fraction x y e.0 (pos_same x.den y.den e.1)) (λ e. (ap (λ z. z.num) e, ap (λ z. pos z.den) e))
@@ -25,7 +23,7 @@ Decides-bound : (x y : Option Fraction) → Decides (is_bound x y) (x ≡ y)
 Decides-bound None None = (λ e. refl, λ e. refl)
 Decides-bound None (Some y) = (λ e. absurd cc, λ e. absurd cc)
 Decides-bound (Some x) None = (λ e. absurd cc, λ e. absurd cc)
-Decides-bound (Some x) (Some y) = Decides-like (is_fraction x y) (ap Some) (some_same x y) (Decides-fraction x y)
+Decides-bound (Some x) (Some y) = Decides-like (is_fraction x y) (ap Some) (same_Some x y) (Decides-fraction x y)
 
 -- functions of equal arguments
 same_four : {A B C D R : Type 0} (f : A → B → C → D → R) (a a' : A) (b b' : B) (c c' : C) (d d' : D) → a ≡ a' → b ≡ b' → c ≡ c' → d ≡ d' → f a b c d ≡ f a' b' c' d'

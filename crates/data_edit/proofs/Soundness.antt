@@ -1,7 +1,6 @@
 -- An edit of a sound book leaves a sound book.
 use Rattle.std.proofs.Common.{◌≡◌, ℕ, ◌+◌, ◌<◌, ◌≤◌, ◌==◌, Bool, true, false, not, List, [], ◌∷◌, ◌++◌, Option, Some, None, Result, Ok, Err, length, set, get_or, refl, sym, ap, ◌∙◌, subst, cond, nat_lt, filter}
 use Rattle.std.specs.Prelude.{IfSome, All, slice_get}
-use Rattle.std.proofs.lemmas.List.{length-set}
 use Rattle.std.proofs.lemmas.List.Elements.{All-nil, All-cons, All-head, All-tail, All-set, All-push, All-filter, All-weaker, All-get_or}
 use Rattle.fractions.specs.Fraction.{Fraction}
 use Rattle.plan_base.specs.Shape.{node_count}
@@ -37,10 +36,12 @@ use Rattle.data_edit.specs.declared.parts.RecipePart.{RecipePart}
 use Rattle.data_edit.specs.declared.parts.RecipePart.TheVariants.{Ingredients, Products, Time, Enabled}
 use Rattle.data_edit.specs.declared.parts.Inverse.{Inverse}
 use Rattle.data_edit.specs.declared.parts.Inverse.TheVariants.{Recipe as OfRecipe, Unlocks, Barred, Granted}
-use Rattle.data_edit.specs.Lists.{part_key, product_key, unlock_key, is_part, is_product, is_unlock, names_recipe, plain_part, plain_product, same_lists, with_entry, with_unlock, without}
+use Rattle.data_edit.specs.Lists.{part_key, product_key, unlock_key, is_part, is_product, is_unlock, plain_part, plain_product, same_lists, with_entry, with_unlock, without}
 use Rattle.data_edit.specs.Faults.{Outcome, ◌▸◌, known, known_below, positive, changed_list}
 use Rattle.data_edit.specs.Edits.{with_recipe_part, with_unlocks, with_mark, restored, recipe_in, tech_in, good_in, ingredients_set, ingredients_dropped, products_set, products_dropped, unlocks_switched, unlocks_set, time_set, enabled_set, mark_set, replacement}
 use Rattle.plan_base.specs.Places.{changed_at, with_at}
+use Rattle.plan_base.proofs.Places.{length-with_at}
+use Rattle.game_types.specs.Fitting.{names_recipe}
 
 -- ---- another list of recipes and of technologies, each as long as before
 abbrev pub changed_game : Game → List Recipe → List Tech → Game
@@ -148,7 +149,7 @@ pub bind_ok : {A B : Type 0} (first : Outcome A) (next : A → Outcome B) (y : B
 bind_ok (Ok x) next y e = (x, refl, e)
 bind_ok (Err fault) next y e = absurd cc
 
-known_ok : {A : Type 0} (found : Option A) (x : A) → known found ≡ Ok x → found ≡ Some x
+pub known_ok : {A : Type 0} (found : Option A) (x : A) → known found ≡ Ok x → found ≡ Some x
 known_ok None x e = absurd cc
 known_ok (Some y) x e = cc
 
@@ -164,7 +165,7 @@ chosen true b list new e = absurd cc
 chosen false true list new e = absurd cc
 chosen false false list new e = cc
 
-changed_ok : {E : Type 0} (same : E → E → Bool) (old list new : List E) → changed_list same old list ≡ Ok new → list ≡ new
+pub changed_ok : {E : Type 0} (same : E → E → Bool) (old list new : List E) → changed_list same old list ≡ Ok new → list ≡ new
 changed_ok same old list new e = chosen (same_lists same list old) (nat_lt 1024 (length list)) list new e
 
 -- what is found is among what is sound
@@ -208,14 +209,6 @@ All-with_at P f place xs keeps all = changed (slice_get xs place) refl
     changed : (found : Option _) → slice_get xs place ≡ found → All P (changed_at f place xs found)
     changed None e = all
     changed (Some x) e = All-set P xs place (f x) (keeps x (found_sound P xs place x e all)) all
-
-pub length-with_at : {A : Type 0} (f : A → A) (place : ℕ) (xs : List A) → length (with_at f place xs) ≡ length xs
-unfolding with_at
-length-with_at f place xs = changed (slice_get xs place)
-  where
-    changed : (found : Option _) → length (changed_at f place xs found) ≡ length xs
-    changed None = refl
-    changed (Some x) = length-set xs place (f x)
 
 recipe_keeps : (book : Book) (recipe : RecipeId) (part : RecipePart) → IsSoundPart (OfRecipe recipe part) book → (r : Recipe) → IsSoundRecipe book.game r → IsSoundRecipe book.game (with_recipe_part part r)
 recipe_keeps book recipe (Ingredients list) h r s = record { ingredients = h; products = s.products; launch = s.launch }

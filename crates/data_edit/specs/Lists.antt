@@ -1,12 +1,12 @@
 -- Lists of ingredients, of products and of unlocked recipes, and how an edit changes them. The rules are this project's own.
 use Rattle.std.specs.Prelude.{ℕ, ◌==◌, ◌&&◌, Bool, true, false, not, pos, List, [], ◌∷◌, ◌++◌, Option, Some, None, filter, if◌then◌else◌}
-use Rattle.std.specs.List.{list_any}
 use Rattle.std.specs.Ordering.{int_eq}
 use Rattle.fractions.specs.Fraction.{Fraction, zero_fraction, one_fraction}
 use Rattle.plan_base.specs.declared.GoodId.{GoodId}
 use Rattle.plan_base.specs.declared.RecipeId.{RecipeId}
 use Rattle.game_types.specs.declared.recipes.Part.{Part}
 use Rattle.game_types.specs.declared.recipes.Product.{Product}
+use Rattle.game_types.specs.Fitting.{names_recipe}
 
 -- ---- lists whose entries have a key: the number of the good, or of the recipe, that they are about
 -- the list without the entries of a key
@@ -62,9 +62,6 @@ plain_part good amount = record { good = good; amount = amount; low = None; high
 -- a product that is given always, that productivity adds to, and that has no temperature of its own
 abbrev pub plain_product : GoodId → Fraction → Product
 plain_product good amount = record { good = good; low = amount; high = amount; probability = one_fraction; catalyst = zero_fraction; temperature = None }
-
-abbrev pub names_recipe : List RecipeId → RecipeId → Bool
-names_recipe unlocks recipe = list_any (λ other. other.0 == recipe.0) unlocks
 
 -- a recipe at the end of the unlocked ones, unless it is among them
 abbrev pub with_unlock : RecipeId → List RecipeId → List RecipeId

@@ -1,6 +1,7 @@
 //! Lists of entries, each about a good or a recipe.
 ghost use Rattle.std.specs.Prelude.{◌≡◌, ℕ, Bool, IfOk};
-ghost use Rattle.data_edit.specs.Lists.{is_bound, is_fraction, is_part, is_product, is_unlock, names_recipe, part_key, product_key, same_lists, unlock_key, with_entry, with_unlock, without};
+ghost use Rattle.game_types.specs.Fitting.{names_recipe};
+ghost use Rattle.data_edit.specs.Lists.{is_bound, is_fraction, is_part, is_product, is_unlock, part_key, product_key, same_lists, unlock_key, with_entry, with_unlock, without};
 ghost use Rattle.data_edit.specs.Faults.{Gives, changed_list};
 
 use crate::{EditFault, LIST_LIMIT};

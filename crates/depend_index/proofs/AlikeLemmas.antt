@@ -1,6 +1,6 @@
 -- What edits leave of a game, and that an index of it, with what the edits name noted, is an index after them.
 use Rattle.std.proofs.Common.{◌≡◌, ◌∙◌, ◌<◌, ◌≤◌, ◌+◌, ◌-◌, ℕ, zero, suc, Bool, true, false, List, [], ◌∷◌, ◌++◌, Vec, length, map, refl, ap, sym, subst, arith}
-use Rattle.std.specs.Prelude.{◌==◌, ◌||◌, ◌&&◌, Option, Some, None, option_map, slice_get, nat_lt, is_none, Result, Ok, Err, OnOk}
+use Rattle.std.specs.Prelude.{◌==◌, ◌&&◌, Option, Some, None, option_map, slice_get, nat_lt, is_none, Result, Ok, Err, OnOk}
 use Rattle.std.specs.Global.{Global}
 use Rattle.std.specs.List.{list_any}
 use Rattle.std.proofs.lemmas.List.Folds.{list_any-append}
@@ -12,6 +12,7 @@ use Rattle.game_types.specs.Nodes.{shape_of}
 use Rattle.std.specs.Vec.{with_items}
 use Rattle.std.proofs.lemmas.List.{length-map, with_items_is}
 use Rattle.std.proofs.lemmas.Bool.Decides.{nat_tests}
+use Rattle.std.proofs.lemmas.Bool.{or_parts}
 use Rattle.game_types.specs.Making.{gives, holds}
 use Rattle.fractions.specs.Signs.{is_positive}
 use Rattle.game_types.specs.Temperatures.{is_good}
@@ -40,6 +41,7 @@ use Rattle.node_lists.specs.Members.{passes, those}
 use Rattle.depend_index.specs.declared.index.Index.{Index}
 use Rattle.node_lists.proofs.AmongLemmas.{at_those, below_those}
 use Rattle.node_lists.proofs.OrderLemmas.{those_same}
+use Rattle.data_edit.proofs.GameKept.{same_game}
 
 -- ---- games alike
 pub alike_same : (edits : List Edit) (g : Game) → AlikeBut edits g g
@@ -65,13 +67,8 @@ alike_back edits old new alike = record {
   unlocks = λ t r unnamed. sym (alike.unlocks t r unnamed);
 }
 
-neither : (a b : Bool) → (a || b) ≡ false → (a ≡ false) × (b ≡ false)
-neither false false is = (refl, refl)
-neither false true is = absurd cc
-neither true b is = absurd cc
-
 apart : (test : Edit → Bool) (first second : List Edit) → list_any test (first ++ second) ≡ false → (list_any test first ≡ false) × (list_any test second ≡ false)
-apart test first second none = neither (list_any test first) (list_any test second) (sym (list_any-append test first second) ∙ none)
+apart test first second none = or_parts (list_any test first) (list_any test second) (sym (list_any-append test first second) ∙ none)
 
 pub alike_more : (first second : List Edit) (old between new : Game) → AlikeBut first old between → AlikeBut second between new → AlikeBut (first ++ second) old new
 alike_more first second old between new a b = record {
@@ -272,9 +269,6 @@ module _ (old new : Game) (kept : KeepsGame old new) where
     mining = subst (λ (character : Character). AreMarks character.mining index.mining.items) (sym kept.character) is.mining;
   }
 
-same_kept : (g : Game) → KeepsGame g g
-same_kept g = record { items = refl; fluids = refl; sources = refl; machines = refl; character = refl; categories = refl; recipes = refl; techs = refl }
-
 widen_hold : {A : Type 0} (about : A → ℕ → Bool) (first count : ℕ) (things : List A) (exact : Bool) (lists now : List (Vec NodeId Global)) → HoldThose exact about first things count lists → Widen lists now → HoldThose false about first things count now
 widen_hold about first count things exact lists now hold widen = record {
   as_long = widen.as_long ∙ hold.as_long;
@@ -287,7 +281,7 @@ widen_hold about first count things exact lists now hold widen = record {
 pub index_widened : (g : Game) (index : Index) (recipe_makers unlockers : Vec (Vec NodeId Global) Global) → IsIndex g index → Widen index.recipe_makers.items recipe_makers.items → Widen index.unlockers.items unlockers.items
     → IsIndex g (record index { recipe_makers = recipe_makers; unlockers = unlockers; exact = false })
 index_widened g index recipe_makers unlockers is first second =
-    index_after g g (same_kept g) index recipe_makers unlockers is
+    index_after g g (same_game g) index recipe_makers unlockers is
     (widen_hold (λ (recipe : Recipe) good. gives recipe.products good) (first_recipe g) (good_count g) g.recipes index.exact index.recipe_makers.items recipe_makers.items is.recipe_makers first)
     (widen_hold (λ (tech : Tech) number. list_any (λ r. r.0 == number) tech.unlocks) (first_tech g) (length g.recipes) g.techs index.exact index.unlockers.items unlockers.items is.unlockers second)
 

@@ -11,6 +11,7 @@ use Rattle.std.proofs.lemmas.List.Sorted.{IsPermutation-map, list_any-IsPermutat
 use Rattle.fractions.specs.Fraction.{Fraction}
 use Rattle.fractions.specs.Compare.{compared, compared_total}
 use Rattle.plan_base.specs.declared.ids.NodeId.{NodeId}
+use Rattle.plan_base.proofs.Walks.{next, drop_all}
 use Rattle.game_types.specs.Temperatures.{is_cool_enough, is_cooler, is_fit_variant, is_good, is_warm_enough, is_within}
 use Rattle.game_types.specs.declared.games.Game.{Game}
 use Rattle.game_types.specs.declared.goods.Fluid.{Fluid}
@@ -23,7 +24,7 @@ use Rattle.depend_index.specs.declared.index.Index.{Index}
 use Rattle.node_lists.proofs.AmongLemmas.{at_those, below_those}
 use Rattle.node_lists.proofs.CommonLemmas.{has_filtered, number_is}
 use Rattle.node_lists.proofs.OrderLemmas.{in_order_those, numbers_of}
-use Rattle.node_lists.proofs.Walks.{at_self, drop_all, next}
+use Rattle.node_lists.proofs.Walks.{at_self}
 
 -- ---- the order of temperatures
 pub compared_cooler : (x y : Fraction) → is_lt (compared x y) ≡ is_cooler x y

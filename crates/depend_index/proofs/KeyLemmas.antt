@@ -3,18 +3,15 @@ use Rattle.std.proofs.Common.{◌≡◌, ◌∙◌, ◌<◌, ◌≤◌, ◌+◌,
 use Rattle.std.specs.Prelude.{map, ◌==◌, ◌||◌, ◌&&◌, if◌then◌else◌}
 use Rattle.std.specs.Prelude.{slice_get}
 use Rattle.std.specs.List.{list_any}
+use Rattle.plan_base.proofs.Walks.{next, drop_all}
+use Rattle.plan_base.proofs.Bools.{or_false}
 use Rattle.game_types.specs.declared.recipes.Recipe.{Recipe}
 use Rattle.depend_index.specs.Kinds.{has_category}
 use Rattle.node_lists.specs.Lists.{is_among}
-use Rattle.node_lists.proofs.Walks.{next, drop_all}
 
 either_assoc : (a b c : Bool) → ((a || b) || c) ≡ (a || (b || c))
 either_assoc true b c = refl
 either_assoc false b c = refl
-
-either_none : (a : Bool) → (a || false) ≡ a
-either_none true = refl
-either_none false = refl
 
 pub is_among-append : (xs ys : List ℕ) (k : ℕ) → is_among (xs ++ ys) k ≡ (is_among xs k || is_among ys k)
 is_among-append [] ys k = refl
@@ -28,7 +25,7 @@ pub keys_first : {A : Type 0} (number : A → ℕ) (counts : A → Bool) (things
 keys_first number counts things numbers empty = record { each = λ k. ap (λ l. is_among l k || list_any (λ x. (number x == k) && counts x) things) empty }
 
 put : (numbers new : List ℕ) (j k : ℕ) (rest : Bool) (b : Bool) → new ≡ (if b then numbers ++ j ∷ [] else numbers) → (is_among new k || rest) ≡ (is_among numbers k || (((j == k) && b) || rest))
-put numbers new j k rest true is = ap (λ l. is_among l k || rest) is ∙ ap (λ b. b || rest) (is_among-append numbers (j ∷ []) k) ∙ either_assoc (is_among numbers k) (is_among (j ∷ []) k) rest ∙ ap (λ b. is_among numbers k || (b || rest)) (either_none (j == k) ∙ sym (both_true (j == k)))
+put numbers new j k rest true is = ap (λ l. is_among l k || rest) is ∙ ap (λ b. b || rest) (is_among-append numbers (j ∷ []) k) ∙ either_assoc (is_among numbers k) (is_among (j ∷ []) k) rest ∙ ap (λ b. is_among numbers k || (b || rest)) (or_false (j == k) ∙ sym (both_true (j == k)))
   where
     both_true : (b : Bool) → (b && true) ≡ b
     both_true true = refl
@@ -50,7 +47,7 @@ keys_more number counts things i x numbers new b within is passes are before = r
 
 pub keys_last : {A : Type 0} (number : A → ℕ) (counts : A → Bool) (things : List A) (i : ℕ) (numbers : List ℕ) → length things ≤ i → KeysSoFar number counts things i numbers → (k : ℕ) → is_among numbers k ≡ list_any (λ x. (number x == k) && counts x) things
 keys_last number counts things i numbers end before k =
-    sym (either_none (is_among numbers k)) ∙ ap (λ l. is_among numbers k || list_any (λ x. (number x == k) && counts x) l) (sym (drop_all things i end)) ∙ before.each k
+    sym (or_false (is_among numbers k)) ∙ ap (λ l. is_among numbers k || list_any (λ x. (number x == k) && counts x) l) (sym (drop_all things i end)) ∙ before.each k
 
 -- the numbers of things are those that some thing has
 pub is_among-map : {A : Type 0} (number : A → ℕ) → (things : List A) (k : ℕ) → is_among (map number things) k ≡ list_any (λ x. number x == k) things

@@ -2,6 +2,7 @@
 use Rattle.std.specs.Prelude.{◌≡◌, ◌≢◌, pos, Bool, true, false}
 use Rattle.std.proofs.Common.{◌∙◌, ap, sym, subst, refl, arith, ⊎_elim}
 use Rattle.std.proofs.lemmas.Int.{ints}
+use Rattle.plan_base.proofs.Bools.{same_tests}
 use Rattle.fractions.specs.Fraction.{Fraction, ◌+ʳ◌, ◌*ʳ◌, ◌/ʳ◌, ◌<ʳ◌, ◌≤ʳ◌, inverse, negated, zero_fraction, one_fraction, whole_fraction}
 use Rattle.fractions.specs.Fracs.{atom, ◌⊠◌, opposite, same_amount}
 use Rattle.fractions.proofs.Laws.{zero-+ʳ, zero-*ʳ, *ʳ-zero, +ʳ-negated, +ʳ_comm, *ʳ_comm, *ʳ-inverse}
@@ -18,11 +19,6 @@ decided false h = refl
 not_positive_when : (x : Fraction) → x ≤ʳ zero_fraction → is_positive x ≡ false
 not_positive_when x h = decided (is_positive x) (λ t. <ʳ_not_≤ʳ zero_fraction x (positive_is x t) h)
 
-same_tests : (a b : Bool) → (a ≡ true → b ≡ true) → (b ≡ true → a ≡ true) → a ≡ b
-same_tests true b f g = sym (f refl)
-same_tests false true f g = g refl
-same_tests false false f g = refl
-
 sign : (q s i : Fraction) → zero_fraction <ʳ s → zero_fraction <ʳ i → is_positive (q *ʳ (s *ʳ i)) ≡ is_positive q
 sign q s i hs hi =
     let m : zero_fraction <ʳ (s *ʳ i) = positive-*ʳ s i hs hi in
@@ -34,10 +30,10 @@ sign q s i hs hi =
     (≤ʳ_or_<ʳ q zero_fraction))
     (λ t. is_positive_when (q *ʳ (s *ʳ i)) (positive-*ʳ q (s *ʳ i) (positive_is q t) m))
 
-two : Fraction
+unfoldable pub two : Fraction
 two = whole_fraction (pos 2)
 
-two_above : zero_fraction <ʳ two
+pub two_above : zero_fraction <ʳ two
 unfolding two whole_fraction
 two_above = positive_frac (pos 2) 1 (omega arith) (omega (arith, ints))
 
@@ -45,7 +41,7 @@ one_above : zero_fraction <ʳ one_fraction
 unfolding zero_fraction one_fraction
 one_above = record { cross = omega (arith, ints) }
 
-half_above : zero_fraction <ʳ inverse two
+pub half_above : zero_fraction <ʳ inverse two
 half_above =
     let other : two ≢ zero_fraction = λ is. <ʳ_not_≤ʳ zero_fraction two two_above (subst (λ (w : Fraction). w ≤ʳ zero_fraction) (sym is) (≤ʳ_refl zero_fraction)) in
     let whole : inverse two *ʳ two ≡ one_fraction = *ʳ_comm (inverse two) two ∙ *ʳ-inverse two other in

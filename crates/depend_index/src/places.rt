@@ -4,6 +4,7 @@ ghost use Rattle.game_types.specs.Sound.{IsSound};
 ghost use Rattle.depend_index.specs.Goods.{first_machine, first_recipe, first_source, first_tech, good_count};
 
 use game_types::Game;
+use plan_base::Kind;
 
 /// How many goods there are.
 pub fn good_count(game: &Game) -> u32
@@ -21,7 +22,7 @@ pub fn first_fluid(game: &Game) -> u32
     ensures first { result ≡ 3 + length game.now.items }
     ensures few { result + length game.now.fluids ≤ 131072 }
 {
-    3 + game.shape().items
+    game.shape().first_of(Kind::Fluid)
 }
 
 /// The number of the first recipe's node.
@@ -30,7 +31,7 @@ pub fn first_recipe(game: &Game) -> u32
     ensures first { result ≡ first_recipe game.now }
     ensures few { result + length game.now.recipes ≤ 131072 }
 {
-    3 + good_count(game)
+    game.shape().first_of(Kind::Recipe)
 }
 
 /// The number of the first source's node.
@@ -39,7 +40,7 @@ pub fn first_source(game: &Game) -> u32
     ensures first { result ≡ first_source game.now }
     ensures few { result + length game.now.sources ≤ 131072 }
 {
-    first_recipe(game) + game.shape().recipes
+    game.shape().first_of(Kind::Source)
 }
 
 /// The number of the first machine's node.
@@ -48,7 +49,7 @@ pub fn first_machine(game: &Game) -> u32
     ensures first { result ≡ first_machine game.now }
     ensures few { result + length game.now.machines ≤ 131072 }
 {
-    first_source(game) + game.shape().sources
+    game.shape().first_of(Kind::Machine)
 }
 
 /// The number of the first technology's node.
@@ -57,5 +58,5 @@ pub fn first_tech(game: &Game) -> u32
     ensures first { result ≡ first_tech game.now }
     ensures few { result + length game.now.techs ≤ 131072 }
 {
-    first_machine(game) + game.shape().machines
+    game.shape().first_of(Kind::Tech)
 }

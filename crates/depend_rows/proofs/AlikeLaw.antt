@@ -10,6 +10,7 @@ use Rattle.game_types.specs.declared.research.Tech.{Tech}
 use Rattle.data_edit.specs.CarriedOut.{carried_out}
 use Rattle.data_edit.specs.Edits.{effect, unlocks_switched}
 use Rattle.plan_base.specs.Places.{with_at}
+use Rattle.plan_base.proofs.Places.{with_at-nil, with_at-suc, with_at-zero}
 use Rattle.data_edit.specs.Lists.{part_key, plain_part, plain_product, product_key, with_entry, without}
 use Rattle.data_edit.specs.declared.books.Book.{Book}
 use Rattle.data_edit.specs.declared.edits.Edit.{Edit}
@@ -18,7 +19,7 @@ use Rattle.data_edit.proofs.EffectLaw.{effect_law}
 use Rattle.data_edit.proofs.GameKept.{edit_keeps_game}
 use Rattle.node_lists.specs.Members.{passes}
 use Rattle.depend_index.specs.Alike.{AlikeBut, is_of_product, is_of_unlock}
-use Rattle.depend_rows.proofs.TouchLemmas.{any-with_entry, any-without, other_product, switched, with_at-nil, with_at-suc, with_at-zero}
+use Rattle.depend_rows.proofs.TouchLemmas.{any-with_entry, any-without, other_product, switched}
 
 -- what is tested at a place, where the change doesn't show at that place
 passes-with_at : {A : Type 0} (test : A → Bool) (f : A → A) (p n : ℕ) → (xs : List A) → (n ≡ p → (x : A) → test (f x) ≡ test x) → passes test (slice_get (with_at f p xs) n) ≡ passes test (slice_get xs n)

@@ -4,6 +4,7 @@ use Rattle.std.specs.Prelude.{◌==◌, ◌||◌, ◌&&◌, Option, Some, None}
 use Rattle.std.specs.Global.{Global}
 use Rattle.std.specs.List.{list_any}
 use Rattle.plan_base.specs.declared.ids.NodeId.{NodeId}
+use Rattle.plan_base.proofs.Walks.{next, drop_all}
 use Rattle.game_types.specs.Making.{holds}
 use Rattle.fractions.specs.Signs.{is_positive}
 use Rattle.game_types.specs.declared.goods.Fuel.{Fuel}
@@ -15,7 +16,6 @@ use Rattle.node_lists.specs.Lists.{is_among, list_at, numbers_at, AreAllLists, H
 use Rattle.depend_rows.proofs.CraftLemmas.{none_of}
 use Rattle.depend_index.proofs.KeyLemmas.{is_among-append}
 use Rattle.node_lists.proofs.OrderLemmas.{among_either, in_order_those, numbers_of, those_same}
-use Rattle.node_lists.proofs.Walks.{next, drop_all}
 
 pub numbers_more : (lists : List (Vec NodeId Global)) (ks : List ℕ) (i x : ℕ) (numbers new : List ℕ) → i < length ks → x ≡ get_or ks i x → new ≡ numbers ++ map (λ n. n.0) (list_at lists x)
     → numbers ++ numbers_at lists (drop i ks) ≡ numbers_at lists ks → new ++ numbers_at lists (drop (i + 1) ks) ≡ numbers_at lists ks

@@ -9,6 +9,7 @@ use Rattle.game_types.specs.declared.machinery.Energy.TheVariants.{Electric, Bur
 use Rattle.game_types.specs.declared.machinery.MachineKind.{MachineKind}
 use Rattle.game_types.specs.declared.machinery.MachineKind.TheVariants.{Crafter, Drill, Pump, Boiler, Generator, BurnerGenerator, Solar, Reactor, Lab, Beacon}
 use Rattle.std.proofs.lemmas.Bool.Decides.{nat_tests}
+use Rattle.std.proofs.lemmas.Bool.{or_parts}
 use Rattle.plan_base.specs.Shape.{first_of}
 use Rattle.plan_base.specs.declared.ids.EntityId.{EntityId}
 use Rattle.plan_base.specs.declared.ids.GoodId.{GoodId}
@@ -31,13 +32,13 @@ use Rattle.game_types.specs.declared.machinery.Machine.{Machine}
 use Rattle.game_types.specs.declared.research.Tech.{Tech}
 use Rattle.data_edit.specs.CarriedOut.{carried_out, with_recipe, with_tech}
 use Rattle.data_edit.specs.Edits.{unlocks_switched}
-use Rattle.plan_base.specs.Places.{changed_at, with_at}
-use Rattle.data_edit.specs.Lists.{part_key, plain_part, plain_product, product_key, unlock_key, with_entry, without, names_recipe}
+use Rattle.plan_base.specs.Places.{with_at}
+use Rattle.data_edit.specs.Lists.{part_key, plain_part, plain_product, product_key, unlock_key, with_entry, without}
 use Rattle.data_edit.specs.declared.books.Book.{Book}
 use Rattle.data_edit.specs.declared.edits.Edit.{Edit}
 use Rattle.data_edit.specs.declared.edits.Edit.TheVariants.{SetIngredient, DropIngredient, SetProduct, DropProduct, SetUnlock, SetTime, SetEnabled, Forbid, Permit, Grant, Revoke}
 use Rattle.data_edit.proofs.EffectLaw.{effect_law}
-use Rattle.plan_base.proofs.Places.{with_at-past}
+use Rattle.plan_base.proofs.Places.{with_at-nil, with_at-zero, with_at-suc, length-with_at}
 use Rattle.node_lists.proofs.OrderLemmas.{those_same}
 use Rattle.node_lists.specs.Members.{node, those}
 use Rattle.depend_index.specs.Goods.{first_recipe, first_source, first_machine, first_tech, leavers, putters, variants, unlockers}
@@ -46,28 +47,9 @@ use Rattle.depend_index.specs.Machines.{placers, burning_fluids}
 use Rattle.depend_rows.specs.Machines.{fuels_taken, fluid_or_burning, energy_groups, input_groups, machine_row, labs, prerequisites, science_packs, tech_row, electricity_row, heat_row}
 use Rattle.depend_rows.specs.Rows.{row_of, special_row, tech_at, no_tech}
 use Rattle.depend_rows.specs.Touched.{good_node_in, recipe_node, touched_by, StaysAs, TouchesAll}
+use Rattle.game_types.specs.Fitting.{names_recipe}
 
 -- ---- a list with one element changed
-pub with_at-nil : {A : Type 0} (f : A → A) (p : ℕ) → with_at f p [] ≡ []
-with_at-nil f p = with_at-past f p [] (omega arith)
-
-pub with_at-zero : {A : Type 0} (f : A → A) (x : A) (xs : List A) → with_at f zero (x ∷ xs) ≡ f x ∷ xs
-unfolding with_at
-with_at-zero f x xs = refl
-
-changed-suc : {A : Type 0} (f : A → A) (p : ℕ) (x : A) (xs : List A) (o : Option A) → changed_at f (suc p) (x ∷ xs) o ≡ x ∷ changed_at f p xs o
-changed-suc f p x xs None = refl
-changed-suc f p x xs (Some old) = refl
-
-pub with_at-suc : {A : Type 0} (f : A → A) (p : ℕ) (x : A) (xs : List A) → with_at f (suc p) (x ∷ xs) ≡ x ∷ with_at f p xs
-unfolding with_at
-with_at-suc f p x xs = changed-suc f p x xs (slice_get xs p)
-
-length-with_at : {A : Type 0} (f : A → A) (p : ℕ) → (xs : List A) → length (with_at f p xs) ≡ length xs
-length-with_at f p [] = ap length (with_at-nil f p)
-length-with_at f zero (x ∷ xs) = ap length (with_at-zero f x xs)
-length-with_at f (suc p) (x ∷ xs) = ap length (with_at-suc f p x xs) ∙ ap suc (length-with_at f p xs)
-
 those-with_at : {A : Type 0} (test : A → Bool) (f : A → A) → ((x : A) → test (f x) ≡ test x) → (p : ℕ) (xs : List A) (first : ℕ) → those test first (with_at f p xs) ≡ those test first xs
 those-with_at test f same p [] first = ap (those test first) (with_at-nil f p)
 those-with_at test f same zero (x ∷ xs) first = ap (those test first) (with_at-zero f x xs) ∙ ap (λ b. if b then node first ∷ those test (first + 1) xs else those test (first + 1) xs) (same x)
@@ -109,9 +91,6 @@ any-with_entry test key entry none fails (e ∷ entries) = by_key (key e == key 
 any-end : {E : Type 0} (test : E → Bool) (e : E) → test e ≡ false → (entries : List E) → list_any test (entries ++ e ∷ []) ≡ list_any test entries
 any-end test e none [] = ap (λ b. b || false) none
 any-end test e none (x ∷ entries) = ap (λ b. test x || b) (any-end test e none entries)
-
-not_same : (m n : ℕ) → m ≢ n → (m == n) ≡ false
-not_same m n other = grind (arith, other)
 
 -- ---- games that differ in their recipes
 if_same : {A : Type 0} (b : Bool) (x y x' y' : A) → (b ≡ true → x ≡ x') → (b ≡ false → y ≡ y') → (if b then x else y) ≡ (if b then x' else y')
@@ -296,14 +275,6 @@ not_mark mark n untouched at =
     let impossible : true ≡ false = sym (ap (λ b. b || false) same) ∙ untouched in
     cc
 
-first_fails : (a b : Bool) → (a || b) ≡ false → a ≡ false
-first_fails true b h = h
-first_fails false b h = refl
-
-second_fails : (a b : Bool) → (a || b) ≡ false → b ≡ false
-second_fails true b h = absurd (cc)
-second_fails false b h = h
-
 -- an edit of a recipe
 recipe_stays : (book : Book) (recipe : RecipeId) (change : Recipe → Recipe) (n : ℕ)
     → (3 ≤ n → n < first_recipe book.game → (old : Recipe) → gives (change old).products (n - 3) ≡ gives old.products (n - 3))
@@ -377,8 +348,9 @@ stays (DropIngredient recipe good) book n untouched = recipe_stays book recipe (
     (λ k is within at. absurd (not_recipe (shape_of book.game) recipe n k untouched is within at))
 stays (SetProduct recipe good amount) book n untouched =
     let both = sym (list_any-append (λ (m : NodeId). m.0 == n) (recipe_node (shape_of book.game) recipe) (good_node_in (shape_of book.game) good)) ∙ untouched in
-    let away = first_fails (has_node (recipe_node (shape_of book.game) recipe) n) (has_node (good_node_in (shape_of book.game) good) n) both in
-    let apart = second_fails (has_node (recipe_node (shape_of book.game) recipe) n) (has_node (good_node_in (shape_of book.game) good) n) both in
+    let parts = or_parts (has_node (recipe_node (shape_of book.game) recipe) n) (has_node (good_node_in (shape_of book.game) good) n) both in
+    let away = parts.0 in
+    let apart = parts.1 in
     recipe_stays book recipe (λ old. record old { products = with_entry product_key (plain_product good amount) old.products }) n
     (λ low high old.
     let other : (n - 3) ≢ good.0 = λ is. not_good (shape_of book.game) good n (n - 3) apart is (omega (arith, low, high)) (omega (arith, low)) in
@@ -386,8 +358,9 @@ stays (SetProduct recipe good amount) book n untouched =
     (λ k is within at. absurd (not_recipe (shape_of book.game) recipe n k away is within at))
 stays (DropProduct recipe good) book n untouched =
     let both = sym (list_any-append (λ (m : NodeId). m.0 == n) (recipe_node (shape_of book.game) recipe) (good_node_in (shape_of book.game) good)) ∙ untouched in
-    let away = first_fails (has_node (recipe_node (shape_of book.game) recipe) n) (has_node (good_node_in (shape_of book.game) good) n) both in
-    let apart = second_fails (has_node (recipe_node (shape_of book.game) recipe) n) (has_node (good_node_in (shape_of book.game) good) n) both in
+    let parts = or_parts (has_node (recipe_node (shape_of book.game) recipe) n) (has_node (good_node_in (shape_of book.game) good) n) both in
+    let away = parts.0 in
+    let apart = parts.1 in
     recipe_stays book recipe (λ old. record old { products = without product_key good.0 old.products }) n
     (λ low high old.
     let other : (n - 3) ≢ good.0 = λ is. not_good (shape_of book.game) good n (n - 3) apart is (omega (arith, low, high)) (omega (arith, low)) in

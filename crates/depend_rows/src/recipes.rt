@@ -44,7 +44,7 @@ fn free_good(part: &Part) -> Option<u32>
 }
 
 // The goods of the ingredients without a bound.
-#[tactic(auto, using(crate::proofs::FoundLemmas::found_next, crate::proofs::FoundLemmas::found_end))]
+#[tactic(auto, using(plan_base::proofs::Walks::found_next, plan_base::proofs::Walks::found_end))]
 fn free_goods(alloc: Global, parts: &[Part]) -> Result<Vec<u32>, NoMemory>
     ensures { IfOk result (λ goods. goods.items ≡ filter_map free_good parts.now) }
 {
@@ -144,7 +144,7 @@ fn bounded_group(
 }
 
 // A group for each ingredient with a bound.
-#[tactic(auto, using(crate::proofs::FoundLemmas::found_next, crate::proofs::FoundLemmas::found_end))]
+#[tactic(auto, using(plan_base::proofs::Walks::found_next, plan_base::proofs::Walks::found_end))]
 fn push_bounded(
     alloc: Global,
     game: &Game,

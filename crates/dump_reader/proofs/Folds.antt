@@ -1,12 +1,9 @@
 -- One thing after another: what all make of a state is what the rest makes of the state so far.
-use Rattle.std.proofs.Common.{◌≡◌, ◌∙◌, ◌<◌, ◌≤◌, ◌+◌, ℕ, List, [], Ok, Err, Result, length, map, drop, get_or, refl, ap, arith}
-use Rattle.std.proofs.lemmas.Grind.{common_steps}
+use Rattle.std.proofs.Common.{◌≡◌, ◌∙◌, ◌<◌, ◌≤◌, ◌+◌, ℕ, List, Ok, Err, Result, length, map, drop, get_or, refl, ap}
+use Rattle.plan_base.proofs.Walks.{drop_all}
 use Rattle.prototype_fields.proofs.Each.{next}
 use Rattle.craft_reader.specs.declared.fault.DumpFault.{DumpFault}
 use Rattle.dump_reader.specs.Dump.{◌▷◌, each_after}
-
-drop_all : {X : Type 0} (xs : List X) (k : ℕ) → length xs ≤ k → drop k xs ≡ []
-drop_all xs k end = grind (arith, common_steps)
 
 abbrev pub SoFar : {X Z G : Type 0} → (X → Z) → (Z → G → Result G DumpFault) → List X → ℕ → G → G → Type 0
 SoFar view read xs k start g = each_after read (map view xs) start ≡ each_after read (map view (drop k xs)) g

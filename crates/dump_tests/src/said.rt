@@ -3,8 +3,8 @@ use certificate_file::CertFault;
 use craft_reader::{DumpCode, DumpFault};
 use json_text::{JsonCode, JsonFault};
 use plan_base::{NoMemory, Text};
-use planner_cli::{Long, Status};
 use run_hints::{dump_name, hint, script_name, unread_hint};
+use run_inputs::{Long, Status};
 use std::alloc::Global;
 use std::test::Fail;
 

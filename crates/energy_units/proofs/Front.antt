@@ -2,12 +2,13 @@
 use Rattle.std.specs.Prelude.{◌≡◌, ◌≢◌, ℕ, suc, ◌<◌, ◌≤◌, Bool, true, false, cond, ◌==◌, List, [], ◌∷◌, ◌++◌, length, take, drop, Option, Some, None, ◌⊎◌}
 use Rattle.std.specs.Char.{is_ascii_digit}
 use Rattle.std.specs.Str.Parse.{AllDigits}
-use Rattle.std.proofs.Common.{refl, sym, ap, subst, ◌∙◌, arith, inl, inr, ⊎_elim, eqb-true, append_assoc, length-append}
+use Rattle.std.proofs.Common.{refl, sym, ap, subst, ◌∙◌, arith, inl, inr, ⊎_elim, eqb-true, append_assoc, length-append, append-nil, ne_eqb}
 use Rattle.std.proofs.Math.Seq.{take-add}
 use Rattle.std.proofs.lemmas.List.{take-append-drop}
 use Rattle.std.proofs.lemmas.Bool.{cases_lt}
 use Rattle.std.proofs.lemmas.Bool.Decides.{nat_tests}
 use Rattle.std.proofs.lemmas.Str.Parse.{digit_from_value}
+use Rattle.std.proofs.lemmas.Option.{same_Some}
 use Rattle.fractions.specs.Digits.{front_digits, behind_digits}
 use Rattle.fractions.specs.Numeral.{Numeral, IsWholePart, IsPowerText, sign_text, part_text}
 use Rattle.fractions.proofs.Run.{front-behind, front_all_digits, front-append, NoDigitFirst, digit_true, digit_false}
@@ -27,14 +28,7 @@ pub drop_front : (xs ys : List ℕ) → drop (length xs) (xs ++ ys) ≡ ys
 drop_front [] ys = refl
 drop_front (x ∷ xs) ys = drop_front xs ys
 
-append-nothing : (l : List ℕ) → l ++ [] ≡ l
-append-nothing [] = refl
-append-nothing (x ∷ xs) = ap (λ t. x ∷ t) (append-nothing xs)
-
 -- ---- what is at the front is a number
-not_by : (c k : ℕ) → c ≢ k → (c == k) ≡ false
-not_by c k h = grind (arith, nat_tests)
-
 is_not : (c k : ℕ) → (c == k) ≡ false → c ≢ k
 is_not c k e z = let f : (k == k) ≡ false = ap (λ j. j == k) (sym z) ∙ e in absurd (differ k f)
   where
@@ -99,7 +93,7 @@ number_front text h =
             power_is = inl (refl, refl, refl);
             text_is =
                 take-add (whole_len text) (part_len (drop (whole_len text) text)) text
-                ∙ ap (λ l. take (whole_len text) text ++ l) (p.1.text_is ∙ sym (append-nothing (part_text p.0)));
+                ∙ ap (λ l. take (whole_len text) text ++ l) (p.1.text_is ∙ sym (append-nil (part_text p.0)));
           };
       unsigned = refl;
       no_power = refl;
@@ -129,7 +123,7 @@ whole_len_is (c ∷ cs) rest w n = whole_len_by c cs rest (c == 48) refl w n
 
 pub part_len_is : (part rest : List ℕ) → AllDigits 10 part → IsStop rest → part_len (part_text part ++ rest) ≡ length (part_text part)
 part_len_is [] [] d h = refl
-part_len_is [] (c ∷ cs) d h = ap (λ b. cond b (point_len (length (front_digits cs))) 0) (not_by c 46 (λ e. omega (arith, e, h)))
+part_len_is [] (c ∷ cs) d h = ap (λ b. cond b (point_len (length (front_digits cs))) 0) (ne_eqb c 46 (λ e. omega (arith, e, h)))
 part_len_is (c ∷ cs) rest d h = ap (λ l. point_len (length l)) (front-append (c ∷ cs) rest d (stop_no_digit rest h)).0
 
 number_len_at : (whole part rest text : List ℕ) → IsWholePart whole → AllDigits 10 part → IsStop rest → text ≡ whole ++ (part_text part ++ rest) → number_len text ≡ length (whole ++ part_text part)
@@ -146,7 +140,7 @@ number_text_is : (text : List ℕ) (n : Numeral) → WritesNumber text n → tex
 number_text_is text n w =
     w.numeral.text_is
     ∙ (ap (λ b. sign_text b ++ (n.whole ++ (part_text n.part ++ w.numeral.power_text))) w.unsigned
-    ∙ (ap (λ t. n.whole ++ (part_text n.part ++ t)) (no_power_text _ _ _ w.numeral.power_is w.no_power) ∙ ap (λ t. n.whole ++ t) (append-nothing (part_text n.part))))
+    ∙ (ap (λ t. n.whole ++ (part_text n.part ++ t)) (no_power_text _ _ _ w.numeral.power_is w.no_power) ∙ ap (λ t. n.whole ++ t) (append-nil (part_text n.part))))
 
 pub number_len_is : (text number rest : List ℕ) (n : Numeral) → WritesNumber number n → IsStop rest → text ≡ number ++ rest → number_len text ≡ length number
 number_len_is text number rest n w h e =
@@ -180,8 +174,8 @@ letter_above c k e = ⊎_elim (λ l. l) (λ l. absurd (none_some k (sym (letter_
     none_some k e = cc
 
 unit_none : (measure : Measure) (c : ℕ) → c ≢ 74 → c ≢ 87 → unit_factor measure c ≡ None
-unit_none Joules c h k = ap (λ b. cond b (Some 1) None) (not_by c 74 h)
-unit_none Watts c h k = ap (λ b. cond b (Some 1) (cond (c == 74) (Some 60) None)) (not_by c 87 k) ∙ ap (λ b. cond b (Some 60) None) (not_by c 74 h)
+unit_none Joules c h k = ap (λ b. cond b (Some 1) None) (ne_eqb c 74 h)
+unit_none Watts c h k = ap (λ b. cond b (Some 1) (cond (c == 74) (Some 60) None)) (ne_eqb c 87 k) ∙ ap (λ b. cond b (Some 60) None) (ne_eqb c 74 h)
 
 eq_or_not : (c k : ℕ) → (c ≡ k) ⊎ (c ≢ k)
 eq_or_not c k = by (c == k) refl
@@ -209,13 +203,10 @@ tail_stop measure [] unit k f p u = unit_above measure unit f u
 tail_stop measure (c ∷ []) unit k f p u = letter_above c k p
 tail_stop measure (c ∷ d ∷ cs) unit k f p u = cc
 
-same_some : (a b : ℕ) → Some a ≡ Some b → a ≡ b
-same_some a b e = cc
-
 pub tail_found : (measure : Measure) (prefix : List ℕ) (unit k f : ℕ) → prefix_power prefix ≡ Some k → unit_factor measure unit ≡ Some f → ((behind_prefix (prefix ++ unit ∷ [])).0 ≡ k) × ((behind_prefix (prefix ++ unit ∷ [])).1 ≡ unit ∷ [])
 tail_found measure [] unit k f p u =
     let e : letter_power unit ≡ None = unit_no_letter unit (unit_is measure unit f u) in
-    (ap (λ o. (behind_prefix_by o unit []).0) e ∙ same_some 0 k p, ap (λ o. (behind_prefix_by o unit []).1) e)
+    (ap (λ o. (behind_prefix_by o unit []).0) e ∙ same_Some 0 k p, ap (λ o. (behind_prefix_by o unit []).1) e)
 tail_found measure (c ∷ []) unit k f p u = (ap (λ o. (behind_prefix_by o c (unit ∷ [])).0) p, ap (λ o. (behind_prefix_by o c (unit ∷ [])).1) p)
 tail_found measure (c ∷ d ∷ cs) unit k f p u = cc
 
@@ -302,4 +293,4 @@ pub one_energy : (measure : Measure) (text : List ℕ) (e g : Energy) → Writes
 one_energy measure text e g v w =
     let p : IsFound measure text e = energy_found measure text e v in
     let q : IsFound measure text g = energy_found measure text g w in
-    same_energy e g (same_number (take (number_len text) text) e.number g.number p.number_is q.number_is) (sym p.power_is ∙ q.power_is) (same_some e.factor g.factor (sym p.factor_is ∙ q.factor_is))
+    same_energy e g (same_number (take (number_len text) text) e.number g.number p.number_is q.number_is) (sym p.power_is ∙ q.power_is) (same_Some e.factor g.factor (sym p.factor_is ∙ q.factor_is))

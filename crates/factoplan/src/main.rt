@@ -3,12 +3,12 @@
 
 mod telling;
 
-use crate::telling::{said, unread};
+use crate::telling::said;
 use linear_table::SolveAnswer;
 use plan_base::{NoMemory, Steps, Text};
 use plan_io::{HostSink, HostStore};
 use planner_cli::{Outcome, Status, run};
-use program_runs::{VERSION, Watch, WatchedSink, WatchedStore, program_words};
+use program_runs::{VERSION, Watch, WatchedSink, WatchedStore, program_words, said_of_store};
 use script_hints::{Ended, KeptStore, is_script_to_keep, said_of_lines};
 use std::alloc::Global;
 use std::io::IsTerminal;
@@ -75,7 +75,7 @@ fn ran<R: Files + Print + Eprint + Clock>(
     out.clear();
     Run {
         status,
-        unread: unread(alloc, store.store().fault()),
+        unread: said_of_store(alloc, store.store().fault()),
         answers,
         script,
     }

@@ -1,13 +1,13 @@
 //! From the files of a run to the catalog.
 
-use catalog_text::catalog_text;
+use catalog_text::{ShownFields, catalog_text, read_shown};
 use plan_base::{NoMemory, Steps};
-use planner_cli::{DUMP_LIMIT, Long, Ready, Status};
 use planner_core::Planner;
-use program_runs::{End, LINES, Names, answered, end_by, loaded, whole_file, written};
+use program_runs::{End, Names, answered, end_by, end_of_run, loaded, whole_file, written};
+use run_inputs::{DUMP_LIMIT, Long, Ready, Status};
+use script_lines::{Lines, has_many_lines};
 use script_reader::Command;
-use script_runner::{is_refusal, split_line, trim_return};
-use shown_fields::{ShownFields, read_shown};
+use script_runner::is_refusal;
 use std::alloc::Global;
 use std::rt::Files;
 
@@ -36,17 +36,13 @@ fn take_lines<L>(
     script: &[u8],
     steps: &mut Steps<L>,
 ) -> Result<bool, Status> {
-    let mut rest = script;
-    let mut number: u32 = 0;
+    if has_many_lines(script) {
+        return Err(Status::TooLong(Long::ScriptLines));
+    }
+    let mut lines = Lines::behind(0, script);
     let mut refused = false;
-    while !rest.is_empty() {
-        if number >= LINES {
-            return Err(Status::TooLong(Long::ScriptLines));
-        }
-        number += 1;
-        let (line, more) = split_line(rest);
-        rest = more;
-        refused |= take_line(alloc, planner, number, trim_return(line), steps)?;
+    while let Some(line) = lines.next() {
+        refused |= take_line(alloc, planner, line.number, line.bytes, steps)?;
     }
     Ok(refused)
 }
@@ -141,6 +137,6 @@ pub fn catalog_of<R: Files + Print>(rt: &R, alloc: Global, names: Names<'_>) -> 
     let mut steps = Steps::new(Program);
     match loaded(rt, alloc, names, &mut steps) {
         Ok(ready) => shown_end(rt, alloc, ready, names, &mut steps),
-        Err(status) => end_by(rt, alloc, &status, names),
+        Err(end) => end_of_run(rt, alloc, end, names),
     }
 }

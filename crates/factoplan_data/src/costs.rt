@@ -1,15 +1,16 @@
 //! What a unit of each reached good takes behind the last line of a script, as an estimate.
 ghost use Rattle.game_types.specs.Sound.{IsSound};
 
+use crate::estimates::costs_of;
 use crate::fault::{PlanFault, end_by_fault};
 use crate::lines::{carry_out, close_batch};
+use crate::texts::{csv_text, json_text};
 use carried_lines::reached_nodes;
 use game_types::Game;
-use good_costs::{costs_of, csv_text, json_text};
 use plan_base::{NoMemory, Steps};
-use planner_cli::Ready;
 use planner_core::Planner;
 use program_runs::{End, Names, written};
+use run_inputs::Ready;
 use std::alloc::Global;
 use std::rt::Files;
 

@@ -1,7 +1,7 @@
 //! Why there is no plan to write, and how that is said.
 use plan_base::NoMemory;
-use planner_cli::{Long, Status};
 use program_runs::{End, Names, end_by};
+use run_inputs::{Long, Status};
 use std::alloc::Global;
 use std::rt::Files;
 

@@ -4,11 +4,12 @@ ghost use Rattle.factoplan_data.specs.Told.{IsToldAs, TellsLine};
 
 use plan_base::{NoMemory, Steps};
 use plan_report::Reply;
-use planner_cli::{Long, Ready, Status};
 use planner_core::Planner;
-use program_runs::{End, LINES, Names, end_by};
+use program_runs::{End, Names, end_by};
 use report_json::line_text;
-use script_runner::{has_many_lines, is_refusal, reading_of, reply_to, split_line, trim_return};
+use run_inputs::{Long, Ready, Status};
+use script_lines::{Lines, has_many_lines};
+use script_runner::{is_refusal, reading_of, reply_to};
 use std::alloc::Global;
 use std::io;
 use std::io::Write;
@@ -85,14 +86,10 @@ fn write_lines<R: Print, L>(
     if has_many_lines(script) {
         return Err(Status::TooLong(Long::ScriptLines));
     }
-    let mut rest = script;
-    let mut number: u32 = 0;
+    let mut lines = Lines::behind(0, script);
     let mut refused = false;
-    while !rest.is_empty() && number < LINES {
-        number += 1;
-        let (line, more) = split_line(rest);
-        rest = more;
-        refused |= write_line(rt, alloc, planner, number, trim_return(line), steps)?;
+    while let Some(line) = lines.next() {
+        refused |= write_line(rt, alloc, planner, line.number, line.bytes, steps)?;
     }
     Ok(refused)
 }

@@ -3,9 +3,10 @@
 use crate::fault::PlanFault;
 use plan_base::{NoMemory, Steps};
 use planner_core::Planner;
-use program_runs::{LINES, answered};
+use program_runs::answered;
+use script_lines::{Lines, has_many_lines};
 use script_reader::Command;
-use script_runner::{is_refusal, split_line, trim_return};
+use script_runner::is_refusal;
 use std::alloc::Global;
 
 // Carries out a line. Answers whether it is refused.
@@ -31,17 +32,13 @@ pub fn carry_out<L>(
     script: &[u8],
     steps: &mut Steps<L>,
 ) -> Result<bool, PlanFault> {
-    let mut rest = script;
-    let mut number: u32 = 0;
+    if has_many_lines(script) {
+        return Err(PlanFault::TooManyLines);
+    }
+    let mut lines = Lines::behind(0, script);
     let mut refused = false;
-    while !rest.is_empty() {
-        if number >= LINES {
-            return Err(PlanFault::TooManyLines);
-        }
-        number += 1;
-        let (line, more) = split_line(rest);
-        rest = more;
-        refused |= carry_line(alloc, planner, number, trim_return(line), steps)?;
+    while let Some(line) = lines.next() {
+        refused |= carry_line(alloc, planner, line.number, line.bytes, steps)?;
     }
     Ok(refused)
 }

@@ -3,11 +3,13 @@
 
 mod asked;
 mod costs;
+mod estimates;
 mod fault;
 mod json;
 mod lines;
 mod running;
 mod table;
+mod texts;
 
 use crate::running::run;
 use plan_base::NoMemory;

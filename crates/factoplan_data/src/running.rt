@@ -8,7 +8,7 @@ use crate::json::json_end;
 use crate::table::table_end;
 use clap::ArgMatches;
 use plan_base::{NoMemory, Steps, Text};
-use program_runs::{End, Names, end_by, end_by_words, loaded};
+use program_runs::{End, Names, end_by_words, end_of_run, loaded};
 use std::alloc::Global;
 use std::rt::Files;
 
@@ -23,7 +23,7 @@ fn json_run<R: Files + Print>(rt: &R, alloc: Global, names: Names<'_>) -> End {
     let mut steps = Steps::new(Program);
     match loaded(rt, alloc, names, &mut steps) {
         Ok(ready) => json_end(rt, alloc, ready, names, &mut steps),
-        Err(status) => end_by(rt, alloc, &status, names),
+        Err(end) => end_of_run(rt, alloc, end, names),
     }
 }
 
@@ -41,7 +41,7 @@ fn csv_run<R: Files + Print>(rt: &R, alloc: Global, names: Names<'_>, table: &st
     let mut steps = Steps::new(Program);
     match loaded(rt, alloc, names, &mut steps) {
         Ok(ready) => table_end(rt, alloc, ready, names, table, &mut steps),
-        Err(status) => end_by(rt, alloc, &status, names),
+        Err(end) => end_of_run(rt, alloc, end, names),
     }
 }
 
@@ -63,7 +63,7 @@ fn costs_run<R: Files + Print>(rt: &R, alloc: Global, names: Names<'_>, form: Fo
     let mut steps = Steps::new(Program);
     match loaded(rt, alloc, names, &mut steps) {
         Ok(ready) => costs_end(rt, alloc, ready, names, form, &mut steps),
-        Err(status) => end_by(rt, alloc, &status, names),
+        Err(end) => end_of_run(rt, alloc, end, names),
     }
 }
 

@@ -1,7 +1,15 @@
 //! The replies to a script about a dump as one HTML page, or the plan of a table as a graph.
 #![tactic(auto)]
 
-use page_session::run_program;
+mod asked;
+mod fault;
+mod flow;
+mod pictures;
+mod running;
+mod session;
+mod tables;
+
+use crate::running::run_program;
 use plan_base::NoMemory;
 use program_runs::{End, ended, program_words};
 use std::process::ExitCode;

@@ -2,6 +2,8 @@
 #![tactic(auto)]
 
 mod running;
+mod wished;
+mod words;
 
 use crate::running::session_of;
 use clap::{Arg, ArgMatches, Command};

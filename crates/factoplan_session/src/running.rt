@@ -1,14 +1,13 @@
 //! From the file of a dump to the end of a session.
 
+use crate::wished::TableWishes;
+use catalog_text::{ShownFields, read_shown};
 use plan_base::{NoMemory, Steps};
 use plan_io::HostSink;
-use planner_cli::{DUMP_LIMIT, Long, Ready, Status};
 use planner_core::Planner;
-use program_runs::{End, Names, end_by, loaded, whole_file};
-use run_inputs::tell;
+use program_runs::{End, Names, RunEnd, end_of_run, loaded, whole_file};
+use run_inputs::{DUMP_LIMIT, Long, Ready, Status, tell};
 use session_lines::{Session, SessionEnd, serve};
-use session_wishes::TableWishes;
-use shown_fields::{ShownFields, read_shown};
 use std::alloc::Global;
 use std::io::Input;
 use std::rt::Files;
@@ -79,12 +78,15 @@ fn shown_status<R: Files + Print + Input, L>(
     }
 }
 
-// How the session ends.
-fn status_of<R: Files + Print + Input>(rt: &R, alloc: Global, names: Names<'_>) -> Status {
+// How the session ends. Of standard input it isn't told why it could not be read.
+fn end_of<R: Files + Print + Input>(rt: &R, alloc: Global, names: Names<'_>) -> RunEnd {
     let mut steps = Steps::new(Program);
     match loaded(rt, alloc, names, &mut steps) {
-        Ok(ready) => shown_status(rt, alloc, ready, names, &mut steps),
-        Err(status) => status,
+        Ok(ready) => RunEnd {
+            status: shown_status(rt, alloc, ready, names, &mut steps),
+            unread: None,
+        },
+        Err(end) => end,
     }
 }
 
@@ -98,8 +100,8 @@ fn tell_end<R: Print>(alloc: Global, status: Status, out: &mut HostSink<'_, R>) 
 
 /// Answers the lines of standard input over a dump until they end, and tells on standard output why it ends before.
 pub fn session_of<R: Files + Print + Input>(rt: &R, alloc: Global, names: Names<'_>) -> End {
-    let status = status_of(rt, alloc, names);
+    let RunEnd { status, unread } = end_of(rt, alloc, names);
     let mut out = HostSink::make(rt);
-    let told = tell_end(alloc, status, &mut out);
-    end_by(rt, alloc, &told, names)
+    let status = tell_end(alloc, status, &mut out);
+    end_of_run(rt, alloc, RunEnd { status, unread }, names)
 }

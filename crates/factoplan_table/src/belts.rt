@@ -1,9 +1,9 @@
 //! The belt that is asked for.
+use crate::rates::{BeltFault, belt_rate};
 use crate::saying::{saying, without_memory};
-use belt_rates::{BeltFault, belt_rate};
 use fractions::Ratio;
-use planner_cli::DUMP_LIMIT;
 use program_runs::{End, whole_file};
+use run_inputs::DUMP_LIMIT;
 use std::alloc::Global;
 use std::rt::Files;
 use wish_words::Asked;

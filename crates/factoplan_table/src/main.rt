@@ -3,7 +3,9 @@
 
 mod belts;
 mod next;
+mod rates;
 mod saying;
+mod trees;
 
 use crate::belts::belt_of;
 use crate::next::command_for;
@@ -11,11 +13,12 @@ use crate::saying::{end_by_failure, end_by_fault};
 use clap::ArgMatches;
 use fractions::Ratio;
 use plan_base::{NoMemory, Steps, Text};
-use planner_cli::{Long, Ready, SCRIPT_LIMIT, Status};
 use planner_core::Planner;
 use program_runs::{
-    End, NO_SCRIPT, Names, VERSION, end_by, end_by_words, ended, loaded, program_words, written,
+    End, NO_SCRIPT, Names, VERSION, end_by, end_by_words, end_of_run, ended, loaded, program_words,
+    written,
 };
+use run_inputs::{Long, Ready, SCRIPT_LIMIT, Status};
 use std::alloc::Global;
 use std::process::ExitCode;
 use std::rt::Files;
@@ -99,7 +102,7 @@ fn wish_run<R: Files + Print>(
     let mut steps = Steps::new(Program);
     let ready = match loaded(rt, alloc, names, &mut steps) {
         Ok(ready) => ready,
-        Err(status) => return end_by(rt, alloc, &status, names),
+        Err(end) => return end_of_run(rt, alloc, end, names),
     };
     let mut said = String::new(alloc);
     match script_for(alloc, ready, asked, belt, &mut said, &mut steps) {

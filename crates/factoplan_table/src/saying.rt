@@ -1,7 +1,7 @@
 //! How the program ends where it prints no lines.
 use plan_base::NoMemory;
-use planner_cli::{Long, Status};
 use program_runs::{End, Names, end_by};
+use run_inputs::{Long, Status};
 use std::alloc::Global;
 use std::rt::Files;
 use wish_answers::Failure;

@@ -1,11 +1,9 @@
-pub mod Loops
 pub mod Renumbered
 pub mod PlaceLemmas
 pub mod NameLemmas
 pub mod SoundSplit
 pub mod AssemblyLemmas
 pub mod SplittingLemmas
-pub mod ListLoops
 pub mod ListLemmas
 pub mod MadeFluids
 pub mod Contents

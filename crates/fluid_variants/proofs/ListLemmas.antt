@@ -2,9 +2,9 @@
 use Rattle.std.proofs.Common.{◌≡◌, ◌∙◌, ◌<◌, ◌≤◌, ◌+◌, ℕ, Bool, true, false, List, [], ◌∷◌, ◌++◌, length, take, drop, get_or, refl, sym, ap, subst, arith, zero, suc, inl, inr, ◌⊎◌}
 use Rattle.std.specs.List.{insert, prefix_len}
 use Rattle.std.proofs.lemmas.Grind.{common_steps}
-use Rattle.game_types.proofs.Walks.{next, drop_all}
 use Rattle.std.specs.Prelude.{if◌then◌else◌, Some, None, slice_get}
 use Rattle.std.proofs.lemmas.Option.{get_or_from_slice_get, slice_get_cases, slice_get_within}
+use Rattle.plan_base.proofs.Walks.{next, drop_all}
 use Rattle.fractions.specs.Fraction.{Fraction}
 use Rattle.game_types.specs.Temperatures.{is_cooler}
 use Rattle.fluid_variants.specs.Temperatures.{with_temperature}

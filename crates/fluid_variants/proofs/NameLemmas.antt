@@ -6,14 +6,13 @@ use Rattle.std.specs.Global.{Global}
 use Rattle.std.specs.List.{list_any, position_or_len}
 use Rattle.std.specs.Str.{bytes_eq}
 use Rattle.std.proofs.Math.Path.{fun_ext}
-use Rattle.std.proofs.Math.Seq.{take-suc}
 use Rattle.std.proofs.lemmas.Bool.Decides.{nat_tests}
 use Rattle.std.proofs.lemmas.Grind.{common_steps}
-use Rattle.std.proofs.lemmas.List.{get_or_read}
+use Rattle.std.proofs.lemmas.List.{get_or_read, drop_more}
 use Rattle.std.proofs.lemmas.Option.{get_or_from_slice_get, slice_get_within}
 use Rattle.std.proofs.lemmas.Slice.Eq.{bytes_eq-Decides}
+use Rattle.plan_base.proofs.Walks.{next, drop_all, take_next}
 use Rattle.fractions.specs.Fraction.{Fraction}
-use Rattle.game_types.proofs.Walks.{next, next_at, drop_all}
 use Rattle.game_types.specs.Temperatures.{first_where}
 use Rattle.name_table.specs.Names.{place_of, with_name}
 use Rattle.fluid_variants.specs.Contents.{contents}
@@ -27,7 +26,7 @@ next_name names k name is = next names k name (slice_get_within names k name is)
 
 next_list : (lists : List (Vec Fraction Global)) (k : ℕ) (list : Vec Fraction Global) → k < length lists → list ≡ get_or lists k list → drop k (contents lists) ≡ list.items ∷ drop (k + 1) (contents lists)
 next_list lists k list listed there =
-    next_at (contents lists) k [] (let long = length_contents lists in omega (arith, long, listed)) ∙ ap (λ l. l ∷ drop (k + 1) (contents lists)) (contents_at lists k list listed there)
+    drop_more (contents lists) k [] (let long = length_contents lists in omega (arith, long, listed)) ∙ ap (λ l. l ∷ drop (k + 1) (contents lists)) (contents_at lists k list listed there)
 
 pub variants_next : (found names : List (List ℕ)) (lists : List (Vec Fraction Global)) (k : ℕ) (name : List ℕ) (list : Vec Fraction Global) → slice_get names k ≡ Some name → k < length lists → list ≡ get_or lists k list
     → found ++ all_variant_names (drop k names) (drop k (contents lists)) ≡ (found ++ variant_names name list.items) ++ all_variant_names (drop (k + 1) names) (drop (k + 1) (contents lists))
@@ -184,9 +183,6 @@ first_nowhere {X = X} p xs at = by_test (nat_lt (position_or_len p xs) (length x
     by_test false test at = first_none p xs (grind (arith, nat_tests, test))
 
 -- ---- a table of names, one after another
-take_next : {X : Type 0} (xs : List X) (k : ℕ) (x : X) → k < length xs → x ≡ get_or xs k x → take (k + 1) xs ≡ take k xs ++ x ∷ []
-take_next xs k x within is = grind (arith, common_steps, take-suc xs k x within, is)
-
 pub twice_stop : (names : List (List ℕ)) (k : ℕ) (x : List ℕ) → k < length names → x ≡ get_or names k x → is_some (place_of (take k names) x) ≡ true → first_twice (take k names) (drop k names) ≡ Some (get_or names k [])
 unfolding first_twice
 twice_stop names k x within is there = rw (next names k x within is, there) (ap Some (get_or_read names k x within is []))

@@ -7,9 +7,10 @@ use Rattle.std.proofs.lemmas.Bool.Decides.{nat_tests}
 use Rattle.std.proofs.lemmas.Grind.{common_steps}
 use Rattle.std.proofs.lemmas.List.Sums.{prefix_len-le-length, sum_by_more, sum_by-take-le}
 use Rattle.std.proofs.lemmas.Option.{get_or_from_slice_get, slice_get-get_or, slice_get_past, slice_get_within}
-use Rattle.game_types.proofs.Walks.{next, next_at, drop_all}
+use Rattle.std.proofs.lemmas.List.{drop_more}
 use Rattle.fractions.specs.Fraction.{Fraction}
 use Rattle.plan_base.specs.declared.ids.GoodId.{GoodId}
+use Rattle.plan_base.proofs.Walks.{next, drop_all}
 use Rattle.game_types.specs.declared.goods.Fluid.{Fluid}
 use Rattle.game_types.specs.Temperatures.{is_cooler}
 use Rattle.fluid_variants.specs.declared.made.Made.{Made}
@@ -244,7 +245,7 @@ records_next items found fluids lists places k fluid list within same is there a
     let inside : k < length (contents lists) = within_contents lists k listed in
     let here : get_or places k 0 ≡ record_place items (contents lists) k = are k listed in
     ap (λ xs. found ++ all_records (record_place items (contents lists) k) xs (drop k (contents lists))) (next fluids k fluid within is)
-    ∙ ap (λ xs. found ++ all_records (record_place items (contents lists) k) (fluid ∷ drop (k + 1) fluids) xs) (next_at (contents lists) k [] inside)
+    ∙ ap (λ xs. found ++ all_records (record_place items (contents lists) k) (fluid ∷ drop (k + 1) fluids) xs) (drop_more (contents lists) k [] inside)
     ∙ ap (λ l. found ++ (records (record { 0 = record_place items (contents lists) k }) fluid l ++ all_records (record_place items (contents lists) k + record_count l) (drop (k + 1) fluids) (drop (k + 1) (contents lists)))) (list_there lists k list listed there)
     ∙ ap (λ n. found ++ (records (record { 0 = record_place items (contents lists) k }) fluid list.items ++ all_records n (drop (k + 1) fluids) (drop (k + 1) (contents lists)))) (ap (λ l. record_place items (contents lists) k + record_count l) (sym (list_there lists k list listed there)) ∙ sym (place_next items (contents lists) k inside))
     ∙ ap (λ n. found ++ (records (record { 0 = n }) fluid list.items ++ all_records (record_place items (contents lists) (k + 1)) (drop (k + 1) fluids) (drop (k + 1) (contents lists)))) (sym here)

@@ -1,5 +1,5 @@
 -- The temperatures of a fluid rise, and each at which it is made is among them.
-use Rattle.std.proofs.Common.{◌≡◌, ◌∙◌, ◌<◌, ◌≤◌, ◌+◌, ◌⊎◌, ℕ, zero, suc, Bool, true, false, List, [], ◌∷◌, length, get_or, refl, sym, ap, subst, arith, inl, inr}
+use Rattle.std.proofs.Common.{◌≡◌, ◌∙◌, ◌<◌, ◌≤◌, ◌+◌, ◌⊎◌, ℕ, zero, suc, Bool, true, false, List, [], ◌∷◌, length, get_or, refl, sym, ap, subst, arith, inl, inr, eq-eqb}
 use Rattle.std.specs.Prelude.{◌==◌, All, Some, ℤ, pos, ◌*ℤ◌, ◌<ℤ◌, ◌≤ℤ◌, int_lt, if◌then◌else◌, slice_get}
 use Rattle.std.specs.List.{prefix_len}
 use Rattle.std.specs.List.Sorted.{IsPartitionPoint, IsPartitionedBy}
@@ -159,15 +159,12 @@ kept_among good at found (one ∷ rest) among = kept_among good at (if one.good.
     by_test true = still_among at one.at found among
     by_test false = among
 
-same_good : (good : ℕ) → (good == good) ≡ true
-same_good good = grind arith
-
 all_among : (found : ℕ → List Fraction) → (all : List Made) → All (λ m. IsAmong (temperatures m.good.0 (found m.good.0) all) m.at) all
 unfolding temperatures
 all_among found [] = All-nil (λ (m : Made). IsAmong (temperatures m.good.0 (found m.good.0) []) m.at)
 all_among found (one ∷ rest) =
     All-cons (λ (m : Made). IsAmong (temperatures m.good.0 (found m.good.0) (one ∷ rest)) m.at) one rest
-    (kept_among one.good.0 one.at (if one.good.0 == one.good.0 then with_temperature one.at (found one.good.0) else found one.good.0) rest (rw (same_good one.good.0) (put_among one.at (found one.good.0))))
+    (kept_among one.good.0 one.at (if one.good.0 == one.good.0 then with_temperature one.at (found one.good.0) else found one.good.0) rest (rw (eq-eqb one.good.0 one.good.0 refl) (put_among one.at (found one.good.0))))
     (all_among (λ good. if one.good.0 == good then with_temperature one.at (found good) else found good) rest)
 
 -- ---- the lists of all fluids

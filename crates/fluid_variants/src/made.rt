@@ -111,7 +111,7 @@ fn put_found<T: Drop>(list: &mut Vec<T>, found: Option<T>) -> Result<(), NoMemor
     Ok(())
 }
 
-#[tactic(auto, using(crate::proofs::ListLoops::found_next, crate::proofs::ListLoops::found_end))]
+#[tactic(auto, using(plan_base::proofs::Walks::found_next, plan_base::proofs::Walks::found_end))]
 fn put_products(list: &mut Vec<Made>, game: &Game, products: &[Product]) -> Result<(), NoMemory>
     ensures { IfOk result (λ done. list.new.items ≡ list.old.items ++ filter_map (product_made game.now) products.now) }
 {
@@ -121,7 +121,7 @@ fn put_products(list: &mut Vec<Made>, game: &Game, products: &[Product]) -> Resu
     Ok(())
 }
 
-#[tactic(auto, using(crate::proofs::ListLoops::flat_next, crate::proofs::ListLoops::flat_end))]
+#[tactic(auto, using(plan_base::proofs::Walks::flat_next, plan_base::proofs::Walks::flat_end))]
 fn put_recipes(list: &mut Vec<Made>, game: &Game) -> Result<(), NoMemory>
     ensures { IfOk result (λ done. list.new.items ≡ list.old.items ++ flat_map (λ recipe. filter_map (product_made game.now) recipe.products) game.now.recipes) }
 {
@@ -131,7 +131,7 @@ fn put_recipes(list: &mut Vec<Made>, game: &Game) -> Result<(), NoMemory>
     Ok(())
 }
 
-#[tactic(auto, using(crate::proofs::ListLoops::flat_next, crate::proofs::ListLoops::flat_end))]
+#[tactic(auto, using(plan_base::proofs::Walks::flat_next, plan_base::proofs::Walks::flat_end))]
 fn put_sources(list: &mut Vec<Made>, game: &Game) -> Result<(), NoMemory>
     ensures { IfOk result (λ done. list.new.items ≡ list.old.items ++ flat_map (λ source. filter_map (product_made game.now) source.products) game.now.sources) }
 {
@@ -141,7 +141,7 @@ fn put_sources(list: &mut Vec<Made>, game: &Game) -> Result<(), NoMemory>
     Ok(())
 }
 
-#[tactic(auto, using(crate::proofs::ListLoops::found_next, crate::proofs::ListLoops::found_end))]
+#[tactic(auto, using(plan_base::proofs::Walks::found_next, plan_base::proofs::Walks::found_end))]
 fn put_machines(list: &mut Vec<Made>, game: &Game) -> Result<(), NoMemory>
     ensures { IfOk result (λ done. list.new.items ≡ list.old.items ++ filter_map (λ machine. machine_made game.now machine.kind) game.now.machines) }
 {

@@ -31,7 +31,7 @@ fn variant(base: GoodId, fluid: &Fluid, at: Ratio) -> Fluid
     }
 }
 
-#[tactic(auto, using(crate::proofs::Loops::map_next, crate::proofs::Loops::map_end))]
+#[tactic(auto, using(plan_base::proofs::Walks::map_next, plan_base::proofs::Walks::map_end))]
 fn put_variants(
     list: &mut Vec<Fluid>,
     base: GoodId,
@@ -75,7 +75,7 @@ fn variant_name(alloc: Global, name: &str, at: &Ratio) -> Result<Text, NoMemory>
     Ok(Text::from_string(format!(in alloc; "{name}@{at}")?))
 }
 
-#[tactic(auto, using(crate::proofs::Loops::map_next, crate::proofs::Loops::map_end))]
+#[tactic(auto, using(plan_base::proofs::Walks::map_next, plan_base::proofs::Walks::map_end))]
 fn put_each_name(
     alloc: Global,
     list: &mut Vec<Text>,

@@ -70,7 +70,7 @@ fn new_product<R: Renumber>(game: &Game, by: &R, product: &Product) -> Product
     }
 }
 
-#[tactic(auto, using(crate::proofs::Loops::map_next, crate::proofs::Loops::map_end))]
+#[tactic(auto, using(plan_base::proofs::Walks::map_next, plan_base::proofs::Walks::map_end))]
 fn new_parts<R: Renumber>(alloc: Global, by: &R, parts: &[Part]) -> Result<Items<Part>, NoMemory>
     ensures { IfOk result (λ new. new ≡ map (new_part (record { taken = R.taken_as by.now; given = R.given_as by.now })) parts.now) }
 {
@@ -81,7 +81,7 @@ fn new_parts<R: Renumber>(alloc: Global, by: &R, parts: &[Part]) -> Result<Items
     Ok(Items::from_vec(new))
 }
 
-#[tactic(auto, using(crate::proofs::Loops::map_next, crate::proofs::Loops::map_end))]
+#[tactic(auto, using(plan_base::proofs::Walks::map_next, plan_base::proofs::Walks::map_end))]
 fn new_products<R: Renumber>(
     alloc: Global,
     game: &Game,

@@ -8,7 +8,7 @@ use plan_base::NoMemory;
 use std::alloc::Global;
 
 /// The recipes.
-#[tactic(auto, using(crate::proofs::Loops::map_next, crate::proofs::Loops::map_end))]
+#[tactic(auto, using(plan_base::proofs::Walks::map_next, plan_base::proofs::Walks::map_end))]
 pub fn new_recipes<R: Renumber>(alloc: Global, game: &Game, by: &R) -> Result<Vec<Recipe>, NoMemory>
     ensures { IfOk result (λ new. new.items ≡ map (new_recipe game.now (record { taken = R.taken_as by.now; given = R.given_as by.now })) game.now.recipes) }
 {
@@ -21,7 +21,7 @@ pub fn new_recipes<R: Renumber>(alloc: Global, game: &Game, by: &R) -> Result<Ve
 }
 
 /// The sources.
-#[tactic(auto, using(crate::proofs::Loops::map_next, crate::proofs::Loops::map_end))]
+#[tactic(auto, using(plan_base::proofs::Walks::map_next, plan_base::proofs::Walks::map_end))]
 pub fn new_sources<R: Renumber>(alloc: Global, game: &Game, by: &R) -> Result<Vec<Source>, NoMemory>
     ensures { IfOk result (λ new. new.items ≡ map (new_source game.now (record { taken = R.taken_as by.now; given = R.given_as by.now })) game.now.sources) }
 {

@@ -3,9 +3,8 @@ use Rattle.std.specs.Prelude.{◌≡◌, ◌≢◌, ℕ, ◌<◌, Bool, true, fa
 use Rattle.std.specs.Char.{is_ascii_digit}
 use Rattle.std.specs.Int.{IsInRange}
 use Rattle.std.specs.Str.Parse.{AllDigits, digits_value, starts_with_minus}
-use Rattle.std.proofs.Common.{refl, sym, ap, subst, ◌∙◌, arith, inl, inr, ⊎_elim, eqb-true}
+use Rattle.std.proofs.Common.{refl, sym, ap, subst, ◌∙◌, arith, inl, inr, ⊎_elim, eqb-true, append-nil, ne_eqb}
 use Rattle.std.proofs.Math.Nat.{one-le-pow}
-use Rattle.std.proofs.lemmas.Bool.Decides.{nat_tests}
 use Rattle.std.proofs.lemmas.Str.Parse.{digit_from_value}
 use Rattle.fractions.specs.Digits.{front_digits, behind_digits}
 use Rattle.fractions.specs.Numeral.{Numeral, Writes, IsWholePart, IsPowerSign, IsPowerText, HasPower, sign_text, part_text}
@@ -146,11 +145,8 @@ numeral_sound text n e =
     signed_writes text (behind_minus text) (starts_with_minus text) n (minus-behind text) (whole_step (starts_with_minus text) (behind_minus text) (is_whole (front_digits (behind_minus text))) n refl e)
 
 -- ---- and whatever the text writes is found
-not_by : (c k : ℕ) → c ≢ k → (c == k) ≡ false
-not_by c k h = grind (arith, nat_tests)
-
 not_byte : (c k : ℕ) → IsInRange 48 57 c → k < 48 → (c == k) ≡ false
-not_byte c k h l = not_by c k (λ e. omega (arith, h, l, e))
+not_byte c k h l = ne_eqb c k (λ e. omega (arith, h, l, e))
 
 -- a sign and what stands behind it are told apart where that is a whole part and more
 pub minus_found : (negative : Bool) (whole rest : List ℕ) → IsWholePart whole → (starts_with_minus (sign_text negative ++ (whole ++ rest)) ≡ negative) × (behind_minus (sign_text negative ++ (whole ++ rest)) ≡ whole ++ rest)
@@ -163,7 +159,7 @@ minus_found false (c ∷ cs) rest w =
 pub whole_found : (ds : List ℕ) → IsWholePart ds → is_whole ds ≡ true
 whole_found [] w = absurd (omega (arith, w.some))
 whole_found (c ∷ []) w = refl
-whole_found (c ∷ d ∷ ds) w = ap not (not_by c 48 (λ e. absurd (omega (arith, w.no_leading_zero e))))
+whole_found (c ∷ d ∷ ds) w = ap not (ne_eqb c 48 (λ e. absurd (omega (arith, w.no_leading_zero e))))
 
 -- the first byte of an exponent
 abbrev pub PowerFirst : List ℕ → Type 0
@@ -190,7 +186,7 @@ part_no_digit (c ∷ cs) text h = digit_false 46 (λ r. omega (arith, r))
 
 part_found : (part text : List ℕ) → AllDigits 10 part → PowerFirst text → part_of (part_text part ++ text) ≡ Some (part, text)
 part_found [] [] d h = refl
-part_found [] (c ∷ cs) d h = ap (λ b. cond b (at_least_one (front_digits cs) (behind_digits cs)) (Some ([], c ∷ cs))) (not_by c 46 (λ e. omega (arith, e, mark_above c h)))
+part_found [] (c ∷ cs) d h = ap (λ b. cond b (at_least_one (front_digits cs) (behind_digits cs)) (Some ([], c ∷ cs))) (ne_eqb c 46 (λ e. omega (arith, e, mark_above c h)))
 part_found (c ∷ cs) text d h =
     let r : (front_digits ((c ∷ cs) ++ text) ≡ c ∷ cs) × (behind_digits ((c ∷ cs) ++ text) ≡ text) = front-append (c ∷ cs) text d (power_no_digit text h) in
     ap (λ f. at_least_one f (behind_digits ((c ∷ cs) ++ text))) r.0 ∙ ap (at_least_one (c ∷ cs)) r.1
@@ -214,15 +210,11 @@ only_found : (negative : Bool) (ds : List ℕ) → 0 < length ds → only_digits
 only_found negative [] some = absurd (omega arith)
 only_found negative (c ∷ cs) some = refl
 
-append-nil_lem : (l : List ℕ) → l ++ [] ≡ l
-append-nil_lem [] = refl
-append-nil_lem (x ∷ xs) = ap (λ t. x ∷ t) (append-nil_lem xs)
-
 digits_found : (negative : Bool) (ds : List ℕ) → AllDigits 10 ds → 0 < length ds → only_digits negative (front_digits ds) (behind_digits ds) ≡ Some (negative, ds)
 digits_found negative ds d some =
     let r : (front_digits (ds ++ []) ≡ ds) × (behind_digits (ds ++ []) ≡ []) = front-append ds [] d tt in
-    let f : front_digits ds ≡ ds = ap front_digits (sym (append-nil_lem ds)) ∙ r.0 in
-    let b : behind_digits ds ≡ [] = ap behind_digits (sym (append-nil_lem ds)) ∙ r.1 in
+    let f : front_digits ds ≡ ds = ap front_digits (sym (append-nil ds)) ∙ r.0 in
+    let b : behind_digits ds ≡ [] = ap behind_digits (sym (append-nil ds)) ∙ r.1 in
     ap (λ x. only_digits negative x (behind_digits ds)) f ∙ (ap (only_digits negative ds) b ∙ only_found negative ds some)
 
 mark_found : (m : ℕ) → (m ≡ 101) ⊎ (m ≡ 69) → (m == 101 || m == 69) ≡ true
@@ -269,7 +261,7 @@ denominator_by c cs false (d ∷ ds) e h = cc
 
 all_front : (text : List ℕ) → behind_digits text ≡ [] → AllDigits 10 text
 all_front text e =
-    subst (AllDigits 10) (sym (append-nil_lem (front_digits text)) ∙ (ap (λ t. front_digits text ++ t) (sym e) ∙ front-behind text)) (front_all_digits text)
+    subst (AllDigits 10) (sym (append-nil (front_digits text)) ∙ (ap (λ t. front_digits text ++ t) (sym e) ∙ front-behind text)) (front_all_digits text)
 
 pub denominator_sound : (ds : List ℕ) → is_denominator ds ≡ true → IsWholePart ds × (0 < digits_value 10 ds)
 denominator_sound [] e = cc
@@ -288,8 +280,8 @@ pub denominator_found : (ds : List ℕ) → IsWholePart ds → 0 < digits_value 
 denominator_found [] w h = absurd (omega (arith, w.some))
 denominator_found (c ∷ cs) w h =
     let r : (front_digits ((c ∷ cs) ++ []) ≡ c ∷ cs) × (behind_digits ((c ∷ cs) ++ []) ≡ []) = front-append (c ∷ cs) [] w.digits tt in
-    let b : behind_digits (c ∷ cs) ≡ [] = ap behind_digits (sym (append-nil_lem (c ∷ cs))) ∙ r.1 in
-    let e : (c == 48) ≡ false = not_by c 48 (λ z. absurd (omega (arith, zero_alone c cs z (w.no_leading_zero z), h))) in
+    let b : behind_digits (c ∷ cs) ≡ [] = ap behind_digits (sym (append-nil (c ∷ cs))) ∙ r.1 in
+    let e : (c == 48) ≡ false = ne_eqb c 48 (λ z. absurd (omega (arith, zero_alone c cs z (w.no_leading_zero z), h))) in
     ap (λ k. not k && is_nothing (behind_digits (c ∷ cs))) e ∙ ap is_nothing b
 
 quotient_by : (text top cs : List ℕ) (negative : Bool) (c : ℕ) (a b d : Bool) (q : Quotient) → text ≡ sign_text negative ++ (top ++ c ∷ cs) → AllDigits 10 top → (c == 47) ≡ a → is_whole top ≡ b → is_denominator cs ≡ d → cond (a && b && d) (Some (record { negative = negative; top = top; bottom = cs })) None ≡ Some q → WritesQuotient text q

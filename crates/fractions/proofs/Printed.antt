@@ -4,14 +4,13 @@ use Rattle.std.specs.Option.{SomeIff}
 use Rattle.std.specs.Char.{digit_value}
 use Rattle.std.specs.Fmt.{decimal, signed_decimal}
 use Rattle.std.specs.Str.Parse.{AllDigits, digits_value, digits_value_after}
-use Rattle.std.proofs.Common.{refl, sym, ap, subst, ◌∙◌, arith, inl, inr, ⊎_elim, get_or, length-append, eqb-true}
+use Rattle.std.proofs.Common.{refl, sym, ap, subst, ◌∙◌, arith, inl, inr, ⊎_elim, get_or, length-append, eqb-true, append-nil}
 use Rattle.std.proofs.Math.ListN.{get_or-append}
 use Rattle.std.proofs.Math.IntN.{nat_abs}
-use Rattle.std.proofs.Math.Nat.{eq-one_of_dvd-one}
 use Rattle.std.proofs.lemmas.Fmt.{decimal_is_IsNumeral_wide, decimal_by_steps_wide, decimal_step_wide, decimal_digit}
 use Rattle.std.proofs.lemmas.Str.{digit_value_digit}
 use Rattle.std.proofs.lemmas.Str.Parse.{digit_from_value}
-use Rattle.fractions.specs.Gcd.{gcd, gcd_is, gcd_comm, gcd-zero}
+use Rattle.fractions.specs.Gcd.{gcd, gcd_comm, gcd-zero}
 use Rattle.fractions.specs.Fraction.{Fraction, frac}
 use Rattle.fractions.specs.Fracs.{frac_same, negated-frac}
 use Rattle.fractions.specs.Limits.{IsNarrow}
@@ -21,6 +20,7 @@ use Rattle.fractions.specs.Plain.{IsPlainQuotient, IsPlainWhole}
 use Rattle.fractions.specs.Print.{printed}
 use Rattle.fractions.specs.Split.{numeral_of, quotient_of}
 use Rattle.fractions.specs.Stored.{num_frac, den_frac}
+pub use Rattle.fractions.proofs.Ceiling.{gcd-one}
 use Rattle.fractions.proofs.Grammar.{numeral_sound, numeral_found, quotient_sound, quotient_found}
 use Rattle.fractions.proofs.ReadsAs.{no_quotient, not_both, no_numeral}
 
@@ -47,10 +47,6 @@ le_value_after : (n : ℕ) (ds : List ℕ) → n ≤ digits_value_after 10 n ds
 le_value_after n [] = omega arith
 le_value_after n (c ∷ cs) = omega (arith, le_value_after (n * 10 + digit_value c) cs)
 
-append_nil : (xs : List ℕ) → xs ++ [] ≡ xs
-append_nil [] = refl
-append_nil (x ∷ xs) = ap (λ ys. x ∷ ys) (append_nil xs)
-
 append_one : (xs : List ℕ) (c : ℕ) (ys : List ℕ) → (xs ++ (c ∷ [])) ++ ys ≡ xs ++ (c ∷ ys)
 append_one [] c ys = refl
 append_one (x ∷ xs) c ys = ap (λ zs. x ∷ zs) (append_one xs c ys)
@@ -59,7 +55,7 @@ both : {A B C : Type 0} (f : A → B → C) {a b : A} {c d : B} → a ≡ b → 
 both f {b = b} {c = c} p q = ap (λ x. f x c) p ∙ ap (f b) q
 
 value_after : (n : ℕ) (ds : List ℕ) → 0 < n → AllDigits 10 ds → digits_value_after 10 n ds < 10 ^ 64 → decimal (digits_value_after 10 n ds) ≡ decimal n ++ ds
-value_after n [] some d small = sym (append_nil (decimal n))
+value_after n [] some d small = sym (append-nil (decimal n))
 value_after n (c ∷ cs) some d small =
     let m : ℕ = n * 10 + digit_value c in
     let k : digit_value c + 48 ≡ c = digit_value_digit c (digit_from_value c d.0) in
@@ -180,7 +176,7 @@ writes_whole text x w h e =
           e
           ∙ (printed_by x x.num x.den refl refl
           ∙ (whole_text x.den (signed_decimal x.num) h
-          ∙ (text_of x.num ∙ ap (λ t. sign_text (is_negative x.num) ++ t) (sym (append_nil (decimal (nat_abs x.num)))))));
+          ∙ (text_of x.num ∙ ap (λ t. sign_text (is_negative x.num) ++ t) (sym (append-nil (decimal (nat_abs x.num)))))));
     }
 
 back_by : (x : Fraction) (n d : ℕ) → n ≡ nat_abs x.num → d ≡ x.den → signed (is_negative x.num) (frac (pos n) d) ≡ x
@@ -292,9 +288,6 @@ quotient_printed text q w p =
     ∙ both (λ s u. sign_text q.negative ++ (s ++ 47 ∷ u)) (decimal_of_value q.top w.top_is (wide _ p.top_narrow)) (decimal_of_value q.bottom w.bottom_is (wide _ p.bottom_narrow))))) in
     (w.text_is ∙ sym t, value_narrow q.negative n d w.nonzero p.lowest p.top_narrow p.bottom_narrow)
 
-pub gcd-one : (n : ℕ) → gcd n 1 ≡ 1
-gcd-one n = eq-one_of_dvd-one (gcd_is n 1).1
-
 no_power_text : (text : List ℕ) (b : Bool) (ds : List ℕ) → IsPowerText text b ds → ds ≡ [] → text ≡ []
 no_power_text text b ds h e = ⊎_elim (λ k. k.0) (λ k. absurd (omega (arith, k.some, ap length e))) h
 
@@ -307,7 +300,7 @@ whole_printed text n w p =
     ∙ (whole_text 1 (signed_decimal (sgn n.negative k)) refl
     ∙ (sgn_text n.negative k p.not_minus_zero ∙ ap (λ s. sign_text n.negative ++ s) (decimal_of_value n.whole w.whole_is (wide _ p.narrow)))) in
     let rest : part_text n.part ++ w.power_text ≡ [] = both (λ s u. part_text s ++ u) p.no_part (no_power_text w.power_text n.power_negative n.power w.power_is p.no_power) in (
-      w.text_is ∙ (ap (λ s. sign_text n.negative ++ (n.whole ++ s)) rest ∙ (ap (λ s. sign_text n.negative ++ s) (append_nil n.whole) ∙ sym t)),
+      w.text_is ∙ (ap (λ s. sign_text n.negative ++ (n.whole ++ s)) rest ∙ (ap (λ s. sign_text n.negative ++ s) (append-nil n.whole) ∙ sym t)),
       value_narrow n.negative k 1 (omega arith) (gcd-one k) p.narrow (omega arith),
     )
 

@@ -7,7 +7,7 @@ use Rattle.std.proofs.Common.{refl, sym, ap, subst, ◌∙◌, arith, eqb-true, 
 use Rattle.std.proofs.Math.Nat.{mul-le-mul_right, pow-suc, pow-le-pow_right}
 use Rattle.std.proofs.lemmas.Nat.{div-mul-add}
 use Rattle.std.proofs.lemmas.Bool.Decides.{nat_tests}
-use Rattle.std.proofs.lemmas.List.{take-append-le, take-append-drop, length-take-le}
+use Rattle.std.proofs.lemmas.List.{take-append-le, take-append-drop, length-take-le, take_all}
 use Rattle.std.proofs.lemmas.Str.{digit_value_digit}
 use Rattle.std.proofs.lemmas.Str.Parse.{digit_from_value}
 use Rattle.std.proofs.lemmas.Int.Digits.{digits_value_push, digits_value-lt}
@@ -154,20 +154,11 @@ leading_more ds c l n h = by_count ds c l.count h.count_is n
         significant_none ds c z ∙ (nonzero_one c (n refl) ∙ ap (λ s. s ++ c ∷ []) (sym z))
     by_count ds c (suc k) e n = significant_some ds c (omega arith)
 
-take_short : (k : ℕ) (xs : List ℕ) → length xs ≤ k → take k xs ≡ xs
-take_short zero [] h = refl
-take_short zero (x ∷ xs) h = absurd (omega arith)
-take_short (suc k) [] h = refl
-take_short (suc k) (x ∷ xs) h = ap (λ t. x ∷ t) (take_short k xs (omega arith))
-
-pub take_all : (k : ℕ) (xs : List ℕ) → length xs ≤ k → take k xs ≡ xs
-take_all = take_short
-
 push_value : (s : List ℕ) (c v : ℕ) → length s < 16 → IsInRange 48 57 c → v ≡ digits_value 10 (take 16 s) → v * 10 + (c - 48) ≡ digits_value 10 (take 16 (s ++ c ∷ []))
 push_value s c v short r e =
     let l : length (s ++ c ∷ []) ≡ length s + 1 = length-append s (c ∷ []) in
-    let a : digits_value 10 (take 16 (s ++ c ∷ [])) ≡ digits_value 10 (s ++ c ∷ []) = ap (digits_value 10) (take_short 16 (s ++ c ∷ []) (omega arith)) in
-    let b : digits_value 10 (take 16 s) ≡ digits_value 10 s = ap (digits_value 10) (take_short 16 s (omega arith)) in
+    let a : digits_value 10 (take 16 (s ++ c ∷ [])) ≡ digits_value 10 (s ++ c ∷ []) = ap (digits_value 10) (take_all 16 (s ++ c ∷ []) (omega arith)) in
+    let b : digits_value 10 (take 16 s) ≡ digits_value 10 s = ap (digits_value 10) (take_all 16 s (omega arith)) in
     omega (arith, a, b, digits_value_push 10 s c, digit_value_digit c r, r, e)
 
 pub leading_kept : (ds : List ℕ) (c : ℕ) (l : Leading) → (l.count ≡ 0 → c ≡ 48 → ⊥) → IsInRange 48 57 c → l.count < 16 → IsLeading ds l → IsLeading (ds ++ c ∷ []) (record { count = l.count + 1; value = l.value * 10 + (c - 48) })

@@ -6,13 +6,14 @@ use Rattle.std.proofs.Common.{refl, sym, ap, subst, ◌∙◌, arith, ⊎_elim, 
 use Rattle.std.proofs.lemmas.Bool.{cases_lt}
 use Rattle.std.proofs.lemmas.Int.{ints, clamps}
 use Rattle.std.proofs.lemmas.Int.Digits.{digits_value-lt}
+use Rattle.std.proofs.lemmas.List.{take_all}
 use Rattle.fractions.specs.Fraction.{Fraction, zero_fraction, ◌≤ʳ◌}
 use Rattle.fractions.specs.Numeral.{Numeral, mantissa, scale, significant, first_place, place, rounded_at, magnitude, limit}
 use Rattle.fractions.specs.Leading.{IsLeading, near_place}
 use Rattle.fractions.specs.declared.numeral.Leading.{Leading}
 use Rattle.fractions.specs.declared.numeral.NumeralFault.{NumeralFault}
 use Rattle.fractions.specs.Reading.{GivesMagnitude}
-use Rattle.fractions.proofs.Significant.{AllDigits-append, AllDigits-significant, value-significant, significant_first, value-ge, value-take, take_all, leading_room}
+use Rattle.fractions.proofs.Significant.{AllDigits-append, AllDigits-significant, value-significant, significant_first, value-ge, value-take, leading_room}
 use Rattle.fractions.proofs.Magnitude.{zero_rounded, huge, tiny, near_short, near_long}
 
 abbrev pub digits_of : Numeral → List ℕ

@@ -1,8 +1,7 @@
 -- Loops over lists: what all give is what was found so far, and what the rest gives behind it.
 use Rattle.std.proofs.Common.{◌≡◌, ◌∙◌, ◌+◌, ◌<◌, ◌≤◌, ℕ, List, [], ◌∷◌, ◌++◌, Some, Ok, Err, Result, length, drop, refl, ap, sym, append_assoc, append-nil, arith, add-one}
 use Rattle.std.specs.Prelude.{slice_get, get_or}
-use Rattle.std.proofs.lemmas.Grind.{common_steps}
-use Rattle.std.proofs.lemmas.List.{length-append}
+use Rattle.std.proofs.lemmas.List.{length_push}
 use Rattle.std.proofs.lemmas.Option.{get_or_from_slice_get, slice_get_within}
 use Rattle.prototype_fields.proofs.Each.{next}
 use Rattle.prototype_fields.specs.Values.{Reading, ◌▸◌, each}
@@ -96,18 +95,12 @@ pub record LinkedSoFar {A B : Type 0} (section_of : A → Section) (link : A →
   pub room : length found + length rest ≡ length names
   pub counted : left ≡ length rest
 
-length_more : {B : Type 0} (found : List B) (one : B) → length (found ++ one ∷ []) ≡ length found + 1
-length_more found one = length-append found (one ∷ [])
-
 drop_next : (names : List (List ℕ)) (k : ℕ) (name : List ℕ) → slice_get names k ≡ Some name → drop k names ≡ name ∷ drop (k + 1) names
 drop_next names k name at = next names k name (slice_get_within names k name at) (sym (get_or_from_slice_get names k name name at))
 
-drop_all : (names : List (List ℕ)) (k : ℕ) → length names ≤ k → drop k names ≡ []
-drop_all names k end = grind (arith, common_steps)
-
-pub linked_first : {A B : Type 0} (section_of : A → Section) (link : A → Reading B) (raws : List A) (names : List (List ℕ)) (rest : List A) (left : ℕ) (found : List B)
+pub linked_first : {A B : Type 0} {section_of : A → Section} {link : A → Reading B} {raws : List A} {names : List (List ℕ)} {rest : List A} {left : ℕ} {found : List B}
     → rest ≡ raws → left ≡ length raws → found ≡ [] → length raws ≡ length names → LinkedSoFar section_of link raws names rest left found
-linked_first section_of link raws names rest left found same count none few = record {
+linked_first {section_of = section_of} {link = link} {raws = raws} {names = names} {rest = rest} {left = left} {found = found} same count none few = record {
   so_far = linked_from_nothing section_of link raws names ∙ ap (λ xs. linked_onto section_of link [] xs names) (sym same) ∙ ap (λ ys. linked_onto section_of link ys rest (drop (length ys) names)) (sym none);
   room = let e : length found ≡ 0 = ap length none in let f : length rest ≡ length raws = ap length same in omega arith;
   counted = let f : length rest ≡ length raws = ap length same in omega arith;
@@ -120,11 +113,11 @@ step section_of link raws names rest after left found raw name r is at gives bef
     before.so_far ∙ ap (λ xs. linked_onto section_of link found xs (drop (length found) names)) is ∙ ap (λ ys. linked_onto section_of link found (raw ∷ after) ys) (drop_next names (length found) name at)
     ∙ ap (λ first. first ▷ λ one. linked_onto section_of link (found ++ one ∷ []) after (drop (length found + 1) names)) gives
 
-pub linked_more : {A B : Type 0} (section_of : A → Section) (link : A → Reading B) (raws : List A) (names : List (List ℕ)) (rest after : List A) (left fewer : ℕ) (found more : List B) (raw : A) (name : List ℕ) (one : B)
-    → rest ≡ raw ∷ after → fewer + 1 ≡ left → slice_get names (length found) ≡ Some name → in_prototype (section_text (section_of raw)) name (link raw) ≡ Ok one → more ≡ found ++ one ∷ []
-    → LinkedSoFar section_of link raws names rest left found → LinkedSoFar section_of link raws names after fewer more
-linked_more section_of link raws names rest after left fewer found more raw name one is less at gives put before =
-    let e : length more ≡ length found + 1 = ap length put ∙ length_more found one in
+pub linked_more : {A B : Type 0} {section_of : A → Section} {link : A → Reading B} {raws : List A} {names : List (List ℕ)} {rest : List A} {left : ℕ} {found : List B} {after : List A} {fewer : ℕ} {more : List B} {raw : A} {name : List ℕ} {one : B}
+    → LinkedSoFar section_of link raws names rest left found → rest ≡ raw ∷ after → fewer + 1 ≡ left → slice_get names (length found) ≡ Some name → in_prototype (section_text (section_of raw)) name (link raw) ≡ Ok one
+    → more ≡ found ++ one ∷ [] → LinkedSoFar section_of link raws names after fewer more
+linked_more {section_of = section_of} {link = link} {raws = raws} {names = names} {rest = rest} {left = left} {found = found} {after = after} {fewer = fewer} {more = more} {raw = raw} {name = name} {one = one} before is less at gives put =
+    let e : length more ≡ length found + 1 = ap length put ∙ length_push found one in
     let f : length rest ≡ length after + 1 = ap length is ∙ sym (add-one (length after)) in
     let room : length found + length rest ≡ length names = before.room in
     let count : left ≡ length rest = before.counted in
@@ -135,10 +128,10 @@ linked_more section_of link raws names rest after left fewer found more raw name
       counted = omega arith;
     }
 
-pub linked_fails : {A B : Type 0} (section_of : A → Section) (link : A → Reading B) (raws : List A) (names : List (List ℕ)) (rest after : List A) (left : ℕ) (found : List B) (raw : A) (name : List ℕ) (fault : DumpFault)
-    → rest ≡ raw ∷ after → slice_get names (length found) ≡ Some name → in_prototype (section_text (section_of raw)) name (link raw) ≡ Err fault
-    → LinkedSoFar section_of link raws names rest left found → each_linked section_of link raws names ≡ Err fault
-linked_fails section_of link raws names rest after left found raw name fault is at gives before = step section_of link raws names rest after left found raw name (Err fault) is at gives before
+pub linked_fails : {A B : Type 0} {section_of : A → Section} {link : A → Reading B} {raws : List A} {names : List (List ℕ)} {rest : List A} {left : ℕ} {found : List B} {after : List A} {raw : A} {name : List ℕ} {fault : DumpFault}
+    → LinkedSoFar section_of link raws names rest left found → rest ≡ raw ∷ after → slice_get names (length found) ≡ Some name → in_prototype (section_text (section_of raw)) name (link raw) ≡ Err fault
+    → each_linked section_of link raws names ≡ Err fault
+linked_fails {section_of = section_of} {link = link} {raws = raws} {names = names} {rest = rest} {left = left} {found = found} {after = after} {raw = raw} {name = name} {fault = fault} before is at gives = step section_of link raws names rest after left found raw name (Err fault) is at gives before
 
 no_more : {A : Type 0} → (rest : List A) → length rest ≡ 0 → rest ≡ []
 no_more [] end = refl

@@ -3,9 +3,9 @@ use Rattle.std.proofs.Common.{◌≡◌, ◌<◌, ◌≤◌, ◌+◌, ℕ, List,
 use Rattle.std.specs.Prelude.{Bool, true, false, Option, Some, None, if◌then◌else◌}
 use Rattle.fractions.specs.Fraction.{Fraction}
 use Rattle.plan_base.specs.declared.ids.GoodId.{GoodId}
+use Rattle.plan_base.proofs.Walks.{next, drop_all}
 use Rattle.game_types.specs.declared.goods.Fluid.{Fluid}
 use Rattle.game_types.specs.Temperatures.{coolest, cooler_of, first_where}
-use Rattle.game_types.proofs.Walks.{next, drop_all}
 
 pub first_stop : {A : Type 0} (test : A → Bool) (xs : List A) (k : ℕ) (x : A) → k < length xs → x ≡ get_or xs k x → test x ≡ true → first_where test (drop k xs) ≡ Some x
 first_stop test xs k x within is h = rw (next xs k x within is, h) refl

@@ -6,7 +6,9 @@ use Rattle.std.proofs.lemmas.Int.{ints, unsigned_abs-mul}
 use Rattle.std.proofs.lemmas.List.Elements.{All-get_or}
 use Rattle.std.proofs.lemmas.Option.{get_or_from_slice_get, slice_get_within}
 use Rattle.std.proofs.Math.Nat.{mul-le-mul_right}
+use Rattle.std.proofs.lemmas.List.{drop_more}
 use Rattle.plan_base.specs.declared.ids.GoodId.{GoodId}
+use Rattle.plan_base.proofs.Walks.{drop_all}
 use Rattle.game_types.specs.declared.effects.EffectKind.{EffectKind}
 use Rattle.game_types.specs.declared.goods.Item.{Item}
 use Rattle.game_types.specs.declared.goods.Module.{Module}
@@ -15,7 +17,6 @@ use Rattle.game_types.specs.declared.games.Game.{Game}
 use Rattle.game_types.specs.Sound.{IsSound, IsSoundItem, IsSoundModule, IsModule}
 use Rattle.game_types.specs.Lookups.{item_at, module_at, or_no_module, no_item}
 use Rattle.game_types.specs.Modules.{module_count, hundredths_of, slots_hold, of_kind}
-use Rattle.game_types.proofs.Walks.{next_at, drop_all}
 
 -- ---- a module that is there
 held : (xs : List Item) (i : ℕ) (d : Item) (o : Option Item) → slice_get xs i ≡ o → IsSomeAnd o (λ item. IsSome item.«module») → (i < length xs) × IsSome (get_or xs i d).«module»
@@ -44,12 +45,12 @@ module_is o m e = sym (ap or_no_module e)
 pub slots_pass : (left : ℕ) (ms : List (GoodId × ℕ)) (k : ℕ) (d : GoodId × ℕ) → k < length ms → (get_or ms k d).1 ≤ left
     → slots_hold left (drop k ms) ≡ slots_hold (left - (get_or ms k d).1) (drop (k + 1) ms)
 unfolding slots_hold
-slots_pass left ms k d within fits = rw (next_at ms k d within) (let e : nat_lt left (get_or ms k d).1 ≡ false = grind (arith, nat_tests) in rw e refl)
+slots_pass left ms k d within fits = rw (drop_more ms k d within) (let e : nat_lt left (get_or ms k d).1 ≡ false = grind (arith, nat_tests) in rw e refl)
 
 pub slots_end : (left : ℕ) (ms : List (GoodId × ℕ)) (k : ℕ) (d : GoodId × ℕ) → k < length ms → left < (get_or ms k d).1
     → slots_hold left (drop k ms) ≡ Err (TooMany (get_or ms k d).0)
 unfolding slots_hold
-slots_end left ms k d within over = rw (next_at ms k d within) (let e : nat_lt left (get_or ms k d).1 ≡ true = grind (arith, nat_tests) in rw e refl)
+slots_end left ms k d within over = rw (drop_more ms k d within) (let e : nat_lt left (get_or ms k d).1 ≡ true = grind (arith, nat_tests) in rw e refl)
 
 pub slots_all : (left : ℕ) (ms : List (GoodId × ℕ)) (k : ℕ) → length ms ≤ k → slots_hold left (drop k ms) ≡ Ok tt
 unfolding slots_hold
@@ -57,7 +58,7 @@ slots_all left ms k end = rw (drop_all ms k end) refl
 
 pub count_next : (ms : List (GoodId × ℕ)) (k : ℕ) (d : GoodId × ℕ) → k < length ms → module_count (drop k ms) ≡ (get_or ms k d).1 + module_count (drop (k + 1) ms)
 unfolding module_count
-count_next ms k d within = rw (next_at ms k d within) refl
+count_next ms k d within = rw (drop_more ms k d within) refl
 
 pub count_all : (ms : List (GoodId × ℕ)) (k : ℕ) → length ms ≤ k → module_count (drop k ms) ≡ 0
 unfolding module_count
@@ -67,7 +68,7 @@ count_all ms k end = rw (drop_all ms k end) refl
 pub hundredths_next : (g : Game) (kind : EffectKind) (ms : List (GoodId × ℕ)) (k : ℕ) (d : GoodId × ℕ) → k < length ms
     → hundredths_of g kind (drop k ms) ≡ (of_kind kind (module_at g (get_or ms k d).0).bonus *ℤ pos (get_or ms k d).1) +ℤ hundredths_of g kind (drop (k + 1) ms)
 unfolding hundredths_of
-hundredths_next g kind ms k d within = rw (next_at ms k d within) refl
+hundredths_next g kind ms k d within = rw (drop_more ms k d within) refl
 
 pub hundredths_all : (g : Game) (kind : EffectKind) (ms : List (GoodId × ℕ)) (k : ℕ) → length ms ≤ k → hundredths_of g kind (drop k ms) ≡ pos 0
 unfolding hundredths_of

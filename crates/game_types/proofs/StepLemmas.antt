@@ -17,10 +17,6 @@ use Rattle.fractions.proofs.Order.{positive_frac}
 use Rattle.std.specs.Prelude.{ℤ, negsuc, ◌<ℤ◌}
 use Rattle.std.proofs.lemmas.Int.{ints}
 
-both : (a b : Bool) → (a && b) ≡ true → (a ≡ true) × (b ≡ true)
-both true b h = (refl, h)
-both false b h = absurd (cc)
-
 four : (a b c d k : ℕ) → (nat_lt a k && nat_lt b k && nat_lt c k && nat_lt d k) ≡ true → (a < k) × (b < k) × (c < k) × (d < k)
 four a b c d k h = (grind (arith, nat_tests), grind (arith, nat_tests), grind (arith, nat_tests), grind (arith, nat_tests))
 

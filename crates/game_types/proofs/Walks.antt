@@ -1,21 +1,13 @@
 -- Loops that go through a list: what is left of it at each step.
-use Rattle.std.proofs.Common.{◌≡◌, ◌∙◌, ◌<◌, ◌≤◌, ◌+◌, ℕ, List, [], ◌∷◌, length, drop, get_or, ap, sym, arith, drop-cons, add-one}
-use Rattle.std.proofs.lemmas.Grind.{common_steps}
+use Rattle.std.proofs.Common.{◌≡◌, ◌∙◌, ◌<◌, ◌≤◌, ℕ, List, [], ◌∷◌, length, drop, get_or, ap, arith}
 use Rattle.std.proofs.lemmas.List.{get_or_default}
 use Rattle.std.specs.Prelude.{Result, Ok, Err, IsErr, IsErrAnd, zero, suc}
 use Rattle.std.proofs.Common.{refl}
+pub use Rattle.std.proofs.lemmas.List.{drop_more as next_at}
+pub use Rattle.plan_base.proofs.Walks.{next, drop_all}
 use Rattle.game_types.specs.Steps.{◌▸◌, first_fault, sum_of, added}
 use Rattle.game_types.specs.declared.effects.Wide.{Wide}
 use Rattle.fractions.specs.Fraction.{Fraction}
-
-pub next : {X : Type 0} (xs : List X) (k : ℕ) (x : X) → k < length xs → x ≡ get_or xs k x → drop k xs ≡ x ∷ drop (k + 1) xs
-next xs k x within is = drop-cons xs k x within ∙ ap (λ j. get_or xs k x ∷ drop j xs) (sym (add-one k)) ∙ ap (λ y. y ∷ drop (k + 1) xs) (sym is)
-
-pub drop_all : {X : Type 0} (xs : List X) (k : ℕ) → length xs ≤ k → drop k xs ≡ []
-drop_all xs k end = grind (arith, common_steps)
-
-pub next_at : {X : Type 0} (xs : List X) (k : ℕ) (d : X) → k < length xs → drop k xs ≡ get_or xs k d ∷ drop (k + 1) xs
-next_at xs k d within = drop-cons xs k d within ∙ ap (λ j. get_or xs k d ∷ drop j xs) (sym (add-one k))
 
 -- an element that was read, at any default
 pub read_at : {X : Type 0} (xs ys : List X) (i : ℕ) (x d : X) → x ≡ get_or xs i x → xs ≡ ys → i < length ys → x ≡ get_or ys i d

@@ -73,8 +73,8 @@ impl Game {
         }
     }
 
-    // The place of a name among the names of a kind.
-    fn place_of(&self, kind: Kind, name: &str) -> Option<u32>
+    /// The place of a name among the names of a kind, where it is there.
+    pub fn place_of(&self, kind: Kind, name: &str) -> Option<u32>
         requires { IsSound self.now }
         ensures place { result ≡ place_of (names_of self.now kind) name.now }
         ensures within { IfSome result (λ index. index < count_of (shape_of self.now) kind) }

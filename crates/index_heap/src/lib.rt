@@ -1,10 +1,10 @@
 //! A queue of nodes by key, as a tree of the least entries.
 #![tactic(auto)]
 
-ghost use Rattle.std.specs.Prelude.{◌≡◌, ℕ, ◌+◌, ◌*◌, ◌<◌, ◌≤◌, ◌↔◌, None, Some, length, slice_set, replicate, IfOk, IfSome, IfNone, IsTrue};
+ghost use Rattle.std.specs.Prelude.{◌≡◌, ℕ, ◌+◌, ◌-◌, ◌*◌, ◌%◌, ◌<◌, ◌≤◌, ◌^◌, ◌↔◌, None, Some, length, slice_set, replicate, IfOk, IfSome, IfNone, IsTrue};
 ghost use Rattle.std.specs.Bool.{OnTrue};
 ghost use Rattle.index_heap.specs.Keys.{key_at, IsLeastAt, HasNoKeys};
-ghost use Rattle.index_heap.specs.Tree.{entry_at, lesser_entry, may_wait, with_node, AreLesser, IsHeap};
+ghost use Rattle.index_heap.specs.Tree.{decoded, encoded, entry_at, lesser_entry, may_wait, sibling, with_node, AreLesser, IsHeap};
 
 use plan_base::{NoMemory, NodeId};
 use std::alloc::Global;
@@ -29,36 +29,56 @@ fn lesser_entry(a: Option<(u32, u32)>, b: Option<(u32, u32)>) -> Option<(u32, u3
     }
 }
 
-/// Whether two entries are the same.
-fn is_same_entry(a: Option<(u32, u32)>, b: Option<(u32, u32)>) -> bool
-    ensures { OnTrue result (a ≡ b) }
+/// The number of a node's key, which grows by key, then by node; the last number where it has none.
+fn encoded(key: Option<u32>, node: u32) -> u64
+    ensures { result ≡ encoded (with_node key node) }
 {
-    match a {
-        None => b.is_none(),
-        Some(p) => match b {
-            None => false,
-            Some(q) => p.0 == q.0 && p.1 == q.1,
-        },
+    match key {
+        None => u64::MAX,
+        Some(k) => u64::from(k) * 4_294_967_296 + u64::from(node),
     }
 }
 
-/// Puts an entry at a leaf, and the lesser entries above it, up to the first of these that stays.
-fn put(tree: &mut [Option<(u32, u32)>], n: usize, at: usize, entry: Option<(u32, u32)>)
+/// The entry of a number.
+fn decoded(number: u64) -> Option<(u32, u32)>
+    ensures { result ≡ decoded number }
+{
+    if number == u64::MAX {
+        None
+    } else {
+        let key = (number / 4_294_967_296) as u32;
+        let node = (number % 4_294_967_296) as u32;
+        Some((key, node))
+    }
+}
+
+/// The other place below the same one.
+fn sibling(place: usize) -> usize
+    requires { place < 2 ^ 33 }
+    ensures { result ≡ sibling place }
+{
+    place + 1 - 2 * (place % 2)
+}
+
+/// Puts a number at a leaf, and the lesser numbers above it, up to the first of these that stays.
+fn put(tree: &mut [u64], n: usize, at: usize, number: u64)
+    requires few { n < 2 ^ 32 }
     requires long { length tree.old ≡ 2 * n }
     requires leaf { n ≤ at }
     requires inside { at < 2 * n }
     requires before { AreLesser tree.old n }
     ensures long { length tree.new ≡ 2 * n }
     ensures after { AreLesser tree.new n }
-    ensures here { entry_at tree.new at ≡ entry }
+    ensures here { entry_at tree.new at ≡ number }
     ensures others { (i : ℕ) → n ≤ i → i < 2 * n → (i ≡ at → ⊥) → entry_at tree.new i ≡ entry_at tree.old i }
 {
-    tree[at] = entry;
+    tree[at] = number;
+    let mut least = number;
     let mut j = at;
     'climb: while j > 1 {
+        least = least.min(tree[sibling(j)]);
         j = j / 2;
-        let least = lesser_entry(tree[2 * j], tree[2 * j + 1]);
-        if is_same_entry(tree[j], least) {
+        if tree[j] == least {
             return;
         }
         tree[j] = least;
@@ -102,7 +122,7 @@ fn may_wait(waiting: Option<(u32, u32)>, node: u32, key: Option<u32>) -> bool
 /// the tree stays as it is.
 fn place(
     keys: &[Option<u32>],
-    tree: &mut [Option<(u32, u32)>],
+    tree: &mut [u64],
     waiting: &mut Option<(u32, u32)>,
     node: u32,
     key: Option<u32>,
@@ -120,13 +140,13 @@ fn place(
         return;
     }
     let n = keys.len();
-    put(tree, n, n + node as usize, with_node(key, node));
+    put(tree, n, n + node as usize, encoded(key, node));
 }
 
 /// Gives the node this key, or none.
 fn write(
     keys: &mut [Option<u32>],
-    tree: &mut [Option<(u32, u32)>],
+    tree: &mut [u64],
     waiting: &mut Option<(u32, u32)>,
     node: u32,
     key: Option<u32>,
@@ -141,11 +161,7 @@ fn write(
 }
 
 /// The entry of the least key, the lower node among equals.
-fn least(
-    keys: &[Option<u32>],
-    tree: &[Option<(u32, u32)>],
-    waiting: Option<(u32, u32)>,
-) -> Option<(u32, u32)>
+fn least(keys: &[Option<u32>], tree: &[u64], waiting: Option<(u32, u32)>) -> Option<(u32, u32)>
     requires { IsHeap keys.now tree.now waiting }
     ensures some { IfSome result (λ pair. IsLeastAt keys.now (length keys.now) pair.1 pair.0) }
     ensures none { IfNone result (HasNoKeys keys.now) }
@@ -153,14 +169,14 @@ fn least(
     if keys.len() == 0 {
         return None;
     }
-    lesser_entry(waiting, tree[1])
+    lesser_entry(waiting, decoded(tree[1]))
 }
 
 /// Nodes below a number, some of which have a key. It is seen as the list of their keys.
 #[derive(Drop)]
 pub struct Heap {
     keys: Vec<Option<u32>>,
-    tree: Vec<Option<(u32, u32)>>,
+    tree: Vec<u64>,
     waiting: Option<(u32, u32)>,
 }
 
@@ -187,9 +203,8 @@ impl Heap {
         ensures { IfOk result (λ heap. heap ≡ replicate n None) }
     {
         let none: Option<u32> = None;
-        let no_entry: Option<(u32, u32)> = None;
         let keys = vec![in alloc; none; n as usize]?;
-        let tree = vec![in alloc; no_entry; 2 * n as usize]?;
+        let tree = vec![in alloc; u64::MAX; 2 * n as usize]?;
         Ok(Heap {
             keys,
             tree,

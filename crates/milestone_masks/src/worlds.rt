@@ -229,6 +229,7 @@ impl Worlds {
         self.base.repair(rows, barred, granted, None, &mut self.heap, changed, steps);
         repair_each(
             &mut self.milestones,
+            &self.base,
             rows,
             barred,
             granted,
@@ -370,9 +371,10 @@ fn add<R: Rows<L>, L>(
     Ok(())
 }
 
-/// Repairs the ranks of each milestone's world.
+/// Repairs the ranks of each milestone's world, where those of the base world are right.
 fn repair_each<R: Rows<L>, L>(
     milestones: &mut [Milestone],
+    base: &WorldRanks,
     rows: &R,
     barred: &[bool],
     granted: &[bool],
@@ -381,6 +383,7 @@ fn repair_each<R: Rows<L>, L>(
     steps: &mut Steps<L>,
 )
     requires marks { IsWhole (world (R.rows rows.now) barred.now granted.now None) }
+    requires base { AreRanks (world (R.rows rows.now) barred.now granted.now None) base.now }
     requires heap { heap.old ≡ replicate (length (R.rows rows.now)) None }
     requires changed { All (λ n. n.0 < length (R.rows rows.now)) changed.now }
     requires agree { All (λ m. AgreeBut (world (R.rows rows.now) barred.now granted.now (Some m.node)) changed.now m.ranks) milestones.old }
@@ -395,6 +398,6 @@ fn repair_each<R: Rows<L>, L>(
         let m = &mut milestones[i];
         let extra = Some(m.node);
         m.ranks
-            .repair(rows, barred, granted, extra, heap, changed, steps);
+            .repair_above(base, rows, barred, granted, extra, heap, changed, steps);
     }
 }

@@ -7,10 +7,11 @@ use Rattle.std.proofs.lemmas.Bool.Decides.{nat_tests}
 use Rattle.std.proofs.lemmas.List.{length-map}
 use Rattle.std.proofs.lemmas.List.Kept.{AllPairs-from_increasing, IsStrictlyIncreasing-filter}
 use Rattle.std.proofs.lemmas.List.Elements.{All-head, All-tail}
+use Rattle.std.proofs.lemmas.Bool.{and_right, or_right}
 use Rattle.plan_base.specs.declared.ids.NodeId.{NodeId}
+use Rattle.plan_base.proofs.Walks.{next, drop_all}
 use Rattle.node_lists.specs.Lists.{has_node, is_among, is_in_all, list_at, number_at, AreCommon, IsPlaceOf, Rise}
 use Rattle.node_lists.proofs.OrderLemmas.{numbers_of}
-use Rattle.node_lists.proofs.Walks.{next, drop_all}
 
 -- ---- the elements that pass
 -- the elements that pass, so far, with those that are to come
@@ -50,11 +51,7 @@ has_none k (n ∷ nodes) none =
 pub has_one : (k : ℕ) → (nodes : List NodeId) (i : ℕ) → i < length nodes → number_at nodes i ≡ k → has_node nodes k ≡ true
 has_one k [] i within is = absurd (omega (arith, within))
 has_one k (n ∷ nodes) zero within is = let same : (n.0 == k) ≡ true = grind (arith, is) in ap (λ b. b || has_node nodes k) same
-has_one k (n ∷ nodes) (suc i) within is = either_last (n.0 == k) (has_node nodes k) (has_one k nodes i (omega (arith, within)) is)
-  where
-    either_last : (a b : Bool) → b ≡ true → (a || b) ≡ true
-    either_last true b is = refl
-    either_last false b is = is
+has_one k (n ∷ nodes) (suc i) within is = or_right (n.0 == k) (has_node nodes k) (has_one k nodes i (omega (arith, within)) is)
 
 -- a node that isn't at its place is nowhere
 pub none_there : (nodes : List NodeId) (k place : ℕ) → IsPlaceOf k nodes place → length nodes ≤ place → false ≡ has_node nodes k
@@ -188,10 +185,6 @@ pub kept_last : (lists : List (Vec NodeId Global)) (numbers : List ℕ) (nodes :
 kept_last lists numbers nodes i kept end before = sym (filter_all kept) ∙ ap (λ l. filter (λ n. is_in_all lists l n.0) kept) (sym (drop_all numbers i end)) ∙ before.rest
 
 -- those of one of the lists that are in all are the common ones
-never : (b : Bool) → (b && false) ≡ false
-never true = refl
-never false = refl
-
 has_first : (p : ℕ → Bool) (k : ℕ) (n : NodeId) (nodes rest : List NodeId) → has_node rest k ≡ (has_node nodes k && p k) → (b : Bool) → p n.0 ≡ b → (same : Bool) → (n.0 == k) ≡ same
     → has_node (if b then n ∷ rest else rest) k ≡ ((same || has_node nodes k) && p k)
 has_first p k n nodes rest more true passes true is = let at : n.0 ≡ k = grind (arith, is) in ap (λ b. b || has_node rest k) is ∙ sym passes ∙ ap p at
@@ -199,16 +192,16 @@ has_first p k n nodes rest more true passes false is = ap (λ b. b || has_node r
 has_first p k n nodes rest more false passes true is =
     let at : n.0 ≡ k = grind (arith, is) in
     let fails : p k ≡ false = ap p (sym at) ∙ passes in
-    more ∙ ap (λ b. has_node nodes k && b) fails ∙ never (has_node nodes k) ∙ sym fails
+    more ∙ ap (λ b. has_node nodes k && b) fails ∙ and_right (has_node nodes k) false refl ∙ sym fails
 has_first p k n nodes rest more false passes false is = more
 
 pub has_filtered : (p : ℕ → Bool) (k : ℕ) (nodes : List NodeId) → has_node (filter (λ n. p n.0) nodes) k ≡ (has_node nodes k && p k)
 has_filtered p k [] = refl
 has_filtered p k (n ∷ nodes) = has_first p k n nodes (filter (λ n. p n.0) nodes) (has_filtered p k nodes) (p n.0) refl (n.0 == k) refl
 
-here : (a b : Bool) → (a && (a && b)) ≡ (a && b)
-here true b = refl
-here false b = refl
+pub and_twice : (a b : Bool) → (a && (a && b)) ≡ (a && b)
+and_twice true b = refl
+and_twice false b = refl
 
 there : (a b c : Bool) → (a && c) ≡ c → (a && (b && c)) ≡ (b && c)
 there true b c is = refl
@@ -219,7 +212,7 @@ first_or_later : (lists : List (Vec NodeId Global)) (first k j : ℕ) (numbers :
     → (b : Bool) → (j == first) ≡ b → (b || is_among numbers first) ≡ true → (has_node (list_at lists first) k && is_in_all lists (j ∷ numbers) k) ≡ is_in_all lists (j ∷ numbers) k
 first_or_later lists first k j numbers more true is among =
     let at : j ≡ first = grind (arith, is) in
-    ap (λ m. has_node (list_at lists m) k && is_in_all lists (j ∷ numbers) k) (sym at) ∙ here (has_node (list_at lists j) k) (is_in_all lists numbers k)
+    ap (λ m. has_node (list_at lists m) k && is_in_all lists (j ∷ numbers) k) (sym at) ∙ and_twice (has_node (list_at lists j) k) (is_in_all lists numbers k)
 first_or_later lists first k j numbers more false is among = there (has_node (list_at lists first) k) (has_node (list_at lists j) k) (is_in_all lists numbers k) (more among)
 
 in_first : (lists : List (Vec NodeId Global)) (first k : ℕ) (numbers : List ℕ) → is_among numbers first ≡ true → (has_node (list_at lists first) k && is_in_all lists numbers k) ≡ is_in_all lists numbers k

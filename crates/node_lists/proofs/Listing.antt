@@ -7,10 +7,11 @@ use Rattle.std.proofs.lemmas.Bool.Decides.{nat_tests}
 use Rattle.std.proofs.lemmas.List.{map-set}
 use Rattle.std.specs.Global.{Global}
 use Rattle.plan_base.specs.declared.ids.NodeId.{NodeId}
+use Rattle.plan_base.proofs.Walks.{next, drop_all}
 use Rattle.node_lists.specs.Members.{node, those}
 use Rattle.node_lists.specs.Lists.{contents, is_among, list_at, AreAllLists, AreLists, Extends}
 use Rattle.node_lists.proofs.NumbersLemmas.{once}
-use Rattle.node_lists.proofs.Walks.{next, drop_all, chosen}
+use Rattle.node_lists.proofs.Walks.{chosen}
 
 contents_at : (lists : List (Vec NodeId Global)) (place : ℕ) (list : Vec NodeId Global) → place < length lists → list ≡ get_or lists place list → get_or (contents lists) place [] ≡ list.items
 contents_at [] place list within is = absurd (omega (arith, within))
@@ -25,7 +26,7 @@ pub contents_put : (lists : List (Vec NodeId Global)) (place : ℕ) (n : NodeId)
 contents_put lists place n list new within is put =
     map-set (λ l. l.items) lists place new ∙ ap (λ items. set (contents lists) place items) (put ∙ ap (λ items. items ++ n ∷ []) (sym (contents_at lists place list within is)))
 
-length_contents : (lists : List (Vec NodeId Global)) → length (contents lists) ≡ length lists
+pub length_contents : (lists : List (Vec NodeId Global)) → length (contents lists) ≡ length lists
 length_contents [] = refl
 length_contents (list ∷ lists) = ap suc (length_contents lists)
 

@@ -3,10 +3,11 @@ use Rattle.std.proofs.Common.{◌≡◌, ◌≢◌, ◌∙◌, ◌<◌, ◌≤�
 use Rattle.std.specs.Prelude.{◌==◌, ◌||◌, insert}
 use Rattle.std.specs.Global.{Global}
 use Rattle.std.proofs.lemmas.List.{length-set, map-set}
+use Rattle.std.proofs.lemmas.Bool.{or_right}
 use Rattle.plan_base.specs.declared.ids.NodeId.{NodeId}
 use Rattle.node_lists.specs.Lists.{contents, has_node, list_at, number_at, IsPlaceOf, Rise, Widen}
 use Rattle.node_lists.proofs.CommonLemmas.{has_one}
-use Rattle.node_lists.proofs.Listing.{list_is}
+use Rattle.node_lists.proofs.Listing.{list_is, length_contents}
 use Rattle.node_lists.proofs.NumbersLemmas.{Rising, rising}
 use Rattle.node_lists.proofs.OrderLemmas.{increasing, numbers_of}
 
@@ -45,18 +46,10 @@ put_rises nodes place n rise at absent =
     clash true is not = absurd cc
     clash false is not = absurd cc
 
-either_last : (a b : Bool) → b ≡ true → (a || b) ≡ true
-either_last true b is = refl
-either_last false b is = is
-
 pub put_keeps : (nodes : List NodeId) (place : ℕ) (n : NodeId) (k : ℕ) → place ≤ length nodes → has_node nodes k ≡ true → has_node (insert nodes place n) k ≡ true
-put_keeps nodes place n k within there = has_put nodes place n k within ∙ either_last (n.0 == k) (has_node nodes k) there
+put_keeps nodes place n k within there = has_put nodes place n k within ∙ or_right (n.0 == k) (has_node nodes k) there
 
 -- ---- a list put among lists
-length_contents : (lists : List (Vec NodeId Global)) → length (contents lists) ≡ length lists
-length_contents [] = refl
-length_contents (list ∷ lists) = ap suc (length_contents lists)
-
 pub list_put : (lists : List (Vec NodeId Global)) (place : ℕ) (new : Vec NodeId Global) → place < length lists → list_at (set lists place new) place ≡ new.items
 list_put lists place new within =
     let inside : place < length (contents lists) = omega (arith, within, length_contents lists) in

@@ -11,13 +11,15 @@ use Rattle.std.proofs.lemmas.List.FromFn.{get_or-range_with_len, length-range_wi
 use Rattle.std.proofs.lemmas.Option.{slice_get-get_or}
 use Rattle.std.proofs.lemmas.Nat.Bits.{bit_at-lt, bit_at-pow_other, bit_at-pow_same, bit_at-zero, bit_at_and, bit_at_or}
 use Rattle.plan_base.specs.declared.ids.NodeId.{NodeId}
+use Rattle.plan_base.proofs.Walks.{next, drop_all}
+use Rattle.plan_base.proofs.Bools.{or_false}
 use Rattle.node_lists.specs.Lists.{has_node, is_in_all, list_at, AreCommon, Rise}
 use Rattle.node_lists.specs.Members.{node, passes, those}
 use Rattle.node_lists.specs.Words.{bit_in, has_bit, has_words, in_word, in_words, words_at, AreWords, IsWords}
 use Rattle.node_lists.proofs.AmongLemmas.{at_those, below_those, past_those}
 use Rattle.node_lists.proofs.NumbersLemmas.{Rising}
 use Rattle.node_lists.proofs.OrderLemmas.{increasing, numbers_of, rising_lower, those_rise}
-use Rattle.node_lists.proofs.Walks.{next, drop_all}
+use Rattle.node_lists.proofs.CommonLemmas.{and_twice}
 
 -- ---- a bit that is set
 -- as a number a bit is 0 or 1
@@ -73,10 +75,6 @@ bit_put words place p within = by_word (p / 64 == place / 64) refl
 pub record BitsSoFar (first : ℕ) (nodes : List NodeId) (i : ℕ) (words : List ℕ) : Type 0 where
   pub each : (n : ℕ) → (has_bit first words n || has_node (drop i nodes) n) ≡ has_node nodes n
 
-either_none : (a : Bool) → (a || false) ≡ a
-either_none true = refl
-either_none false = refl
-
 pub bits_first : (first : ℕ) (nodes : List NodeId) (words : List ℕ) → ((p : ℕ) → bit_in words p ≡ false) → BitsSoFar first nodes 0 words
 bits_first first nodes words clear = record { each = λ n. ap (λ b. b || has_node nodes n) (none n (nat_lt n first)) }
   where
@@ -118,7 +116,7 @@ bits_more first nodes i x words new within is above put before = record {
             grind (arith, differs)
 
 pub bits_last : (first : ℕ) (nodes : List NodeId) (i : ℕ) (words : List ℕ) → length nodes ≤ i → BitsSoFar first nodes i words → IsWords first nodes words
-bits_last first nodes i words end before n = sym (before.each n) ∙ ap (λ l. has_bit first words n || has_node l n) (drop_all nodes i end) ∙ either_none (has_bit first words n)
+bits_last first nodes i words end before n = sym (before.each n) ∙ ap (λ l. has_bit first words n || has_node l n) (drop_all nodes i end) ∙ or_false (has_bit first words n)
 
 zeros : (count w : ℕ) → ◌≡◌ {A = ℕ} (get_or (replicate count 0) w 0) 0
 zeros zero w = refl
@@ -342,7 +340,7 @@ by_word word words first p later true is =
     let bit : p % 64 ≡ p = omega (arith, few) in
     ap (λ b. b || has_node (in_words (first + 64) words) (first + p)) (in_word_at first word p (first + p) refl few)
     ∙ ap (λ b. is_set word p || b) (words_before words (first + 64) (first + p) (omega (arith, few)))
-    ∙ either_none (is_set word p)
+    ∙ or_false (is_set word p)
     ∙ ap (λ w. bit_at (get_or (word ∷ words) w 0) p == 1) (sym here) ∙ ap (λ n. bit_at (get_or (word ∷ words) (p / 64) 0) n == 1) (sym bit)
 by_word word words first p later false is =
     let past : 64 ≤ p = grind (arith, nat_tests, is) in
@@ -404,14 +402,10 @@ pub record KeptBits (words : List (Vec ℕ Global)) (numbers : List ℕ) (i : �
   pub each : (first n : ℕ) → (has_bit first kept n && list_all (λ j. has_bit first (words_at words j) n) (drop i numbers)) ≡ list_all (λ j. has_bit first (words_at words j) n) numbers
   pub as_long : length kept ≡ length (words_at words (get_or numbers 0 0))
 
-twice : (a b : Bool) → (a && (a && b)) ≡ (a && b)
-twice true b = refl
-twice false b = refl
-
 pub kept_bits_first : (words : List (Vec ℕ Global)) (numbers : List ℕ) (kept : List ℕ) → 0 < length numbers → kept ≡ words_at words (get_or numbers 0 0) → KeptBits words numbers 0 kept
 kept_bits_first words [] kept some are = absurd (omega (arith, some))
 kept_bits_first words (number ∷ numbers) kept some are = record {
-  each = λ first n. ap (λ l. has_bit first l n && list_all (λ j. has_bit first (words_at words j) n) (number ∷ numbers)) are ∙ twice (has_bit first (words_at words number) n) (list_all (λ j. has_bit first (words_at words j) n) numbers);
+  each = λ first n. ap (λ l. has_bit first l n && list_all (λ j. has_bit first (words_at words j) n) (number ∷ numbers)) are ∙ and_twice (has_bit first (words_at words number) n) (list_all (λ j. has_bit first (words_at words j) n) numbers);
   as_long = ap length are;
 }
 

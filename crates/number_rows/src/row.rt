@@ -24,12 +24,14 @@ use std::marker::Model;
 use std::mem;
 
 /// A row of fractions. It is kept as whole numbers over one denominator, which take few steps to add and multiply, wherever
-/// these are below 2^62, else as whole numbers of 128 bits, and each as a fraction where these don't fit.
+/// these are below 2^62, else as whole numbers of 128 bits, and each as a fraction where these don't fit. No number of a short
+/// row is greater than its bound, and one is as great where it is tight.
 #[derive(Drop)]
 pub struct Row {
     short: bool,
     bottom: u64,
     bound: u64,
+    tight: bool,
     tops: Vec<i64>,
     spare: Vec<i64>,
     numbers: Long,
@@ -84,6 +86,7 @@ impl Row {
             short: false,
             bottom: 1,
             bound: 0,
+            tight: false,
             tops: Vec::new(alloc),
             spare: Vec::new(alloc),
             numbers: Long::empty(alloc),
@@ -105,6 +108,7 @@ impl Row {
             short: false,
             bottom: 1,
             bound: 0,
+            tight: false,
             tops,
             spare,
             numbers,
@@ -194,6 +198,7 @@ impl Row {
         }
         let common = content(self.bottom, &self.tops);
         self.bound = divide_all(&mut self.tops, common);
+        self.tight = true;
         self.bottom = self.bottom / common;
     }
 
@@ -210,6 +215,7 @@ impl Row {
         };
         self.bottom = short.bottom;
         self.bound = short.bound;
+        self.tight = false;
         self.short = true;
     }
 
@@ -227,6 +233,30 @@ impl Row {
             self.cancel();
             return Ok(());
         }
+        match self.divide_long(enter) {
+            Ok(()) => {
+                self.shorten();
+                Ok(())
+            }
+            Err(place) => Err(place),
+        }
+    }
+
+    // The same for any row.
+    fn divide_long(&mut self, enter: usize) -> Result<(), usize>
+        requires inside { enter < length self.old.items }
+        requires not_zero { number_at self.old.items enter ≢ zero_fraction }
+        ensures ok { OnOk result (IsDividedRow self.old.items (number_at self.old.items enter) self.new.items) }
+        ensures err { IfErr result (λ k. (k < length self.old.items) × ¬ IsNarrow (number_at self.old.items k /ʳ number_at self.old.items enter)) }
+    {
+        write_kept(
+            &mut self.numbers,
+            &self.tops,
+            self.bottom,
+            self.bound,
+            self.short,
+        );
+        self.short = false;
         self.numbers.divide(enter)
     }
 
@@ -264,6 +294,7 @@ impl Row {
             self.bound,
             pivot_row.bound,
         );
+        self.tight = false;
         self.bottom = self.bottom * scale;
         true
     }
@@ -276,6 +307,7 @@ impl Row {
             return;
         }
         self.bound = greatest(&self.tops);
+        self.tight = true;
     }
 
     // The same as `reduce_short`, also where the bound has to be made smaller first.
@@ -287,6 +319,9 @@ impl Row {
     {
         if self.reduce_short(enter, pivot_row) {
             return true;
+        }
+        if self.tight {
+            return false;
         }
         self.tighten();
         self.reduce_short(enter, pivot_row)
@@ -326,6 +361,7 @@ impl Row {
         }
         mem::swap(&mut self.tops, &mut self.spare);
         self.bound = lowered.bound;
+        self.tight = true;
         self.bottom = bottom * scale;
         true
     }

@@ -12,9 +12,6 @@ use fractions::Ratio;
 use plan_base::NoMemory;
 use std::alloc::Global;
 
-/// Wide numbers are combined as long as their magnitudes are below this.
-const WIDE: u128 = 1 << 66;
-
 /// The magnitudes of products stay below this.
 const PRODUCT: u128 = 1 << 124;
 
@@ -68,16 +65,23 @@ pub fn fraction(top: i128, bottom: u64) -> Ratio
     }
 }
 
+// Whether the product of two numbers is below the limit of products.
+fn fits_product(first: u128, second: u128) -> bool
+    ensures { OnTrue result (first * second < 2 ^ 124) }
+{
+    match first.checked_mul(second) {
+        Some(product) => product < PRODUCT,
+        None => false,
+    }
+}
+
 /// Whether the products of a bound and a scale, and of another and a factor, are below the limit of products.
 pub fn fits_wide(bound: u128, scale: u64, other_bound: u64, factor: u128) -> bool
     requires scale { scale < 2 ^ 62 }
     requires other_bound { other_bound < 2 ^ 62 }
     ensures { OnTrue result ((bound * scale < 2 ^ 124) × (other_bound * factor < 2 ^ 124)) }
 {
-    if bound >= WIDE || factor >= WIDE {
-        return false;
-    }
-    bound * (scale as u128) < PRODUCT && (other_bound as u128) * factor < PRODUCT
+    fits_product(bound, scale as u128) && fits_product(other_bound as u128, factor)
 }
 
 /// What a number and a natural have in common.
@@ -101,6 +105,9 @@ fn likely_wide_divisor(top: i128, bottom: u64, shift: u32, inverse: u64) -> u64
     ensures top { result ∣ unsigned_abs top }
     ensures bottom { result ∣ bottom }
 {
+    if top == 0 {
+        return bottom;
+    }
     match exact_quotient(top, bottom, shift, inverse) {
         Some(_) => bottom,
         None => wide_divisor(top, bottom),
@@ -136,6 +143,9 @@ fn likely_wide_quotient(top: i128, divisor: u64, shift: u32, inverse: u64) -> i1
     ensures value { result ≡ int_div top (pos divisor) }
     ensures small { unsigned_abs result ≤ unsigned_abs top }
 {
+    if top == 0 {
+        return 0;
+    }
     match exact_quotient(top, divisor, shift, inverse) {
         Some(quotient) => quotient as i128,
         None => wide_quotient(top, divisor),

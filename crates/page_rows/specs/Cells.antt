@@ -2,8 +2,8 @@
 use Rattle.std.specs.Prelude.{ℕ, Bool, List, [], ◌++◌, Option, Some, None, if◌then◌else◌, codes}
 use Rattle.fractions.specs.Fraction.{Fraction}
 use Rattle.fractions.specs.Print.{printed}
-use Rattle.page_texts.specs.Numbers.{number_text}
-use Rattle.page_texts.specs.Amounts.{figure_text, power_figure, power_text, rate_text}
+use Rattle.page_rows.specs.Numbers.{number_text}
+use Rattle.page_rows.specs.Amounts.{figure_text, power_figure, power_text, rate_text}
 
 unfoldable pub cell : List ℕ → List ℕ → List ℕ → List ℕ
 cell label key text = codes "<td data-l=\"" ++ (label ++ (codes "\" data-v=\"" ++ (key ++ (codes "\">" ++ (text ++ codes "</td>")))))

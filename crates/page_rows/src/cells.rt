@@ -3,8 +3,9 @@ ghost use Rattle.std.specs.Prelude.{◌≡◌, ◌++◌, IfOk, string_bytes};
 ghost use Rattle.fractions.specs.Print.{printed};
 ghost use Rattle.page_rows.specs.Cells.{amount_cell, amount_text, cell, figure_cell, number_cell, power_cell, printed_figure, rate_cell};
 
+use crate::amounts::{figure_text, power_figure, power_text, rate_text};
+use crate::numbers::number_text;
 use fractions::Ratio;
-use page_texts::{figure_text, number_text, power_figure, power_text, rate_text};
 use plan_base::NoMemory;
 use std::alloc::Global;
 

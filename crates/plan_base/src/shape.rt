@@ -1,5 +1,5 @@
 //! How the nodes of a game are numbered.
-ghost use Rattle.std.specs.Prelude.{◌≡◌, ◌+◌, ◌<◌, ◌^◌};
+ghost use Rattle.std.specs.Prelude.{◌≡◌, ◌+◌, ◌<◌, ◌≤◌, ◌^◌};
 ghost use Rattle.plan_base.specs.Shape.{count_of, first_of, node_count};
 
 use crate::NodeId;
@@ -75,26 +75,46 @@ impl Shape {
         }
     }
 
-    /// The node of a kind with this index.
-    pub fn node_of(&self, kind: Kind, index: u32) -> NodeId
-        requires count { node_count self.now < 2 ^ 32 }
-        requires index { index < count_of self.now kind }
-        ensures { result.0 ≡ first_of self.now kind + index }
+    /// How many things of a kind there are.
+    pub fn count_of(&self, kind: Kind) -> u32
+        ensures { result ≡ count_of self.now kind }
     {
-        let first = match kind {
+        match kind {
+            Kind::Special => 3,
+            Kind::Item => self.items,
+            Kind::Fluid => self.fluids,
+            Kind::Recipe => self.recipes,
+            Kind::Source => self.sources,
+            Kind::Machine => self.machines,
+            Kind::Tech => self.techs,
+        }
+    }
+
+    /// The number of the first node of a kind.
+    pub fn first_of(&self, kind: Kind) -> u32
+        requires count { node_count self.now < 2 ^ 32 }
+        ensures first { result ≡ first_of self.now kind }
+        ensures nodes { result + count_of self.now kind ≤ node_count self.now }
+    {
+        match kind {
             Kind::Special => 0,
             Kind::Item => 3,
             Kind::Fluid => 3 + self.items,
             Kind::Recipe => 3 + self.items + self.fluids,
             Kind::Source => 3 + self.items + self.fluids + self.recipes,
             Kind::Machine => 3 + self.items + self.fluids + self.recipes + self.sources,
-            Kind::Tech => 3
-                + self.items
-                + self.fluids
-                + self.recipes
-                + self.sources
-                + self.machines,
-        };
-        NodeId(first + index)
+            Kind::Tech => {
+                3 + self.items + self.fluids + self.recipes + self.sources + self.machines
+            }
+        }
+    }
+
+    /// The node of a kind with this index.
+    pub fn node_of(&self, kind: Kind, index: u32) -> NodeId
+        requires count { node_count self.now < 2 ^ 32 }
+        requires index { index < count_of self.now kind }
+        ensures { result.0 ≡ first_of self.now kind + index }
+    {
+        NodeId(self.first_of(kind) + index)
     }
 }

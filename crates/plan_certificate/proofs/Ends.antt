@@ -2,6 +2,7 @@
 use Rattle.std.specs.Prelude.{◌≡◌, ℕ, ◌<◌, List, Some, slice_get, Bool, true, false, not, IsTrue, ◌↔◌}
 use Rattle.std.specs.Ordering.{partial_gt}
 use Rattle.std.proofs.Common.{refl, sym, subst, ◌∙◌}
+use Rattle.std.proofs.lemmas.Bool.{not-true}
 use Rattle.fractions.specs.Fraction.{Fraction, zero_fraction, ◌≤ʳ◌, ◌<ʳ◌}
 use Rattle.fractions.specs.Compare.{are_same, partly_compared, same_tells, above_tells}
 use Rattle.fractions.proofs.Order.{<ʳ_not_≤ʳ, ≤ʳ_from_not_<ʳ}
@@ -21,15 +22,11 @@ against_test : {P : Type 0} → (t : Bool) → IsTrue t ↔ P → t ≡ false �
 against_test true h e p = cc
 against_test false h e p = let u = h.1 p in cc
 
-turned : (t : Bool) → not t ≡ true → t ≡ false
-turned true e = cc
-turned false e = refl
-
 pub equal : (x y : Fraction) → not (are_same x y) ≡ false → x ≡ y
 equal x y e = by_test (are_same x y) (same_tells x y) e
 
 pub differ : (x y : Fraction) → not (are_same x y) ≡ true → x ≡ y → ⊥
-differ x y e = against_test (are_same x y) (same_tells x y) (turned (are_same x y) e)
+differ x y e = against_test (are_same x y) (same_tells x y) (not-true (are_same x y) e)
 
 pub above : (x y : Fraction) → partial_gt partly_compared x y ≡ true → y <ʳ x
 above x y e = (above_tells x y).0 e

@@ -2,7 +2,7 @@
 use crate::widths::width_of;
 use fractions::Ratio;
 use page_parts::{Amount, rounded};
-use page_texts::{product, short_text};
+use page_rows::{product, short_text};
 use plan_base::NoMemory;
 use std::alloc::Global;
 

@@ -3,7 +3,7 @@ use crate::amounts::size_of;
 use crate::cards::{Card, CardKind, Chart};
 use fractions::Ratio;
 use page_parts::{Amount, Done, Flow};
-use page_texts::{Piece, is_whole, put};
+use page_rows::{Piece, is_whole, put};
 use plan_base::NoMemory;
 use std::alloc::Global;
 

@@ -5,7 +5,7 @@ use crate::dot::push_amount;
 use crate::widths::within;
 use page_layout::{Board, End, Joint, Lane, channel_of, number_at, placed};
 use page_parts::{Done, Flow};
-use page_texts::{Piece, put};
+use page_rows::{Piece, put};
 use plan_base::{Kind, NoMemory};
 use plan_report::kind_word;
 use std::alloc::Global;

@@ -1,6 +1,6 @@
 //! The replies to a script as a page, with each plan as tables and as a drawing.
 //!
-//! Names come from dumps and scripts of others. Each is a piece of its kind, which `put` of `page_texts` escapes.
+//! Names come from dumps and scripts of others. Each is a piece of its kind, which `put` of `page_rows` escapes.
 #![tactic(auto)]
 
 mod answers;

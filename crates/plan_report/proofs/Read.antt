@@ -2,6 +2,7 @@
 use Rattle.std.specs.Prelude.{◌≡◌, ℕ, Bool, true, false, not, ◌==◌, ◌||◌, ◌&&◌, List, [], ◌∷◌, ◌++◌, map, Some, None, if◌then◌else◌}
 use Rattle.std.specs.List.{list_all, flat_map}
 use Rattle.std.proofs.Common.{refl, sym, ap, ◌∙◌, arith, inl, inr, eqb-true}
+use Rattle.std.proofs.lemmas.Bool.{and_parts}
 use Rattle.plan_base.specs.declared.shape.Kind.{Kind}
 use Rattle.script_reader.specs.Fields.{IsName, WritesObject, kind_word}
 use Rattle.script_reader.specs.Words.{is_plain, escaped, put, unquoted, ends_word, SpellsLine, SpellsWord}
@@ -58,21 +59,17 @@ plain_by false false false true quote slash is = cc
 plain_by false false false false true slash is = cc
 plain_by false false false false false slash is = refl
 
-both : (a b : Bool) → (a && b) ≡ true → (a ≡ true) × (b ≡ true)
-both true b is = (refl, is)
-both false b is = cc
-
 all_plain : (word : List ℕ) → list_all (λ b. not (needs_quotes b)) word ≡ true → list_all is_plain word ≡ true
 all_plain [] is = refl
 all_plain (byte ∷ bytes) is =
-    let parts = both (not (needs_quotes byte)) (list_all (λ b. not (needs_quotes b)) bytes) is in
+    let parts = and_parts (not (needs_quotes byte)) (list_all (λ b. not (needs_quotes b)) bytes) is in
     let first : is_plain byte ≡ true = plain_by (byte == 32) (byte == 9) (byte == 10) (byte == 13) (byte == 34) (byte == 92) parts.0 in
     ap (λ b. b && list_all is_plain bytes) first ∙ all_plain bytes parts.1
 
 spells-bare : (word : List ℕ) → is_bare word ≡ true → SpellsWord word word
 spells-bare [] is = cc
 spells-bare (byte ∷ bytes) is =
-    let parts = both (not (byte == 35)) (list_all (λ b. not (needs_quotes b)) (byte ∷ bytes)) is in
+    let parts = and_parts (not (byte == 35)) (list_all (λ b. not (needs_quotes b)) (byte ∷ bytes)) is in
     inl (omega arith, all_plain (byte ∷ bytes) parts.1, refl)
 
 spells_by : (word : List ℕ) (bare : Bool) → is_bare word ≡ bare → SpellsWord (if bare then word else quoted word) word

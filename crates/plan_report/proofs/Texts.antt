@@ -1,7 +1,7 @@
 -- Texts that are written piece by piece.
-use Rattle.std.proofs.Common.{◌≡◌, ◌∙◌, ◌<◌, ◌≤◌, ◌+◌, ◌++◌, ℕ, List, [], ◌∷◌, length, map, drop, get_or, refl, ap, sym, arith, append_assoc, append-nil, drop-cons, add-one}
+use Rattle.std.proofs.Common.{◌≡◌, ◌∙◌, ◌<◌, ◌≤◌, ◌+◌, ◌++◌, ℕ, List, [], ◌∷◌, length, map, drop, get_or, refl, ap, sym, append_assoc, append-nil}
 use Rattle.std.specs.List.{flat_map}
-use Rattle.std.proofs.lemmas.Grind.{common_steps}
+use Rattle.plan_base.proofs.Walks.{next, drop_all}
 use Rattle.plan_report.specs.Layout.{line_then, spaced}
 
 -- what is written for each of a list, so far, with what is to come
@@ -10,9 +10,6 @@ pub record TextSoFar {A B : Type 0} (write : B → List ℕ) (read : A → B) (x
 
 pub text_first : {A B : Type 0} (write : B → List ℕ) (read : A → B) (xs : List A) (text : List ℕ) → text ≡ [] → TextSoFar write read xs 0 text
 text_first write read xs text empty = record { joined = ap (λ t. t ++ flat_map write (map read xs)) empty }
-
-next : {X : Type 0} (xs : List X) (k : ℕ) (x : X) → k < length xs → x ≡ get_or xs k x → drop k xs ≡ x ∷ drop (k + 1) xs
-next xs k x within is = drop-cons xs k x within ∙ ap (λ j. get_or xs k x ∷ drop j xs) (sym (add-one k)) ∙ ap (λ y. y ∷ drop (k + 1) xs) (sym is)
 
 pub text_more : {A B : Type 0} (write : B → List ℕ) (read : A → B) (xs : List A) (k : ℕ) (x : A) (text new : List ℕ) → k < length xs → x ≡ get_or xs k x
     → new ≡ text ++ write (read x) → TextSoFar write read xs k text → TextSoFar write read xs (k + 1) new
@@ -23,9 +20,6 @@ text_more write read xs k x text new within is put before = record {
       ∙ ap (λ rest. text ++ flat_map write (map read rest)) (sym (next xs k x within is))
       ∙ before.joined;
 }
-
-drop_all : {X : Type 0} (xs : List X) (k : ℕ) → length xs ≤ k → drop k xs ≡ []
-drop_all xs k end = grind (arith, common_steps)
 
 pub text_end : {A B : Type 0} (write : B → List ℕ) (read : A → B) (xs : List A) (k : ℕ) (text : List ℕ) → length xs ≤ k → TextSoFar write read xs k text → text ≡ flat_map write (map read xs)
 text_end write read xs k text end before = sym (append-nil text) ∙ ap (λ rest. text ++ flat_map write (map read rest)) (sym (drop_all xs k end)) ∙ before.joined

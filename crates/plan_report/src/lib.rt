@@ -1,7 +1,7 @@
 //! The replies of a planner and their text.
 //!
-//! What each reply says is in `specs/`: `Replies` and `Plans` (the lines of every reply, as words). How words, names and
-//! lines are written is in `node_report`.
+//! What each reply says is in `specs/`: `Replies` and `Plans` (the lines of every reply, as words). How words and names are
+//! written is in `Words` and `Nodes`.
 #![tactic(auto)]
 
 mod answers;
@@ -12,7 +12,9 @@ mod numbers;
 mod plans;
 mod printing;
 mod questions;
+mod rates;
 mod reply;
+mod solved;
 mod words;
 
 pub use answers::{

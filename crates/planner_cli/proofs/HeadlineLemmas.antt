@@ -8,13 +8,13 @@ use Rattle.linear_table.specs.declared.SolveAnswer.{SolveAnswer}
 use Rattle.certificate_file.specs.declared.CertEntry.{CertEntry}
 use Rattle.state_changes.specs.States.{first_state}
 use Rattle.planner_core.specs.Lines.{first_planned}
-use Rattle.script_runner.specs.Lines.{lines_of}
+use Rattle.script_lines.specs.Lines.{lines_of}
 use Rattle.script_runner.specs.Certificates.{CertifiesAll, EndsProof}
 use Rattle.script_runner.specs.Checks.{EndsCheck, JudgesAll, JudgesSome}
 use Rattle.script_runner.specs.Leaves.{Leaves}
 use Rattle.script_runner.specs.Scripts.{EndsScript, IsMeant, IsTooLong, Tells}
-use Rattle.script_runner.specs.declared.run.ScriptEnd.{ScriptEnd}
-use Rattle.script_runner.specs.declared.run.ScriptEnd.TheVariants as script
+use Rattle.script_lines.specs.declared.ends.ScriptEnd.{ScriptEnd}
+use Rattle.script_lines.specs.declared.ends.ScriptEnd.TheVariants as script
 use Rattle.script_runner.specs.Trials.{form_count, proved_count, tally_line}
 use Rattle.run_inputs.specs.declared.status.Status.{Status}
 use Rattle.run_inputs.specs.declared.status.Status.TheVariants.{Done, SomeRefused, BadWords, BadDump, ReadFault, WriteFault, NoMemory, TooLong, BadCert}
@@ -110,10 +110,10 @@ of_run shelf names taken solved NoMemory text work (inl none) = inl (NoMemory, n
 of_run shelf names taken solved NoMemory text work (inr (inl a)) =
     let some = a.ends.1 in
     inr (tells_game shelf (Some (Files Run names)) taken solved NoMemory text a.game a.script (take some.count (lines_of a.script)) text a.ends.0 a.base a.script_is (some.count, refl) some.tells some.tells.told)
-of_run shelf names taken solved NoMemory text work (inr (inr never)) = absurd never
-of_run shelf names taken solved WriteFault text work (inl stopped) = inl (stopped.0, stopped.1.told)
+of_run shelf names taken solved NoMemory text work (inr (inr sample)) = let never : ⊥ = cc (sample.is_sample) in absurd never
+of_run shelf names taken solved WriteFault text work (inl cut) = inl (cut.early, cut.stopped.told)
 of_run shelf names taken solved WriteFault text work (inr (inl a)) = cut_run shelf names taken solved text a.game a.script a.line_work a.base a.script_is a.ends
-of_run shelf names taken solved WriteFault text work (inr (inr never)) = absurd never
+of_run shelf names taken solved WriteFault text work (inr (inr sample)) = let never : ⊥ = cc (sample.is_sample) in absurd never
 of_run shelf names taken solved (TooLong ScriptLines) text work ends = inl (TooLong ScriptLines, ends.ends.told)
 of_run shelf names taken solved ReadFault text work ends = inl (ReadFault, ends.told)
 of_run shelf names taken solved BadWords text work ends = inl (BadWords, ends.told)
@@ -149,11 +149,11 @@ of_sample shelf number size taken solved NoMemory text work (inl none) = inl (No
 of_sample shelf number size taken solved NoMemory text work (inr (inl a)) =
     let some = a.ends.1 in
     inr (tells_game shelf (Some (Sample number size)) taken solved NoMemory text a.game a.script (take some.count (lines_of a.script)) text a.ends.0 a.base a.script_is (some.count, refl) some.tells (inl some.tells.told))
-of_sample shelf number size taken solved NoMemory text work (inr (inr (end, answered, a))) = inr (sample_all shelf number size taken solved NoMemory text end text work (λ bytes. all_first (lines_of bytes)) answered a (inl refl))
-of_sample shelf number size taken solved WriteFault text work (inl stopped) = inl (stopped.0, stopped.1.told)
+of_sample shelf number size taken solved NoMemory text work (inr (inr lacks)) = inr (sample_all shelf number size taken solved NoMemory text lacks.end text work (λ bytes. all_first (lines_of bytes)) lacks.answered lacks.answers (inl refl))
+of_sample shelf number size taken solved WriteFault text work (inl cut) = inl (cut.early, cut.stopped.told)
 of_sample shelf number size taken solved WriteFault text work (inr (inl a)) = cut_sample shelf number size taken solved text a.game a.script a.line_work a.base a.script_is a.ends
-of_sample shelf number size taken solved WriteFault text work (inr (inr (end, answered, all))) =
-    inr (sample_all shelf number size taken solved WriteFault text end all.told work (λ bytes. all_first (lines_of bytes)) answered all.answers (inr all.whole))
+of_sample shelf number size taken solved WriteFault text work (inr (inr cut)) =
+    inr (sample_all shelf number size taken solved WriteFault text cut.end cut.all.told work (λ bytes. all_first (lines_of bytes)) cut.answered cut.all.answers (inr cut.all.whole))
 of_sample shelf number size taken solved (TooLong ScriptLines) text work ends = inl (TooLong ScriptLines, ends.ends.told)
 of_sample shelf number size taken solved ReadFault text work ends = inl (ReadFault, ends.told)
 of_sample shelf number size taken solved BadWords text work ends = inl (BadWords, ends.told)
@@ -180,10 +180,10 @@ of_proof shelf names taken solved SomeRefused text work ends =
     tells_game shelf (Some (Files Prove names)) taken solved SomeRefused text a.game a.script (lines_of a.script) a.ends.replies a.line_work a.base a.script_is refl a.ends.tells.tells (ends.whole ∙ a.ends.told)
 of_proof shelf names taken solved NoMemory text work (inl none) = inl (NoMemory, none.told)
 of_proof shelf names taken solved NoMemory text work (inr (inl a)) = inl (NoMemory, a.ends.told)
-of_proof shelf names taken solved NoMemory text work (inr (inr never)) = absurd never
-of_proof shelf names taken solved WriteFault text work (inl stopped) = inl (stopped.0, stopped.1.told)
+of_proof shelf names taken solved NoMemory text work (inr (inr sample)) = let never : ⊥ = cc (sample.is_sample) in absurd never
+of_proof shelf names taken solved WriteFault text work (inl cut) = inl (cut.early, cut.stopped.told)
 of_proof shelf names taken solved WriteFault text work (inr (inl a)) = cut_proof shelf names taken solved text a.game a.script a.line_work a.base a.script_is a.ends
-of_proof shelf names taken solved WriteFault text work (inr (inr never)) = absurd never
+of_proof shelf names taken solved WriteFault text work (inr (inr sample)) = let never : ⊥ = cc (sample.is_sample) in absurd never
 of_proof shelf names taken solved (TooLong ScriptLines) text work ends = inl (TooLong ScriptLines, ends.ends.told)
 of_proof shelf names taken solved ReadFault text work ends = inl (ReadFault, ends.told)
 of_proof shelf names taken solved BadWords text work ends = inl (BadWords, ends.told)
@@ -218,10 +218,10 @@ of_check shelf cert names taken solved NoMemory text work (inl none) = inl (NoMe
 of_check shelf cert names taken solved NoMemory text work (inr (inl a)) =
     let some = a.ends.ends.1 in
     inr (checks_some shelf cert names NoMemory text a.game a.script a.ends.entries a.ends.ends.0 a.base a.script_is a.ends.given some (some.count, refl))
-of_check shelf cert names taken solved NoMemory text work (inr (inr never)) = absurd never
-of_check shelf cert names taken solved WriteFault text work (inl stopped) = inl (stopped.0, stopped.1.told)
+of_check shelf cert names taken solved NoMemory text work (inr (inr sample)) = let never : ⊥ = cc (sample.is_sample) in absurd never
+of_check shelf cert names taken solved WriteFault text work (inl cut) = inl (cut.early, cut.stopped.told)
 of_check shelf cert names taken solved WriteFault text work (inr (inl a)) = cut_check shelf cert names taken solved text a.game a.script a.line_work a.base a.script_is a.ends
-of_check shelf cert names taken solved WriteFault text work (inr (inr never)) = absurd never
+of_check shelf cert names taken solved WriteFault text work (inr (inr sample)) = let never : ⊥ = cc (sample.is_sample) in absurd never
 of_check shelf cert names taken solved (TooLong ScriptLines) text work ends = inl (TooLong ScriptLines, ends.ends.told)
 of_check shelf cert names taken solved ReadFault text work ends = inl (ReadFault, ends.told)
 of_check shelf cert names taken solved BadWords text work ends = inl (BadWords, ends.told)
@@ -238,10 +238,10 @@ of_none shelf taken solved Done text work ends = absurd ends.answers.script_is
 of_none shelf taken solved SomeRefused text work ends = absurd ends.answers.script_is
 of_none shelf taken solved NoMemory text work (inl none) = inl (NoMemory, none.told)
 of_none shelf taken solved NoMemory text work (inr (inl a)) = absurd a.script_is
-of_none shelf taken solved NoMemory text work (inr (inr never)) = absurd never
-of_none shelf taken solved WriteFault text work (inl stopped) = inl (stopped.0, stopped.1.told)
+of_none shelf taken solved NoMemory text work (inr (inr sample)) = let never : ⊥ = cc (sample.is_sample) in absurd never
+of_none shelf taken solved WriteFault text work (inl cut) = inl (cut.early, cut.stopped.told)
 of_none shelf taken solved WriteFault text work (inr (inl a)) = absurd a.script_is
-of_none shelf taken solved WriteFault text work (inr (inr never)) = absurd never
+of_none shelf taken solved WriteFault text work (inr (inr sample)) = let never : ⊥ = cc (sample.is_sample) in absurd never
 of_none shelf taken solved (TooLong ScriptLines) text work ends = absurd ends.script_is
 of_none shelf taken solved ReadFault text work ends = inl (ReadFault, ends.told)
 of_none shelf taken solved BadWords text work ends = inl (BadWords, ends.told)

@@ -6,7 +6,7 @@ use Rattle.linear_table.specs.declared.SolveAnswer.{SolveAnswer}
 use Rattle.certificate_file.specs.declared.CertEntry.{CertEntry}
 use Rattle.state_changes.specs.States.{first_state}
 use Rattle.planner_core.specs.Lines.{Planned, first_planned}
-use Rattle.script_runner.specs.Lines.{lines_of}
+use Rattle.script_lines.specs.Lines.{lines_of}
 use Rattle.script_runner.specs.Answers.{Answered}
 use Rattle.script_runner.specs.Certificates.{certificate_line, entries_of}
 use Rattle.script_runner.specs.Sessions.{IsSession, report, solutions}

@@ -10,7 +10,8 @@ use plan_base::Steps;
 use plan_io::Sink;
 use planner_core::Planner;
 use run_inputs::Ready;
-use script_runner::{ScriptEnd, prove_script, run_script};
+use script_lines::ScriptEnd;
+use script_runner::{prove_script, run_script};
 use std::alloc::Global;
 
 // Answers the script with a planner that is lent.

@@ -19,7 +19,8 @@ use planner_core::Planner;
 use run_inputs::{
     Ready, Status, is_answered, make_ready, read_entries, read_files, status_of, tell, tell_steps,
 };
-use script_runner::{check_lines, has_many_lines, tell_many_lines};
+use script_lines::has_many_lines;
+use script_runner::{check_lines, tell_many_lines};
 use std::alloc::Global;
 
 /// Answers the script of a file over the dump of another, and writes the replies or their certificate.

@@ -2,16 +2,16 @@
 //! answered.
 #![tactic(auto)]
 
+mod batches;
 mod laws;
 mod planner;
 mod posing;
 mod questions;
+mod reached;
+mod refusals;
 
+pub use batches::BATCH_LIMIT;
 pub use laws::state_is_of_the_active_edits;
-pub use planner::{BATCH_LIMIT, Planner};
+pub use planner::Planner;
 pub use planning_state::LoadFault;
 pub use posing::Posed;
-pub use questions::{
-    list_reply, mask_reply, milestones_reply, missing_reply, rate_reply, reach_reply, refused,
-    refused_as, solve_reply, summary_reply, why_reply,
-};

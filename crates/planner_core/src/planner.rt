@@ -1,5 +1,5 @@
 //! The planner: what each line of a script does, and its reply.
-ghost use Rattle.std.specs.Prelude.{◌≡◌, ℕ, ◌+◌, ◌*◌, ◌<◌, ◌≤◌, ◌∷◌, ◌++◌, [], List, None, Some, Err, false, true, MatchResult, IfOk, OnErr, OnOk, length, nat_lt, option_map, vec_capacity, vec_len};
+ghost use Rattle.std.specs.Prelude.{◌≡◌, ◌+◌, ◌*◌, ◌<◌, ◌≤◌, ◌∷◌, [], List, None, Some, false, true, MatchResult, IfOk, OnErr, length, nat_lt, option_map};
 ghost use Rattle.plan_base.specs.Shape.{node_count};
 ghost use Rattle.graph_store.specs.Rows.{member_count};
 ghost use Rattle.game_types.specs.Nodes.{shape_of};
@@ -11,32 +11,25 @@ ghost use Rattle.edit_undo.specs.Session.{last_of, redo_of, undo_of};
 ghost use Rattle.edit_undo.specs.Kept.{session_of};
 ghost use Rattle.script_reader.specs.declared.command.Command.TheVariants as CommandLine;
 ghost use Rattle.state_changes.specs.Actions.{can_be_held};
-ghost use Rattle.planner_core.specs.Replies.{done_reply, held_reply, refused_as};
 ghost use Rattle.planner_tables.specs.Questions.{linear_named};
-ghost use Rattle.planner_core.specs.Posing.{IsFormed, IsPosed, IsPosedTable, posed_work};
-ghost use Rattle.planner_core.specs.declared.posing.Posed.TheVariants.{Reply as PosedReply};
-ghost use Rattle.plan_report.specs.declared.reply.Reply.{Reply as ReplyTo};
-ghost use Rattle.std.specs.List.{list_all};
-ghost use Rattle.planner_core.specs.Lines.{changes_of, entry_work, first_planned, is_free, is_refused, line_at, line_work, Does, Ends, Held as HeldChange, Holds, HoldsChange, IsFree, IsOpen, IsSessionOf, IsStep, Moves};
+ghost use Rattle.planner_core.specs.Posing.{IsFormed, IsPosedTable};
+ghost use Rattle.planner_core.specs.Lines.{entry_work, first_planned, is_free, is_refused, line_work, Does, Ends, Held as HeldChange, Holds, HoldsChange, IsFree, IsOpen, IsSessionOf, IsStep, Moves};
 
-use crate::posing::{Posed, pose_table};
-use crate::{
-    list_reply, mask_reply, milestones_reply, missing_reply, rate_reply, reach_reply, refused,
-    refused_as, solve_reply, summary_reply, why_reply,
-};
+use crate::Posed;
+use crate::batches::{copies, done_reply, hold_in, line_at, one};
+use crate::questions::{mask_reply, milestones_reply, missing_reply, reach_reply, why_reply};
+use crate::reached::{list_reply, summary_reply};
+use crate::refusals::{refused, refused_as};
 use edit_undo::{DoFault, History};
 use game_types::Game;
 use plan_base::{NoMemory, Steps, Text};
 use plan_report::{RefusalCode, Reply};
+use planner_tables::{ChangeFault, linear_named, rate_reply, solve_reply};
 use planning_state::{LoadFault, Planning, Undo, can_be_held};
 use production_table::Table;
 use script_reader::{Change, Command};
-use state_changes::put;
 use std::alloc::Global;
 use std::marker::Model;
-
-/// The most changes that a batch holds.
-pub const BATCH_LIMIT: usize = 1_024;
 
 /// A planning state with its history, an open batch where there is one, and whether it is quiet.
 #[derive(Drop)]
@@ -176,12 +169,20 @@ impl Planner {
             Command::Mask(object) => mask_reply(self.alloc, &self.planning, &object),
             Command::List(kind) => list_reply(self.alloc, &self.planning, kind),
             Command::Milestones => milestones_reply(self.alloc, &self.planning),
-            Command::Rate { table, label } => {
-                rate_reply(self.alloc, &self.planning, &table, &label)
-            }
-            Command::Solve { table, budget } => {
-                solve_reply(self.alloc, &self.planning, &table, budget)
-            }
+            Command::Rate { table, label } => rate_reply(
+                self.alloc,
+                self.planning.game(),
+                self.planning.tables(),
+                &table,
+                &label,
+            ),
+            Command::Solve { table, budget } => solve_reply(
+                self.alloc,
+                self.planning.game(),
+                self.planning.tables(),
+                &table,
+                budget,
+            ),
             Command::Quiet(on) => {
                 self.quiet = on;
                 Ok(Reply::Nothing)
@@ -203,8 +204,8 @@ impl Planner {
         }
     }
 
-    // Whether a batch is open.
-    fn is_open(&self) -> bool
+    /// Whether a batch is open.
+    pub(crate) fn is_open(&self) -> bool
         ensures free { result ≡ false → self.now.batch ≡ None }
         ensures open_ { result ≡ true → is_free self.now.batch ≡ false }
     {
@@ -335,160 +336,18 @@ impl Planner {
         }
     }
 
-    /// Carries out a line as `step` does, but has the solver settle nothing: a line that would is answered by its linear form.
-    ///
-    /// # Errors
-    ///
-    /// `NoMemory` where memory could not be had, and then the planner is as before.
-    pub fn pose<L>(
-        &mut self,
-        line: u32,
-        command: Command,
-        steps: &mut Steps<L>,
-    ) -> Result<Posed, NoMemory>
-        ensures posed { IfOk result (λ said. IsPosed line self.old command self.new said) }
-        ensures formed { IfOk result IsFormed }
-        ensures history { (base : State) → IsSessionOf base self.old → IsSessionOf base self.new }
-        ensures err { OnErr result (self.new ≡ self.old) }
-        ensures work { IfOk result (λ said. steps.new ≤ steps.old + posed_work command self.old self.new said) }
-        ensures later { steps.old ≤ steps.new }
-    {
-        if self.is_open() {
-            return self.pose_reply(line, command, steps);
-        }
-        match command {
-            Command::Solve { table, budget: _ } => self.pose_form(&table),
-            other => self.pose_reply(line, other, steps),
-        }
-    }
-
-    // The linear form of the table of a name, or the reply that tells why it has none.
-    fn pose_form(&self, table: &Text) -> Result<Posed, NoMemory>
+    /// The linear form of the table of a name, or the reply that tells why it has none.
+    pub(crate) fn pose_form(&self, table: &Text) -> Result<Posed, NoMemory>
         ensures posed { IfOk result (IsPosedTable self.now.state.book.game (linear_named self.now.state.book.game self.now.state.tables table.now)) }
         ensures formed { IfOk result IsFormed }
     {
-        pose_table(self.alloc, &self.planning, table)
-    }
-
-    // The reply to a line.
-    fn pose_reply<L>(
-        &mut self,
-        line: u32,
-        command: Command,
-        steps: &mut Steps<L>,
-    ) -> Result<Posed, NoMemory>
-        ensures posed { IfOk result (λ said. (answer : ReplyTo) × (said ≡ PosedReply answer) × IsStep line self.old command self.new answer) }
-        ensures formed { IfOk result IsFormed }
-        ensures history { (base : State) → IsSessionOf base self.old → IsSessionOf base self.new }
-        ensures err { OnErr result (self.new ≡ self.old) }
-        ensures work { IfOk result (λ said. steps.new ≤ steps.old + posed_work command self.old self.new said) }
-        ensures later { steps.old ≤ steps.new }
-    {
-        match self.step(line, command, steps) {
-            Ok(reply) => Ok(Posed::Reply(reply)),
-            Err(NoMemory) => Err(NoMemory),
+        let game = self.planning.game();
+        match linear_named(self.alloc, game, self.planning.tables(), table) {
+            Ok(linear) => Ok(Posed::Linear(linear)),
+            Err(ChangeFault::Refused(refusal)) => {
+                Ok(Posed::Reply(planner_tables::refused(game, refusal, None)))
+            }
+            Err(ChangeFault::NoMemory) => Err(NoMemory),
         }
-    }
-}
-
-// A list of one change.
-fn one(alloc: Global, change: Change) -> Result<Vec<Change>, NoMemory>
-    ensures { IfOk result (λ edits. edits.items ≡ change ∷ []) }
-{
-    let mut edits = Vec::new(alloc);
-    edits.reserve(1)?;
-    put(&mut edits, change);
-    Ok(edits)
-}
-
-fn done_reply(quiet: bool) -> Reply
-    ensures { result ≡ done_reply quiet }
-{
-    if quiet { Reply::Nothing } else { Reply::Ok }
-}
-
-fn held_reply(quiet: bool) -> Reply
-    ensures { result ≡ held_reply quiet }
-{
-    if quiet { Reply::Nothing } else { Reply::Held }
-}
-
-// The line of a held change, where there is one.
-fn line_at(held: &[(u32, Change)], place: u32) -> Option<u32>
-    ensures { result ≡ line_at held.now place }
-{
-    match held.get(place as usize) {
-        Some(change) => Some(change.0),
-        None => None,
-    }
-}
-
-// Copies of the changes that are held.
-fn copies(alloc: Global, held: &[(u32, Change)]) -> Result<Vec<Change>, NoMemory>
-    ensures { IfOk result (λ edits. edits.items ≡ changes_of held.now) }
-{
-    let mut edits = Vec::new(alloc);
-    for change in held {
-        edits.reserve(1)?;
-        let copy = change.1.copy(alloc)?;
-        put(&mut edits, copy);
-    }
-    Ok(edits)
-}
-
-// Why a change isn't held.
-#[derive(Clone, Copy)]
-enum HoldFault {
-    Full,
-    NoMemory,
-}
-
-// Room for one more change in a batch.
-fn room_in(held: &mut Vec<(u32, Change)>) -> Result<(), HoldFault>
-    ensures same { held.new.items ≡ held.old.items }
-    ensures room { OnOk result ((nat_lt (length held.old.items) 1_024 ≡ true) × (vec_len held.new < vec_capacity held.new)) }
-    ensures full { result ≡ Err HoldFault.Full → nat_lt (length held.old.items) 1_024 ≡ false }
-{
-    if held.len() >= BATCH_LIMIT {
-        return Err(HoldFault::Full);
-    }
-    if held.reserve(1).is_err() {
-        return Err(HoldFault::NoMemory);
-    }
-    Ok(())
-}
-
-// The answer where there is no room.
-fn no_room(fault: HoldFault) -> Result<Reply, NoMemory>
-    ensures { IfOk result (λ answer. (fault ≡ HoldFault.Full) × (answer ≡ refused_as RefusalCode.H5)) }
-{
-    match fault {
-        HoldFault::Full => Ok(refused_as(RefusalCode::H5)),
-        HoldFault::NoMemory => Err(NoMemory),
-    }
-}
-
-// One more change for a batch, where there is room.
-fn hold_in(
-    held: &mut Vec<(u32, Change)>,
-    line: u32,
-    change: Change,
-    quiet: bool,
-) -> Result<Reply, NoMemory>
-    requires held { list_all can_be_held (changes_of held.old.items) ≡ true }
-    requires few { length (changes_of held.old.items) ≤ 1_024 }
-    requires holdable { can_be_held change ≡ true }
-    ensures full { nat_lt (length held.old.items) 1_024 ≡ false → IfOk result (λ answer. (held.new.items ≡ held.old.items) × (answer ≡ refused_as RefusalCode.H5)) }
-    ensures room { nat_lt (length held.old.items) 1_024 ≡ true → IfOk result (λ answer. (held.new.items ≡ held.old.items ++ (line, change) ∷ []) × (answer ≡ held_reply quiet)) }
-    ensures held { list_all can_be_held (changes_of held.new.items) ≡ true }
-    ensures few { length (changes_of held.new.items) ≤ 1_024 }
-    ensures err { OnErr result (held.new.items ≡ held.old.items) }
-{
-    match room_in(held) {
-        Ok(()) => {
-            put(held, (line, change));
-            Ok(held_reply(quiet))
-        }
-        Err(fault) => no_room(fault),
     }
 }

@@ -1,14 +1,16 @@
 //! Lines that are answered with nothing solved.
-ghost use Rattle.std.specs.Prelude.{◌≡◌, IfOk};
-ghost use Rattle.planner_tables.specs.Questions.{linear_named};
-ghost use Rattle.planner_core.specs.Posing.{IsFormed, IsPosedTable};
+ghost use Rattle.std.specs.Prelude.{◌≡◌, ◌+◌, ◌≤◌, IfOk, OnErr};
+ghost use Rattle.plan_report.specs.declared.reply.Reply.{Reply as ReplyTo};
+ghost use Rattle.state_changes.specs.States.{State};
+ghost use Rattle.planner_core.specs.Lines.{IsSessionOf, IsStep};
+ghost use Rattle.planner_core.specs.Posing.{IsFormed, IsPosed, posed_work};
+ghost use Rattle.planner_core.specs.declared.posing.Posed.TheVariants.{Reply as PosedReply};
 
+use crate::Planner;
 use linear_table::Linear;
-use plan_base::{NoMemory, Text};
+use plan_base::{NoMemory, Steps};
 use plan_report::Reply;
-use planner_tables::{ChangeFault, linear_named, refused};
-use planning_state::Planning;
-use std::alloc::Global;
+use script_reader::Command;
 
 /// What a line is answered where nothing is solved.
 #[derive(Drop)]
@@ -19,19 +21,49 @@ pub enum Posed {
     Linear(Linear),
 }
 
-/// The linear form of the table of a name, or the reply that tells why it has none.
-pub(crate) fn pose_table(
-    alloc: Global,
-    planning: &Planning,
-    table: &Text,
-) -> Result<Posed, NoMemory>
-    ensures posed { IfOk result (IsPosedTable planning.now.book.game (linear_named planning.now.book.game planning.now.tables table.now)) }
-    ensures formed { IfOk result IsFormed }
-{
-    let game = planning.game();
-    match linear_named(alloc, game, planning.tables(), table) {
-        Ok(linear) => Ok(Posed::Linear(linear)),
-        Err(ChangeFault::Refused(refusal)) => Ok(Posed::Reply(refused(game, refusal, None))),
-        Err(ChangeFault::NoMemory) => Err(NoMemory),
+impl Planner {
+    /// Carries out a line as `step` does, but has the solver settle nothing: a line that would is answered by its linear form.
+    ///
+    /// # Errors
+    ///
+    /// `NoMemory` where memory could not be had, and then the planner is as before.
+    pub fn pose<L>(
+        &mut self,
+        line: u32,
+        command: Command,
+        steps: &mut Steps<L>,
+    ) -> Result<Posed, NoMemory>
+        ensures posed { IfOk result (λ said. IsPosed line self.old command self.new said) }
+        ensures formed { IfOk result IsFormed }
+        ensures history { (base : State) → IsSessionOf base self.old → IsSessionOf base self.new }
+        ensures err { OnErr result (self.new ≡ self.old) }
+        ensures work { IfOk result (λ said. steps.new ≤ steps.old + posed_work command self.old self.new said) }
+        ensures later { steps.old ≤ steps.new }
+    {
+        if self.is_open() {
+            return self.pose_reply(line, command, steps);
+        }
+        match command {
+            Command::Solve { table, budget: _ } => self.pose_form(&table),
+            other => self.pose_reply(line, other, steps),
+        }
+    }
+
+    // The reply to a line.
+    fn pose_reply<L>(
+        &mut self,
+        line: u32,
+        command: Command,
+        steps: &mut Steps<L>,
+    ) -> Result<Posed, NoMemory>
+        ensures posed { IfOk result (λ said. (answer : ReplyTo) × (said ≡ PosedReply answer) × IsStep line self.old command self.new answer) }
+        ensures formed { IfOk result IsFormed }
+        ensures history { (base : State) → IsSessionOf base self.old → IsSessionOf base self.new }
+        ensures err { OnErr result (self.new ≡ self.old) }
+        ensures work { IfOk result (λ said. steps.new ≤ steps.old + posed_work command self.old self.new said) }
+        ensures later { steps.old ≤ steps.new }
+    {
+        let reply = self.step(line, command, steps)?;
+        Ok(Posed::Reply(reply))
     }
 }

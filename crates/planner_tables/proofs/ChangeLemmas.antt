@@ -1,6 +1,6 @@
 -- What a change makes of a list of tables, and that its part leads back.
 use Rattle.std.proofs.Common.{◌≡◌, ◌∙◌, ℕ, zero, suc, ◌-◌, ◌<◌, ◌≤◌, List, [], ◌∷◌, ◌++◌, Bool, true, false, length, get_or, set, drop, take, Result, Ok, Err, refl, sym, ap, subst, arith, length-append}
-use Rattle.std.specs.Prelude.{◌||◌, if◌then◌else◌, ◌==◌, ◌&&◌, nat_lt, nat_le, insert, remove, slice_set, vec_capacity, vec_len, Vec}
+use Rattle.std.specs.Prelude.{◌||◌, ◌==◌, ◌&&◌, nat_lt, nat_le, IfErr, IsErr, IsErrAnd, insert, remove, slice_set, vec_capacity, vec_len, Vec}
 use Rattle.std.specs.List.{list_any}
 use Rattle.std.specs.Str.{bytes_eq}
 use Rattle.std.specs.Global.{Global}
@@ -9,8 +9,10 @@ use Rattle.std.proofs.lemmas.List.Edits.{length-remove}
 use Rattle.std.proofs.lemmas.List.Elements.{All-push, All-set, All-take, All-drop, All-append}
 use Rattle.std.proofs.lemmas.List.{get_or_default, length-set}
 use Rattle.std.proofs.lemmas.Slice.Eq.{bytes_eq-Decides}
+use Rattle.std.proofs.lemmas.Bool.{cond-false, cond-true, or_from, or_parts}
 use Rattle.game_types.specs.declared.games.Game.{Game}
 use Rattle.game_types.specs.Steps.{◌▸◌}
+use Rattle.game_types.proofs.Walks.{returned}
 use Rattle.script_reader.specs.declared.change.Change.{Change}
 use Rattle.script_reader.specs.declared.change.Change.TheVariants as change
 use Rattle.production_table.specs.declared.tables.Table.{Table}
@@ -32,6 +34,10 @@ use Rattle.planner_tables.specs.Steps.{MakesTable, MakesTables, is_step, step_ef
 use Rattle.planner_tables.specs.Undoing.{has_room, part_restored, spliced, tables_restored}
 use Rattle.plan_base.proofs.Places.{put_back}
 use Rattle.planner_tables.proofs.SpliceLemmas.{goes_again, insert-end}
+
+-- ---- what `?` returns
+pub passed : {A E : Type 0} (P : E → Type 0) (result : Result A E) (fault : E) → IsErr result × IsErrAnd result (λ e. e ≡ fault) → P fault → IfErr result P
+passed P result fault from h = subst (λ r. IfErr r P) (sym (returned result fault from)) h
 
 -- ---- steps
 bound : {A B F : Type 0} (r : Result A F) (x : A) (f : A → Result B F) → r ≡ Ok x → (r ▸ f) ≡ f x
@@ -114,14 +120,6 @@ step_refused g ts c name place t old refusal s n h k e r =
     step_taken g ts c name place t s n h k ∙ (ap (λ (x : Table). placed ts place (step_effect g t x)) e ∙ unbound (step_effect g t old) refusal (λ x. Ok (slice_set ts place x)) r)
 
 -- ---- names that differ
-or_false : (a b : Bool) → (a || b) ≡ false → (a ≡ false) × (b ≡ false)
-or_false false b h = (refl, h)
-or_false true b h = absurd (cc)
-
-false_or : (a b : Bool) → a ≡ false → b ≡ false → (a || b) ≡ false
-false_or false b h k = k
-false_or true b h k = absurd (cc)
-
 turned : (one other : List ℕ) (b : Bool) → bytes_eq other one ≡ b → bytes_eq one other ≡ false → b ≡ false
 turned one other false h k = refl
 turned one other true h k =
@@ -132,9 +130,9 @@ turned one other true h k =
 any_remove : (p : Table → Bool) (ts : List Table) (k : ℕ) → list_any p ts ≡ false → list_any p (remove ts k) ≡ false
 any_remove p [] zero h = refl
 any_remove p [] (suc k) h = refl
-any_remove p (t ∷ ts) zero h = (or_false (p t) (list_any p ts) h).1
+any_remove p (t ∷ ts) zero h = (or_parts (p t) (list_any p ts) h).1
 any_remove p (t ∷ ts) (suc k) h =
-    let both = or_false (p t) (list_any p ts) h in false_or (p t) (list_any p (remove ts k)) both.0 (any_remove p ts k both.1)
+    let both = or_parts (p t) (list_any p ts) h in or_from (p t) (list_any p (remove ts k)) both.0 (any_remove p ts k both.1)
 
 own_remove : (ts : List Table) (k : ℕ) → HaveOwnNames ts → HaveOwnNames (remove ts k)
 own_remove [] zero h = tt
@@ -143,14 +141,14 @@ own_remove (t ∷ ts) zero h = h.1
 own_remove (t ∷ ts) (suc k) h = (any_remove (is_name t.name) ts k h.0, own_remove ts k h.1)
 
 any_push : (p : Table → Bool) (ts : List Table) (t : Table) → p t ≡ false → list_any p ts ≡ false → list_any p (ts ++ t ∷ []) ≡ false
-any_push p [] t h l = false_or (p t) false h refl
+any_push p [] t h l = or_from (p t) false h refl
 any_push p (x ∷ ts) t h l =
-    let both = or_false (p x) (list_any p ts) l in false_or (p x) (list_any p (ts ++ t ∷ [])) both.0 (any_push p ts t h both.1)
+    let both = or_parts (p x) (list_any p ts) l in or_from (p x) (list_any p (ts ++ t ∷ [])) both.0 (any_push p ts t h both.1)
 
 own_push : (ts : List Table) (t : Table) → HaveOwnNames ts → list_any (is_name t.name) ts ≡ false → HaveOwnNames (ts ++ t ∷ [])
 own_push [] t h l = (refl, tt)
 own_push (x ∷ ts) t h l =
-    let both = or_false (is_name t.name x) (list_any (is_name t.name) ts) l in
+    let both = or_parts (is_name t.name x) (list_any (is_name t.name) ts) l in
     (any_push (is_name x.name) ts t (turned t.name x.name (bytes_eq x.name t.name) refl both.0) h.0, own_push ts t h.1 both.1)
 
 any_set : (name : List ℕ) (ts : List Table) (k : ℕ) (d new : Table) → k < length ts → new.name ≡ (get_or ts k d).name → list_any (is_name name) (set ts k new) ≡ list_any (is_name name) ts
@@ -183,21 +181,13 @@ unfolding table_at
 table_read ts place d within = sym (get_or_default ts place d (empty_table []) within)
 
 -- ---- a table more, a table less
-if_true : {A : Type 0} (b : Bool) (x y : A) → b ≡ true → (if b then x else y) ≡ x
-if_true true x y h = refl
-if_true false x y h = absurd (cc)
-
-if_false : {A : Type 0} (b : Bool) (x y : A) → b ≡ false → (if b then x else y) ≡ y
-if_false false x y h = refl
-if_false true x y h = absurd (cc)
-
 pub table_used : (g : Game) (ts : List Table) (name : List ℕ) (refusal : TableRefusal) → list_any (is_name name) ts ≡ true → NameUsed ≡ refusal → tables_effect g ts (change.Table name) ≡ Err refusal
 unfolding tables_effect with_table
-table_used g ts name refusal h e = if_true (list_any (is_name name) ts) _ _ h ∙ ap Err e
+table_used g ts name refusal h e = cond-true (list_any (is_name name) ts) _ _ h ∙ ap Err e
 
 pub tables_full : (g : Game) (ts : List Table) (name : List ℕ) (refusal : TableRefusal) → list_any (is_name name) ts ≡ false → 64 ≤ length ts → Full ≡ refusal → tables_effect g ts (change.Table name) ≡ Err refusal
 unfolding tables_effect with_table
-tables_full g ts name refusal h few e = if_false (list_any (is_name name) ts) _ _ h ∙ (if_false (nat_lt (length ts) 64) _ _ (grind (arith, nat_tests)) ∙ ap Err e)
+tables_full g ts name refusal h few e = cond-false (list_any (is_name name) ts) _ _ h ∙ (cond-false (nat_lt (length ts) 64) _ _ (grind (arith, nat_tests)) ∙ ap Err e)
 
 empty_sound : (g : Game) (name : List ℕ) → IsSoundTable (empty_table name) → IsSoundOn g (empty_table name)
 empty_sound g name h = record {
@@ -218,7 +208,7 @@ table_made g ts us t name place room s new few e is st p z k =
       each = All-push (IsSoundOn g) ts (empty_table name) s.each (empty_sound g name (subst IsSoundTable is st));
     } in
     record {
-      made = if_false (list_any (is_name name) ts) _ _ new ∙ (if_true (nat_lt (length ts) 64) _ _ (grind (arith, nat_tests)) ∙ ap Ok (sym e'));
+      made = cond-false (list_any (is_name name) ts) _ _ new ∙ (cond-true (nat_lt (length ts) 64) _ _ (grind (arith, nat_tests)) ∙ ap Ok (sym e'));
       back = goes_again ts us place (empty_table name) room (omega arith) (e' ∙ sym (ap (λ n. insert ts n (empty_table name)) p ∙ insert-end ts (empty_table name))) z (omega arith);
       sound = subst (AreSoundTables g) (sym e') on;
     }
@@ -235,7 +225,7 @@ pub drop_made : (g : Game) (ts us : List Table) (name : List ℕ) (place : ℕ) 
     → MakesTables g (tables_effect g ts (change.Untable name)) back ts us
 unfolding tables_effect
 drop_made g ts us name place room back s h within z k e b =
-    let is : us ≡ remove ts place = e ∙ if_true (nat_lt place (length ts) && has_room room (length ts - 1)) (remove ts place) ts (gone place (length ts) (vec_len room) (vec_capacity room) within z k) in
+    let is : us ≡ remove ts place = e ∙ cond-true (nat_lt place (length ts) && has_room room (length ts - 1)) (remove ts place) ts (gone place (length ts) (vec_len room) (vec_capacity room) within z k) in
     let on : AreSoundTables g (remove ts place) = record {
       names = own_remove ts place s.names;
       few = (let n = length-remove ts place within in let few = s.few in omega arith);

@@ -1,10 +1,11 @@
 -- An element that comes into a list and goes again leaves it as it was.
 use Rattle.std.proofs.Common.{◌≡◌, ◌∙◌, ℕ, zero, suc, ◌+◌, ◌-◌, ◌<◌, ◌≤◌, List, [], ◌∷◌, ◌++◌, length, refl, sym, ap, subst, arith}
-use Rattle.std.specs.Prelude.{Bool, true, false, ◌&&◌, ◌==◌, nat_lt, nat_le, if◌then◌else◌, insert, remove, slice_get, Some, vec_capacity, vec_len, Vec}
+use Rattle.std.specs.Prelude.{true, ◌&&◌, ◌==◌, nat_lt, nat_le, insert, remove, slice_get, Some, vec_capacity, vec_len, Vec}
 use Rattle.std.specs.Global.{Global}
 use Rattle.std.proofs.lemmas.Bool.Decides.{nat_tests}
 use Rattle.std.proofs.lemmas.List.Edits.{length-insert, length-remove}
 use Rattle.std.proofs.lemmas.Option.{slice_get_within}
+use Rattle.std.proofs.lemmas.Bool.{cond-true}
 use Rattle.planner_tables.specs.declared.splices.Splice.TheVariants.{Remove, Insert}
 use Rattle.planner_tables.specs.Undoing.{spliced}
 
@@ -13,10 +14,6 @@ remove-insert [] zero y h = refl
 remove-insert (x ∷ xs) zero y h = refl
 remove-insert [] (suc i) y h = absurd (omega arith)
 remove-insert (x ∷ xs) (suc i) y h = ap (λ zs. x ∷ zs) (remove-insert xs i y (omega arith))
-
-if_true : {A : Type 0} (b : Bool) (x y : A) → b ≡ true → (if b then x else y) ≡ x
-if_true true x y h = refl
-if_true false x y h = absurd (cc)
 
 test_holds : (i n size room : ℕ) → i ≤ n → size ≡ 0 → n ≤ room → (nat_lt i (n + 1) && ((size == 0) && nat_le (n + 1 - 1) room)) ≡ true
 test_holds i n size room h e k = grind (arith, nat_tests)
@@ -27,7 +24,7 @@ goes_again xs ys i y room h e z k =
     let n : length ys ≡ length xs + 1 = ap length e ∙ length-insert xs i y h in
     let t : (nat_lt i (length ys) && ((vec_len room == 0) && nat_le (length ys - 1) (vec_capacity room))) ≡ true =
     subst (λ m. (nat_lt i m && ((vec_len room == 0) && nat_le (m - 1) (vec_capacity room))) ≡ true) (sym n) (test_holds i (length xs) (vec_len room) (vec_capacity room) h z k) in
-    if_true _ (remove ys i) ys t ∙ (ap (λ zs. remove zs i) e ∙ remove-insert xs i y h)
+    cond-true _ (remove ys i) ys t ∙ (ap (λ zs. remove zs i) e ∙ remove-insert xs i y h)
 
 pub insert-end : {A : Type 0} (xs : List A) (y : A) → insert xs (length xs) y ≡ xs ++ y ∷ []
 insert-end [] y = refl
@@ -48,4 +45,4 @@ pub comes_again : {A : Type 0} (xs : List A) (i : ℕ) (x : A) (room : Vec A Glo
 comes_again xs i x room h z k =
     let within : i < length xs = slice_get_within xs i x h in
     let n : length (remove xs i) + 1 ≡ length xs = length-remove xs i within in
-    if_true _ (insert (remove xs i) i x) (remove xs i) (holds_again i (length (remove xs i)) (vec_len room) (vec_capacity room) (omega arith) z (omega arith)) ∙ insert-remove xs i x h
+    cond-true _ (insert (remove xs i) i x) (remove xs i) (holds_again i (length (remove xs i)) (vec_len room) (vec_capacity room) (omega arith) z (omega arith)) ∙ insert-remove xs i x h

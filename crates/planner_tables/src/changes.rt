@@ -8,8 +8,9 @@ ghost use Rattle.table_words.specs.Refusals.{Gives};
 ghost use Rattle.planner_tables.specs.Steps.{IsRefused, MakesTables, StepFits, is_step, step_named, step_table};
 ghost use Rattle.planner_tables.specs.Undoing.{tables_restored};
 
+use crate::faults::no_name;
 use crate::splices::exchange_element;
-use crate::steps::{Step, no_name, take_step};
+use crate::steps::{Step, take_step};
 use crate::{ChangeFault, Splice, TableRefusal, TableUndo};
 use fractions::Ratio;
 use game_types::Game;
@@ -130,18 +131,10 @@ fn change_table(
     ensures fault { IfErr result (IsRefused (tables_effect game.now tables.old.items change.now)) }
     ensures err { OnErr result (tables.new.items ≡ tables.old.items) }
 {
-    let place = match table_named(alloc, tables.as_slice(), name) {
-        Ok(place) => place,
-        Err(fault) => return Err(fault),
-    };
-    let step = match step_named(alloc, game, change) {
-        Ok(step) => step,
-        Err(fault) => return Err(fault),
-    };
-    match take_step(alloc, game, &mut tables[place], step) {
-        Ok(part) => Ok(TableUndo::Part { table: place, part }),
-        Err(fault) => Err(fault),
-    }
+    let place = table_named(alloc, tables.as_slice(), name)?;
+    let step = step_named(alloc, game, change)?;
+    let part = take_step(alloc, game, &mut tables[place], step)?;
+    Ok(TableUndo::Part { table: place, part })
 }
 
 fn has_table(tables: &[Table], name: &Text) -> bool
@@ -209,10 +202,7 @@ fn drop_table(
     ensures err { OnErr result (tables.new.items ≡ tables.old.items) }
 {
     let _game = game;
-    let place = match table_named(alloc, tables.as_slice(), name) {
-        Ok(place) => place,
-        Err(fault) => return Err(fault),
-    };
+    let place = table_named(alloc, tables.as_slice(), name)?;
     let Ok(room) = Vec::with_capacity(alloc, tables.len()) else {
         return Err(ChangeFault::NoMemory);
     };
@@ -268,8 +258,6 @@ pub fn change_tables(
     ensures err { OnErr result (tables.new.items ≡ tables.old.items) }
     ensures sound { AreSoundTables game.now tables.new.items }
 {
-    match make_change(alloc, game, tables, change) {
-        Ok(undo) => Ok(undo),
-        Err(fault) => Err(fault),
-    }
+    let undo = make_change(alloc, game, tables, change)?;
+    Ok(undo)
 }

@@ -3,14 +3,17 @@
 #![tactic(auto)]
 
 mod changes;
+mod faults;
 mod figures;
 mod questions;
+mod rates;
 mod splices;
 mod steps;
 mod undos;
 
 pub use changes::change_tables;
-pub use questions::{linear_named, rate_reply, solve_reply};
+pub use questions::{linear_named, solve_reply};
+pub use rates::rate_reply;
 pub use splices::Splice;
 pub use table_words::{
     ChangeFault, TableRefusal, code_of, detail_of, good_named, refused, setup_named,

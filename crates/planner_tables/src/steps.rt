@@ -1,19 +1,21 @@
 //! Changes of one table.
-ghost use Rattle.std.specs.Prelude.{◌≡◌, ◌≢◌, ◌<◌, Ok, Err, IfOk, IfErr, OnErr};
+//!
+//! Some functions here and in `changes` have a game of which their clauses alone speak: its tables fit it before and behind. Their
+//! bodies read it by `let _game = game;`.
+ghost use Rattle.std.specs.Prelude.{◌≡◌, ◌<◌, Ok, IfOk, IfErr, OnErr};
 ghost use Rattle.game_types.specs.Goods.{good_count};
 ghost use Rattle.game_types.specs.Sound.{IsSound, IsSoundSetup};
 ghost use Rattle.production_table.specs.Changes.{with_balance, with_import, with_price, with_row, with_surplus, with_want, without_row};
-ghost use Rattle.table_words.specs.declared.refusals.TableRefusal.{TableRefusal as RefusalOf};
 ghost use Rattle.planner_tables.specs.Effects.{IsSoundOn, table_after};
-ghost use Rattle.planner_tables.specs.Causes.{cause};
 ghost use Rattle.planner_tables.specs.Steps.{IsRefused, MakesTable, StepFits, step_effect};
 
+use crate::faults::{good_fault, no_name, row_fault};
 use crate::undos::copied;
 use crate::{ChangeFault, Numbers, Splice, TablePart, TableRefusal};
 use fractions::Ratio;
 use game_types::{Game, Setup};
 use plan_base::{GoodId, Text};
-use production_table::{Table, TableFault};
+use production_table::Table;
 use script_reader::Object;
 use std::alloc::Global;
 
@@ -47,63 +49,6 @@ pub(crate) enum Step {
         price: Option<Ratio>,
     },
     Power(bool),
-}
-
-/// A name of which there is no table, or no row.
-pub(crate) fn no_name(alloc: Global, name: &Text) -> ChangeFault
-    ensures { (refusal : RefusalOf) → result ≡ ChangeFault.Refused refusal → TableRefusal.NoName name.now ≡ refusal }
-{
-    match Text::copy(alloc, name.as_str()) {
-        Ok(copy) => ChangeFault::Refused(TableRefusal::NoName(copy)),
-        Err(_) => ChangeFault::NoMemory,
-    }
-}
-
-// A good that has no price.
-fn no_price(alloc: Global, object: &Object) -> ChangeFault
-    ensures { (refusal : RefusalOf) → result ≡ ChangeFault.Refused refusal → TableRefusal.NoPrice object.now ≡ refusal }
-{
-    match object.copy(alloc) {
-        Ok(copy) => ChangeFault::Refused(TableRefusal::NoPrice(copy)),
-        Err(_) => ChangeFault::NoMemory,
-    }
-}
-
-// A refusal of a table that names nothing that it doesn't know.
-fn plain_fault(fault: TableFault) -> ChangeFault
-    ensures { (refusal unknown : RefusalOf) → result ≡ ChangeFault.Refused refusal → (fault ≢ TableFault.NoMemory) × (cause unknown fault ≡ refusal) }
-{
-    match fault {
-        TableFault::NoMemory => ChangeFault::NoMemory,
-        TableFault::Unknown => ChangeFault::NoMemory,
-        TableFault::Negative => ChangeFault::Refused(TableRefusal::Negative),
-        TableFault::Full => ChangeFault::Refused(TableRefusal::Full),
-        TableFault::LabelUsed => ChangeFault::Refused(TableRefusal::NameUsed),
-        TableFault::Setup(fault) => ChangeFault::Refused(TableRefusal::Setup(fault)),
-        TableFault::Wide { label, step } => {
-            ChangeFault::Refused(TableRefusal::Wide { label, step })
-        }
-    }
-}
-
-// A refusal of a table, which may not know a row.
-pub(crate) fn row_fault(alloc: Global, label: &Text, fault: TableFault) -> ChangeFault
-    ensures { (refusal : RefusalOf) → result ≡ ChangeFault.Refused refusal → (fault ≢ TableFault.NoMemory) × (cause (TableRefusal.NoName label.now) fault ≡ refusal) }
-{
-    match fault {
-        TableFault::Unknown => no_name(alloc, label),
-        other => plain_fault(other),
-    }
-}
-
-// A refusal of a table, of whose goods one may have no price.
-fn good_fault(alloc: Global, object: &Object, fault: TableFault) -> ChangeFault
-    ensures { (refusal : RefusalOf) → result ≡ ChangeFault.Refused refusal → (fault ≢ TableFault.NoMemory) × (cause (TableRefusal.NoPrice object.now) fault ≡ refusal) }
-{
-    match fault {
-        TableFault::Unknown => no_price(alloc, object),
-        other => plain_fault(other),
-    }
 }
 
 // A row comes in at the end.

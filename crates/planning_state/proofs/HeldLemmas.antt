@@ -1,6 +1,7 @@
 -- Entries that change the book and the tables, and how they are taken back.
-use Rattle.std.proofs.Common.{◌≡◌, ◌∙◌, ℕ, ◌+◌, ◌*◌, ◌≤◌, ◌&&◌, Bool, false, true, List, [], ◌∷◌, Option, None, Some, Result, Ok, Err, refl, sym, ap, subst}
+use Rattle.std.proofs.Common.{◌≡◌, ◌∙◌, ℕ, ◌+◌, ◌*◌, ◌≤◌, Bool, false, true, List, [], ◌∷◌, Option, None, Some, Result, Ok, Err, refl, sym, ap, subst}
 use Rattle.std.specs.List.{list_all, list_any}
+use Rattle.std.proofs.lemmas.Bool.{and_parts}
 use Rattle.plan_base.specs.declared.ids.NodeId.{NodeId}
 use Rattle.plan_base.specs.declared.shape.Shape.{Shape}
 use Rattle.graph_store.specs.declared.Row.{Row}
@@ -135,11 +136,6 @@ held-one s t change held e = by-kind (is_of_tables change) refl
     by-kind true is = held-tables s t change (tables_effect s.book.game s.tables change) (sym (effect-tables s change is) ∙ e)
     by-kind false is = held-named s t change (edit_named s.book.game change) refl (sym (effect-book s change held is) ∙ e)
 
-pub both : (a b : Bool) → (a && b) ≡ true → (a ≡ true) × (b ≡ true)
-both true true e = (refl, refl)
-both true false e = absurd cc
-both false b e = absurd cc
-
 pub then-ok : (r : Outcome State) (place : ℕ) (next : State → Result State (ℕ × Refusal)) (t : State) → then_apply r place next ≡ Ok t → (u : State) × (r ≡ Ok u) × (next u ≡ Ok t)
 then-ok (Ok u) place next t e = (u, refl, e)
 then-ok (Err refusal) place next t e = absurd cc
@@ -170,7 +166,7 @@ held-all s t place [] held e =
     let same : s ≡ t = cc in
     subst (Held s []) same (record { names = names-refl s.book.game; stays = λ n untouched. stays-refl s.book n; alike = alike_same [] s.book.game; game = λ marks. refl })
 held-all s t place (change ∷ changes) held e =
-    let apart : (can_be_held change ≡ true) × (list_all can_be_held changes ≡ true) = both (can_be_held change) (list_all can_be_held changes) held in
+    let apart : (can_be_held change ≡ true) × (list_all can_be_held changes ≡ true) = and_parts (can_be_held change) (list_all can_be_held changes) held in
     let found : (u : State) × (effect_of s change ≡ Ok u) × (apply_from effect_of (place + 1) u changes ≡ Ok t) = then-ok (effect_of s change) place _ t e in
     held-more s found.0 t change changes (held-one s found.0 change apart.0 found.1) (held-all found.0 t (place + 1) changes apart.1 found.2)
 

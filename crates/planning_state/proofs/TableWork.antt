@@ -3,6 +3,7 @@ use Rattle.std.proofs.Common.{◌≡◌, ◌∙◌, ℕ, ◌+◌, ◌*◌, ◌<�
 use Rattle.std.specs.Prelude.{◌==◌, if◌then◌else◌, slice_get, slice_index}
 use Rattle.std.specs.List.{list_all}
 use Rattle.std.proofs.lemmas.List.Elements.{All-head}
+use Rattle.std.proofs.lemmas.Bool.{and_parts}
 use Rattle.plan_base.specs.Shape.{node_count}
 use Rattle.plan_base.specs.declared.ids.NodeId.{NodeId}
 use Rattle.plan_base.specs.declared.shape.Shape.{Shape}
@@ -30,7 +31,7 @@ use Rattle.planning_state.specs.Work.{touched_in, work_of}
 use Rattle.planning_state.specs.Worlds.{worlds_of}
 use Rattle.state_changes.proofs.Changing.{effect-tables, no-edit}
 use Rattle.planning_state.proofs.EntryLemmas.{held-work}
-use Rattle.planning_state.proofs.HeldLemmas.{both, ok-same, then-ok}
+use Rattle.planning_state.proofs.HeldLemmas.{ok-same, then-ok}
 
 -- ---- the book and the milestones stay
 table-alone : (s t : State) (outcome : Result (List ProductionTable) TableRefusal) → with_tables s outcome ≡ Ok t → (s.book ≡ t.book) × (s.milestones ≡ t.milestones)
@@ -44,7 +45,7 @@ tables-alone s t place [] h e =
     let same : s ≡ t = cc in
     (ap (λ (u : State). u.book) same, ap (λ (u : State). u.milestones) same)
 tables-alone s t place (change ∷ changes) h e =
-    let apart : (is_of_tables change ≡ true) × (list_all is_of_tables changes ≡ true) = both (is_of_tables change) (list_all is_of_tables changes) h in
+    let apart : (is_of_tables change ≡ true) × (list_all is_of_tables changes ≡ true) = and_parts (is_of_tables change) (list_all is_of_tables changes) h in
     let found : (u : State) × (effect_of s change ≡ Ok u) × (apply_from effect_of (place + 1) u changes ≡ Ok t) = then-ok (effect_of s change) place _ t e in
     let one : (s.book ≡ found.0.book) × (s.milestones ≡ found.0.milestones) = table-alone s found.0 (tables_effect s.book.game s.tables change) (sym (effect-tables s change apart.0) ∙ found.1) in
     let rest : (found.0.book ≡ t.book) × (found.0.milestones ≡ t.milestones) = tables-alone found.0 t (place + 1) changes apart.1 found.2 in
@@ -54,7 +55,7 @@ tables-alone s t place (change ∷ changes) h e =
 no-edits : (g : Game) (changes : List Change) → list_all is_of_tables changes ≡ true → edits_named g changes ≡ []
 no-edits g [] h = refl
 no-edits g (change ∷ changes) h =
-    let apart : (is_of_tables change ≡ true) × (list_all is_of_tables changes ≡ true) = both (is_of_tables change) (list_all is_of_tables changes) h in
+    let apart : (is_of_tables change ≡ true) × (list_all is_of_tables changes ≡ true) = and_parts (is_of_tables change) (list_all is_of_tables changes) h in
     ap (λ (o : Outcome (Option Edit)). edit_and o (edits_named g changes)) (no-edit g change apart.0) ∙ no-edits g changes apart.1
 
 none-among : (count : ℕ) (nodes : List NodeId) → All (λ (m : NodeId). m.0 < count) nodes → ((n : ℕ) → n < count → has_node nodes n ≡ false) → nodes ≡ []
@@ -117,7 +118,7 @@ tables-held (Power table on) h = refl
 all-held : (changes : List Change) → list_all is_of_tables changes ≡ true → list_all can_be_held changes ≡ true
 all-held [] h = refl
 all-held (change ∷ changes) h =
-    let apart : (is_of_tables change ≡ true) × (list_all is_of_tables changes ≡ true) = both (is_of_tables change) (list_all is_of_tables changes) h in
+    let apart : (is_of_tables change ≡ true) × (list_all is_of_tables changes ≡ true) = and_parts (is_of_tables change) (list_all is_of_tables changes) h in
     ap (λ b. b && list_all can_be_held changes) (tables-held change apart.0) ∙ all-held changes apart.1
 
 no-work : (s t : State) (changes : List Change) → list_all is_of_tables changes ≡ true → s.book ≡ t.book → s.milestones ≡ t.milestones → work_of s changes t ≡ 0

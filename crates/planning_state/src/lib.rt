@@ -4,6 +4,7 @@
 
 mod held;
 mod laws;
+mod loading;
 mod milestones;
 mod planning;
 mod settling;

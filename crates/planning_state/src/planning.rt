@@ -1,7 +1,7 @@
 //! The planning state, with the rows and the ranks of every world beside it.
 ghost use Rattle.std.specs.Prelude.{◌≡◌, ◌≢◌, ℕ, ◌+◌, ◌*◌, ◌<◌, ◌≤◌, ◌∷◌, [], All, Bool, false, true, List, None, Some, Ok, IfErr, IfOk, MatchResult, OnErr, OnOk, length, slice_get, slice_index_or};
 ghost use Rattle.plan_base.specs.Shape.{count_of, first_of, node_count};
-ghost use Rattle.graph_store.specs.Rows.{AreMembersBelow, member_count};
+ghost use Rattle.graph_store.specs.Rows.{member_count};
 ghost use Rattle.game_types.specs.Nodes.{shape_of};
 ghost use Rattle.game_types.specs.Sound.{IsSound};
 ghost use Rattle.data_edit.specs.Books.{IsSoundBook};
@@ -17,19 +17,18 @@ ghost use Rattle.state_changes.specs.Effects.{effect_of, is_entry};
 ghost use Rattle.state_changes.specs.Undoing.{LeadsBack};
 ghost use Rattle.planning_state.specs.Work.{work_of};
 
+use crate::loading::{Kept, kept_beside};
 use crate::{
     add_milestone, apply_held, drop_milestone, put_milestone, restore_held, take_milestone,
 };
 use data_edit::Book;
 use depend_index::Index;
-use depend_rows::{RowsFault, rows_within};
 use edit_undo::{Editable, EntryFault};
 use game_types::Game;
-use graph_store::{Graph, Group, Row, Rows};
+use graph_store::{Graph, Group};
 use milestone_masks::Worlds;
 use plan_base::{Kind, NoMemory, NodeId, Steps};
 use production_table::Table;
-use reach_ranks::ranks_afresh;
 use script_reader::{Change, Object};
 use state_changes::{
     Back, ChangeFault, Entry, Refusal, Undo, back_of, entry_of, node_named, nodes_of,
@@ -72,64 +71,6 @@ impl Model for Planning {
     ghost invariant = { λ p. IsKept p.book p.graph p.worlds × AreSoundTables p.book.game p.tables.items × IsIndex p.book.game p.index };
 }
 
-// The rows of a book as a graph, and the ranks of its base world.
-fn graph_and_worlds<L>(
-    alloc: Global,
-    book: &Book,
-    rows: Vec<Row>,
-    steps: &mut Steps<L>,
-) -> Result<(Graph, Worlds), NoMemory>
-    requires sound { IsSoundBook book.now }
-    requires rows { rows.items ≡ rows_of book.now.game }
-    requires as_long { length rows.items ≡ node_count (shape_of book.now.game) }
-    requires members { AreMembersBelow (length rows.items) rows.items }
-    ensures graph { IfOk result (λ made. made.0 ≡ rows_of book.now.game) }
-    ensures worlds { IfOk result (λ made. AreWorlds (rows_of book.now.game) book.now.barred book.now.granted made.1) }
-    ensures none { IfOk result (λ made. made.1.milestones ≡ []) }
-    ensures steps { IfOk result (λ _. steps.new ≤ steps.old + 4 * (node_count (shape_of book.now.game) + member_count (rows_of book.now.game))) }
-    ensures later { steps.old ≤ steps.new }
-{
-    let graph = Graph::make(alloc, rows)?;
-    match first_worlds(alloc, book, &graph, steps) {
-        Ok(worlds) => Ok((graph, worlds)),
-        Err(fault) => Err(fault),
-    }
-}
-
-// What is kept beside a book.
-struct Kept {
-    index: Index,
-    graph: Graph,
-    worlds: Worlds,
-}
-
-// What is kept beside a book with no milestones.
-fn kept_beside<L>(alloc: Global, book: &Book, steps: &mut Steps<L>) -> Result<Kept, LoadFault>
-    requires { IsSoundBook book.now }
-    ensures members { MatchResult result
-        (λ _. member_count (rows_of book.now.game) ≤ 4_194_304)
-        (λ fault. fault ≡ LoadFault.Members → 4_194_304 < member_count (rows_of book.now.game)) }
-    ensures index { IfOk result (λ kept. IsIndex book.now.game kept.index) }
-    ensures graph { IfOk result (λ kept. kept.graph ≡ rows_of book.now.game) }
-    ensures worlds { IfOk result (λ kept. AreWorlds (rows_of book.now.game) book.now.barred book.now.granted kept.worlds) }
-    ensures none { IfOk result (λ kept. kept.worlds.milestones ≡ []) }
-    ensures steps { IfOk result (λ _. steps.new ≤ steps.old + node_count (shape_of book.now.game) + 4 * (node_count (shape_of book.now.game) + member_count (rows_of book.now.game))) }
-    ensures later { steps.old ≤ steps.new }
-{
-    let (rows, index) = match rows_within(alloc, book, steps) {
-        Ok(made) => made,
-        Err(fault) => return Err(load_fault(fault)),
-    };
-    match graph_and_worlds(alloc, book, rows, steps) {
-        Ok((graph, worlds)) => Ok(Kept {
-            index,
-            graph,
-            worlds,
-        }),
-        Err(NoMemory) => Err(LoadFault::NoMemory),
-    }
-}
-
 // A planning state with no milestones and no tables.
 fn assemble(alloc: Global, book: Book, kept: Kept) -> Planning
     requires sound { IsSoundBook book }
@@ -163,10 +104,8 @@ fn of_book<L>(alloc: Global, book: Book, steps: &mut Steps<L>) -> Result<Plannin
     ensures steps { IfOk result (λ _. steps.new ≤ steps.old + node_count (shape_of book.game) + 4 * (node_count (shape_of book.game) + member_count (rows_of book.game))) }
     ensures later { steps.old ≤ steps.new }
 {
-    match kept_beside(alloc, &book, steps) {
-        Ok(kept) => Ok(assemble(alloc, book, kept)),
-        Err(fault) => Err(fault),
-    }
+    let kept = kept_beside(alloc, &book, steps)?;
+    Ok(assemble(alloc, book, kept))
 }
 
 impl Planning {
@@ -336,40 +275,6 @@ impl Planning {
     {
         self.worlds.milestone(place)
     }
-}
-
-fn load_fault(fault: RowsFault) -> LoadFault
-    ensures { result ≡ LoadFault.Members → fault ≡ RowsFault.TooMany }
-{
-    match fault {
-        RowsFault::TooMany => LoadFault::Members,
-        RowsFault::NoMemory => LoadFault::NoMemory,
-    }
-}
-
-// The ranks of the base world, with no milestones.
-fn first_worlds<R: Rows<L>, L>(
-    alloc: Global,
-    book: &Book,
-    graph: &R,
-    steps: &mut Steps<L>,
-) -> Result<Worlds, NoMemory>
-    requires sound { IsSoundBook book.now }
-    requires rows { R.rows graph.now ≡ rows_of book.now.game }
-    ensures worlds { IfOk result (λ worlds. AreWorlds (rows_of book.now.game) book.now.barred book.now.granted worlds) }
-    ensures none { IfOk result (λ worlds. worlds.milestones ≡ []) }
-    ensures steps { IfOk result (λ _. steps.new ≤ steps.old + 4 * (node_count (shape_of book.now.game) + member_count (rows_of book.now.game))) }
-    ensures later { steps.old ≤ steps.new }
-{
-    let ranks = ranks_afresh(
-        alloc,
-        graph,
-        book.barred.as_slice(),
-        book.granted.as_slice(),
-        None,
-        steps,
-    )?;
-    Worlds::make(alloc, ranks)
 }
 
 impl<L> Editable<L> for Planning {

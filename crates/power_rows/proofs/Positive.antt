@@ -2,6 +2,7 @@
 use Rattle.std.specs.Prelude.{ℕ, ◌≡◌, Bool, true, false, not, ◌||◌, pos, ◌*ℤ◌, int_lt, ◌<ℤ◌, ℤ, Option, Some, None, Result, Ok, Err, IfOk, if◌then◌else◌}
 use Rattle.std.proofs.Common.{refl, sym, subst, arith}
 use Rattle.std.proofs.lemmas.Int.{ints}
+use Rattle.std.proofs.lemmas.Bool.{not-false}
 use Rattle.fractions.specs.Fraction.{Fraction, zero_fraction, ◌<ʳ◌, ◌-ʳ◌}
 use Rattle.fractions.proofs.Order.{positive-*ʳ, difference_from_lt}
 use Rattle.plan_base.specs.declared.ids.GoodId.{GoodId}
@@ -19,10 +20,6 @@ use Rattle.power_rows.specs.Inputs.{fluid_in}
 use Rattle.game_types.specs.Lookups.{machine_at}
 use Rattle.game_types.specs.declared.setups.Setup.{Setup}
 use Rattle.game_types.specs.declared.games.Game.{Game}
-
-not_false : (b : Bool) → not b ≡ false → b ≡ true
-not_false true h = refl
-not_false false h = absurd (cc)
 
 pub first : (a b : Bool) → (a || b) ≡ false → a ≡ false
 first false b h = refl
@@ -47,7 +44,7 @@ foremost false b c h = refl
 foremost true b c h = absurd (cc)
 
 pub positive_not : (x : Fraction) → not (is_positive x) ≡ false → zero_fraction <ʳ x
-positive_not x h = positive_is x (not_false (is_positive x) h)
+positive_not x h = positive_is x (not-false (is_positive x) h)
 
 int_less : (x y : ℤ) → int_lt x y ≡ true → x <ℤ y
 int_less x y h = grind (arith, ints)
@@ -75,7 +72,7 @@ warm_capacity fluid most h = positive_not fluid.heat_capacity (second (not (is_c
 pub warm_rise : (fluid : Fluid) (most : Fraction) → is_idle false fluid most ≡ false → zero_fraction <ʳ (at_most most fluid.at -ʳ fluid.default_temperature)
 warm_rise fluid most h =
     difference_from_lt fluid.default_temperature (at_most most fluid.at)
-    (cooler fluid.default_temperature (at_most most fluid.at) (not_false (is_cooler fluid.default_temperature (at_most most fluid.at)) (first (not (is_cooler fluid.default_temperature (at_most most fluid.at))) (not (is_positive fluid.heat_capacity)) h)))
+    (cooler fluid.default_temperature (at_most most fluid.at) (not-false (is_cooler fluid.default_temperature (at_most most fluid.at)) (first (not (is_cooler fluid.default_temperature (at_most most fluid.at))) (not (is_positive fluid.heat_capacity)) h)))
 
 pub burns_value : (burns : Bool) (fluid : Fluid) (most : Fraction) → burns ≡ true → is_idle burns fluid most ≡ false → zero_fraction <ʳ fluid.fuel_value
 burns_value true fluid most b h = positive_not fluid.fuel_value h

@@ -1,17 +1,16 @@
 -- Productivity adds nothing to what a launch brings back.
-use Rattle.std.proofs.Common.{◌≡◌, ◌∙◌, ℕ, Bool, true, false, List, [], ◌∷◌, ap, ap₂, arith, map, refl, sym, subst, ⊎_elim}
+use Rattle.std.proofs.Common.{◌≡◌, ◌∙◌, ℕ, Bool, true, false, List, [], ◌∷◌, ap, ap₂, arith, map, refl, sym, subst}
 use Rattle.std.specs.Prelude.{◌≢◌, ◌*◌, ◌<◌, ◌*ℤ◌, ◌+ℤ◌, ℤ, pos, All, Result}
 use Rattle.std.specs.Ordering.{MatchOrdering, int_cmp}
 use Rattle.std.specs.declared.cmp.Ordering.{Ordering}
 use Rattle.std.specs.declared.cmp.Ordering.TheVariants.{Less, Equal, Greater}
-use Rattle.std.proofs.lemmas.Int.{ints}
 use Rattle.std.proofs.lemmas.List.Elements.{All-head, All-tail}
-use Rattle.fractions.specs.Fraction.{Fraction, frac, ◌+ʳ◌, ◌-ʳ◌, ◌*ʳ◌, ◌/ʳ◌, ◌<ʳ◌, ◌≤ʳ◌, inverse, negated, zero_fraction, one_fraction, whole_fraction}
+use Rattle.fractions.specs.Fraction.{Fraction, frac, ◌+ʳ◌, ◌-ʳ◌, ◌*ʳ◌, ◌/ʳ◌, ◌<ʳ◌, ◌≤ʳ◌, inverse, negated, zero_fraction, whole_fraction}
 use Rattle.fractions.specs.Fracs.{atom, frac_eq, pos_product, ◌⊠◌, same_amount}
 use Rattle.fractions.specs.Ring.{int, nat, ◌⊕◌, ◌⊗◌, same_value}
 use Rattle.fractions.proofs.Ceiling.{den-whole, num-whole}
-use Rattle.fractions.proofs.Laws.{*ʳ-inverse, *ʳ-one, *ʳ-zero, *ʳ_comm, +ʳ-negated, zero-*ʳ}
-use Rattle.fractions.proofs.Order.{+ʳ-≤ʳ, *ʳ-≤ʳ, <ʳ-≤ʳ, <ʳ_not_≤ʳ, positive_frac, ≤ʳ_or_<ʳ, ≤ʳ_refl}
+use Rattle.fractions.proofs.Laws.{*ʳ-inverse, *ʳ-one, *ʳ-zero, +ʳ-negated, zero-*ʳ}
+use Rattle.fractions.proofs.Order.{+ʳ-≤ʳ, *ʳ-≤ʳ, <ʳ-≤ʳ, <ʳ_not_≤ʳ, ≤ʳ_refl}
 use Rattle.fractions.proofs.SmallParts.{cmp_by_cross}
 use Rattle.game_types.specs.Rates.{yield_of}
 use Rattle.game_types.specs.Steps.{added, at_least, divided, formed, is_narrow, multiplied, subtracted, ◌▸◌}
@@ -20,31 +19,12 @@ use Rattle.game_types.specs.declared.recipes.Product.{Product}
 use Rattle.game_types.proofs.StepLemmas.{at_least_is}
 use Rattle.rocket_launches.specs.Launches.{as_catalyst}
 use Rattle.table_rows.specs.Columns.{given}
-
-two : Fraction
-two = whole_fraction (pos 2)
-
--- ---- the mean of two amounts is at most the higher one
-two_above : zero_fraction <ʳ two
-unfolding two whole_fraction
-two_above = positive_frac (pos 2) 1 (omega arith) (omega (arith, ints))
+use Rattle.depend_index.proofs.Signs.{half_above, two, two_above}
 
 two_other : two ≢ zero_fraction
 two_other is = <ʳ_not_≤ʳ zero_fraction two two_above (subst (λ (w : Fraction). w ≤ʳ zero_fraction) (sym is) (≤ʳ_refl zero_fraction))
 
-one_above : zero_fraction <ʳ one_fraction
-unfolding zero_fraction one_fraction
-one_above = record { cross = omega (arith, ints) }
-
-half_above : zero_fraction <ʳ inverse two
-half_above =
-    let whole : inverse two *ʳ two ≡ one_fraction = *ʳ_comm (inverse two) two ∙ *ʳ-inverse two two_other in
-    ⊎_elim
-    (λ low. absurd (<ʳ_not_≤ʳ zero_fraction one_fraction one_above
-    (subst (λ (w : Fraction). w ≤ʳ zero_fraction) whole (subst (λ (w : Fraction). (inverse two *ʳ two) ≤ʳ w) (zero-*ʳ two) (*ʳ-≤ʳ (inverse two) zero_fraction two (<ʳ-≤ʳ zero_fraction two two_above) low)))))
-    (λ high. high)
-    (≤ʳ_or_<ʳ (inverse two) zero_fraction)
-
+-- ---- the mean of two amounts is at most the higher one
 twice : (x : Fraction) → x +ʳ x ≡ x *ʳ two
 unfolding ◌+ʳ◌ ◌*ʳ◌ two
 twice x =

@@ -173,6 +173,7 @@ one_launch base place one sound at =
       silo = silo_in g one.silo;
       machine = refl;
       parts = refl;
+      part = λ item. plain_item (length g.items) (temperature_lists g) one.silo.part item;
       launch = record { there = inside; launch = is; cargo_there = there; part_there = part_there (split g) (silo_in g one.silo) one.cargo (item_at base one.cargo) recipe; silo_there = silo_there (split g) (silo_in g one.silo) one.cargo (item_at base one.cargo) recipe };
     }
 

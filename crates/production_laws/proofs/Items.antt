@@ -1,22 +1,15 @@
 -- Of an item, a row's choice is the item itself.
 use Rattle.std.proofs.Common.{◌≡◌, ◌∙◌, ◌<◌, ◌≤◌, ℕ, List, [], ◌∷◌, length, refl, ap, arith}
-use Rattle.std.specs.Prelude.{All, IfSome, ◌&&◌, ◌||◌, Bool, true, false, nat_lt, ◌==◌, Option, Some, None, if◌then◌else◌}
+use Rattle.std.specs.Prelude.{All, IfSome, Bool, true, false, nat_lt, ◌==◌, Option, Some, None, if◌then◌else◌}
 use Rattle.std.specs.List.{list_any}
 use Rattle.std.proofs.lemmas.Bool.Decides.{nat_tests}
 use Rattle.std.proofs.lemmas.List.Elements.{All-head, All-tail}
+use Rattle.std.proofs.lemmas.Bool.{and_left, or_from}
 use Rattle.plan_base.specs.declared.ids.GoodId.{GoodId}
 use Rattle.game_types.specs.declared.games.Game.{Game}
 use Rattle.game_types.specs.declared.goods.Fluid.{Fluid}
 use Rattle.game_types.specs.Sound.{IsBase, IsFluid, IsItem, IsSound, IsSoundFluid}
 use Rattle.game_types.specs.Temperatures.{choice_of, coolest_fit, first_where, fits_alone, fluid_at, is_base, is_fit, is_good, or_else}
-
-neither : (b c : Bool) → b ≡ false → c ≡ false → (b || c) ≡ false
-neither false c h k = k
-neither true c h k = absurd (cc)
-
-not_both : (b c : Bool) → b ≡ false → (b && c) ≡ false
-not_both false c h = refl
-not_both true c h = absurd (cc)
 
 -- an item is no base
 no_base_of : (g : Game) (good : ℕ) (o : Option GoodId) → good < length g.items → IfSome o (IsBase g) → is_good o good ≡ false
@@ -26,7 +19,7 @@ no_base_of g good (Some base) h k = let up : length g.items ≤ base.0 = k.0 in 
 none_base : (g : Game) (good : ℕ) (fluids : List Fluid) → good < length g.items → All (IsSoundFluid g) fluids → list_any (λ fluid. is_good fluid.of good) fluids ≡ false
 none_base g good [] h each = refl
 none_base g good (fluid ∷ fluids) h each =
-    neither (is_good fluid.of good) (list_any (λ f. is_good f.of good) fluids) (no_base_of g good fluid.of h (All-head (IsSoundFluid g) fluid fluids each)) (none_base g good fluids h (All-tail (IsSoundFluid g) fluid fluids each))
+    or_from (is_good fluid.of good) (list_any (λ f. is_good f.of good) fluids) (no_base_of g good fluid.of h (All-head (IsSoundFluid g) fluid fluids each)) (none_base g good fluids h (All-tail (IsSoundFluid g) fluid fluids each))
 
 no_base : (g : Game) (good : ℕ) → IsSound g → good < length g.items → is_base g good ≡ false
 unfolding is_base
@@ -35,7 +28,7 @@ no_base g good sound h = none_base g good g.fluids h sound.fluids
 -- no fluid of the row's own is a fit
 own_fit : (g : Game) (good own : ℕ) → is_base g good ≡ false → (own == good) ≡ false → is_fit g good None None own ≡ false
 unfolding is_fit
-own_fit g good own base apart = rw (base) (not_both (own == good) (fits_alone None None (fluid_at g good)) apart)
+own_fit g good own base apart = rw (base) (and_left (own == good) (fits_alone None None (fluid_at g good)) apart)
 
 no_own : (g : Game) (good : ℕ) (at : List GoodId) → good < length g.items → is_base g good ≡ false → All (λ own. IsFluid g own.0) at → first_where (λ own. is_fit g good None None own.0) at ≡ None
 no_own g good [] h base each = refl

@@ -1,12 +1,14 @@
 -- A launch is reached exactly where what it takes and its silo are.
-use Rattle.std.proofs.Common.{◌≡◌, ◌<◌, ◌+◌, ◌-◌, ◌∙◌, ℕ, zero, suc, Bool, true, false, List, [], ◌∷◌, length, refl, sym, ap, ap₂, subst, arith}
+use Rattle.std.proofs.Common.{◌≡◌, ◌<◌, ◌+◌, ◌-◌, ◌∙◌, ℕ, zero, suc, Bool, true, false, List, [], ◌∷◌, length, refl, sym, ap, ap₂, subst, arith, eq-eqb}
 use Rattle.std.specs.Prelude.{◌&&◌, ◌||◌, ◌==◌, not, nat_lt, Option, Some, filter, map, slice_get, if◌then◌else◌}
 use Rattle.std.specs.List.{list_all, list_any, range_with_len}
 use Rattle.std.proofs.lemmas.Bool.Decides.{nat_tests}
+use Rattle.std.proofs.lemmas.Bool.{and_from, and_parts, or_right}
 use Rattle.plan_base.specs.Shape.{node_count}
 use Rattle.plan_base.specs.declared.ids.GoodId.{GoodId}
 use Rattle.plan_base.specs.declared.ids.NodeId.{NodeId}
 use Rattle.plan_base.specs.declared.ids.RecipeId.{RecipeId}
+use Rattle.plan_base.proofs.Bools.{or_false, same_tests}
 use Rattle.game_types.specs.Lookups.{recipe_at}
 use Rattle.game_types.specs.Nodes.{shape_of}
 use Rattle.game_types.specs.declared.games.Game.{Game}
@@ -58,20 +60,6 @@ launch_row g recipe there =
     rw (special, good, is, number) refl
 
 -- ---- nodes that are named
-and_true : (a b : Bool) → (a && b) ≡ true → (a ≡ true) × (b ≡ true)
-and_true true b is = (refl, is)
-and_true false b is = absurd (cc)
-
-both_true : (a b : Bool) → a ≡ true → b ≡ true → (a && b) ≡ true
-both_true true b first second = second
-both_true false b first second = first
-
--- two tests that hold of the same
-same_test : (a b : Bool) → (a ≡ true → b ≡ true) → (b ≡ true → a ≡ true) → a ≡ b
-same_test true b f g = sym (f refl)
-same_test false true f g = g refl
-same_test false false f g = refl
-
 -- the kept of a range, one by one
 all_kept : (set : Nodes) (f : ℕ → NodeId) (p : ℕ → Bool) (ks : List ℕ) → list_all (λ m. set m.0) (map f (filter p ks)) ≡ list_all (λ k. not (p k) || set (f k).0) ks
 all_kept set f p [] = refl
@@ -91,24 +79,20 @@ any_kept set f p (k ∷ ks) = by_test (p k) ∙ ap (λ (b : Bool). (p k && set (
 
 range_holds : (t : ℕ → Bool) (n low : ℕ) → ((k : ℕ) → t k ≡ true) → list_all t (range_with_len low n) ≡ true
 range_holds t zero low each = refl
-range_holds t (suc n) low each = both_true (t low) (list_all t (range_with_len (low + 1) n)) (each low) (range_holds t n (low + 1) each)
+range_holds t (suc n) low each = and_from (t low) (list_all t (range_with_len (low + 1) n)) (each low) (range_holds t n (low + 1) each)
 
 range_at : (t : ℕ → Bool) (n low k : ℕ) → list_all t (range_with_len low n) ≡ true → k < n → t (low + k) ≡ true
 range_at t zero low k all within = absurd (omega (arith, within))
-range_at t (suc n) low zero all within = let same : low ≡ low + 0 = omega arith in subst (λ (m : ℕ). t m ≡ true) same (and_true (t low) (list_all t (range_with_len (low + 1) n)) all).0
+range_at t (suc n) low zero all within = let same : low ≡ low + 0 = omega arith in subst (λ (m : ℕ). t m ≡ true) same (and_parts (t low) (list_all t (range_with_len (low + 1) n)) all).0
 range_at t (suc n) low (suc k) all within =
     let same : low + 1 + k ≡ low + suc k = omega arith in
-    subst (λ (m : ℕ). t m ≡ true) same (range_at t n (low + 1) k (and_true (t low) (list_all t (range_with_len (low + 1) n)) all).1 (omega (arith, within)))
+    subst (λ (m : ℕ). t m ≡ true) same (range_at t n (low + 1) k (and_parts (t low) (list_all t (range_with_len (low + 1) n)) all).1 (omega (arith, within)))
 
 none_in : (t : ℕ → Bool) (n low s : ℕ) → s < low → ((k : ℕ) → (s == k) ≡ false → t k ≡ false) → list_any t (range_with_len low n) ≡ false
 none_in t zero low s past others = refl
 none_in t (suc n) low s past others =
     let apart : (s == low) ≡ false = grind (arith, nat_tests) in
     ap (λ (b : Bool). b || list_any t (range_with_len (low + 1) n)) (others low apart) ∙ none_in t n (low + 1) s (omega (arith, past)) others
-
-or_false : (b : Bool) → (b || false) ≡ b
-or_false true = refl
-or_false false = refl
 
 one_in : (t : ℕ → Bool) (n low k : ℕ) → k < n → ((m : ℕ) → (low + k == m) ≡ false → t m ≡ false) → list_any t (range_with_len low n) ≡ t (low + k)
 one_in t zero low k within others = absurd (omega (arith, within))
@@ -121,15 +105,8 @@ one_in t (suc n) low (suc k) within others =
     ap (λ (b : Bool). b || list_any t (range_with_len (low + 1) n)) (others low apart)
     ∙ (one_in t n (low + 1) k (omega (arith, within)) (λ m other. others m (subst (λ (x : ℕ). (x == m) ≡ false) same other)) ∙ ap t same)
 
-is_itself : (n : ℕ) → (n == n) ≡ true
-is_itself n = grind (arith, nat_tests)
-
 same_number : (b : Bool) (m n : ℕ) → (m == n) ≡ b → b ≡ true → m ≡ n
 same_number b m n is yes_ = grind (arith, nat_tests)
-
-or_true : (b : Bool) → (b || true) ≡ true
-or_true true = refl
-or_true false = refl
 
 range_held : (t : ℕ → Bool) (n k : ℕ) → list_all t (range_with_len 0 n) ≡ true → k < n → t k ≡ true
 range_held t n k all within = let same : 0 + k ≡ k = omega arith in subst (λ (m : ℕ). t m ≡ true) same (range_at t n 0 k all within)
@@ -145,26 +122,26 @@ all_named set first count one two there also =
     let p : ℕ → Bool = λ k. (one == k) || ((two == k) || false) in
     let t : ℕ → Bool = λ k. not (p k) || set (first + k) in
     all_kept set (λ k. node (first + k)) p (range_with_len 0 count)
-    ∙ same_test (list_all t (range_with_len 0 count)) (set (first + one) && set (first + two))
-    (λ all. both_true (set (first + one)) (set (first + two)) (held one (first_named one two) (range_held t count one all there)) (held two (second_named one two) (range_held t count two all also)))
-    (λ both. range_holds t count 0 (λ k. of_both k (and_true (set (first + one)) (set (first + two)) both) (one == k) refl (two == k) refl))
+    ∙ same_tests (list_all t (range_with_len 0 count)) (set (first + one) && set (first + two))
+    (λ all. and_from (set (first + one)) (set (first + two)) (held one (first_named one two) (range_held t count one all there)) (held two (second_named one two) (range_held t count two all also)))
+    (λ both. range_holds t count 0 (λ k. of_both k (and_parts (set (first + one)) (set (first + two)) both) (one == k) refl (two == k) refl))
   where
     first_named : (one two : ℕ) → ((one == one) || ((two == one) || false)) ≡ true
-    first_named one two = ap (λ (b : Bool). b || ((two == one) || false)) (is_itself one)
+    first_named one two = ap (λ (b : Bool). b || ((two == one) || false)) (eq-eqb one one refl)
 
     second_named : (one two : ℕ) → ((one == two) || ((two == two) || false)) ≡ true
-    second_named one two = by_first (one == two) ∙ is_itself two ∙ sym (is_itself two) ∙ is_itself two
+    second_named one two = by_first (one == two) ∙ eq-eqb two two refl
       where
         by_first : (b : Bool) → (b || ((two == two) || false)) ≡ (two == two)
-        by_first true = sym (is_itself two)
+        by_first true = sym (eq-eqb two two refl)
         by_first false = or_false (two == two)
 
     held : (k : ℕ) → ((one == k) || ((two == k) || false)) ≡ true → (not ((one == k) || ((two == k) || false)) || set (first + k)) ≡ true → set (first + k) ≡ true
     held k named_is kept = ap (λ (b : Bool). not b || set (first + k)) (sym named_is) ∙ kept
 
     of_both : (k : ℕ) → (set (first + one) ≡ true) × (set (first + two) ≡ true) → (b : Bool) → (one == k) ≡ b → (c : Bool) → (two == k) ≡ c → (not ((one == k) || ((two == k) || false)) || set (first + k)) ≡ true
-    of_both k both true is c other = ap (λ (m : ℕ). not ((one == k) || ((two == k) || false)) || set (first + m)) (sym (same_number true one k is refl)) ∙ (ap (λ (b : Bool). not ((one == k) || ((two == k) || false)) || b) both.0 ∙ or_true (not ((one == k) || ((two == k) || false))))
-    of_both k both false is true other = ap (λ (m : ℕ). not ((one == k) || ((two == k) || false)) || set (first + m)) (sym (same_number true two k other refl)) ∙ (ap (λ (b : Bool). not ((one == k) || ((two == k) || false)) || b) both.1 ∙ or_true (not ((one == k) || ((two == k) || false))))
+    of_both k both true is c other = ap (λ (m : ℕ). not ((one == k) || ((two == k) || false)) || set (first + m)) (sym (same_number true one k is refl)) ∙ (ap (λ (b : Bool). not ((one == k) || ((two == k) || false)) || b) both.0 ∙ or_right (not ((one == k) || ((two == k) || false))) true refl)
+    of_both k both false is true other = ap (λ (m : ℕ). not ((one == k) || ((two == k) || false)) || set (first + m)) (sym (same_number true two k other refl)) ∙ (ap (λ (b : Bool). not ((one == k) || ((two == k) || false)) || b) both.1 ∙ or_right (not ((one == k) || ((two == k) || false))) true refl)
     of_both k both false is false other = rw (is, other) refl
 
 -- any of one number
@@ -173,7 +150,7 @@ any_named set first count one there =
     let t : ℕ → Bool = λ k. ((one == k) || false) && set (first + k) in
     any_kept set (λ k. node (first + k)) (λ k. (one == k) || false) (range_with_len 0 count)
     ∙ (range_one t count one there (λ m other. ap (λ (b : Bool). (b || false) && set (first + m)) other)
-    ∙ ap (λ (b : Bool). (b || false) && set (first + one)) (is_itself one))
+    ∙ ap (λ (b : Bool). (b || false) && set (first + one)) (eq-eqb one one refl))
 
 -- ---- what a launch needs
 needs : (set : Nodes) (g : Game) (number : ℕ) (silo : Silo) (cargo : GoodId) (item : Item) → cargo.0 < good_count g → silo.part.0 < good_count g → silo.machine.0 < length g.machines

@@ -14,11 +14,11 @@ use Rattle.fractions.proofs.SignLemmas.{negative_is, not_negative}
 use Rattle.production_table.specs.Changes.{dropped, place_of, priced, with_price, without_row}
 use Rattle.production_table.specs.Tables.{is_label}
 
-chosen : (n k m : ℕ) (b : Bool) → nat_lt n m ≡ b → cond b (Some n) None ≡ Some k → (n ≡ k) × (k < m)
+pub chosen : (n k m : ℕ) (b : Bool) → nat_lt n m ≡ b → cond b (Some n) None ≡ Some k → (n ≡ k) × (k < m)
 chosen n k m true h e = let same : n ≡ k = cc in (same, grind (arith, nat_tests))
 chosen n k m false h e = absurd (cc)
 
-none_chosen : (n m : ℕ) (b : Bool) → nat_lt n m ≡ b → cond b (Some n) None ≡ None → m ≤ n
+pub none_chosen : (n m : ℕ) (b : Bool) → nat_lt n m ≡ b → cond b (Some n) None ≡ None → m ≤ n
 none_chosen n m true h e = absurd (cc)
 none_chosen n m false h e = grind (arith, nat_tests)
 

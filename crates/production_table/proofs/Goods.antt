@@ -5,11 +5,12 @@ use Rattle.std.specs.Prelude.{◌⊎◌, not, Bool, true, false, nat_le, nat_lt,
 use Rattle.std.specs.List.{insert, position_or_len}
 use Rattle.std.proofs.lemmas.Bool.Decides.{nat_tests}
 use Rattle.std.proofs.lemmas.List.Quantifiers.{position-Some}
+use Rattle.std.proofs.lemmas.Bool.{cond-true}
 use Rattle.fractions.specs.Fraction.{Fraction}
 use Rattle.plan_base.specs.declared.ids.GoodId.{GoodId}
 use Rattle.game_types.proofs.Walks.{drop_all}
 use Rattle.production_table.specs.Linear.{is_not_below, is_numbered, or_first, place_in, with_columns, with_good, with_goods}
-use Rattle.table_rows.proofs.Parts.{first_branch, second_branch, third_branch}
+use Rattle.table_rows.proofs.Parts.{second_branch, third_branch}
 
 -- ---- one good more
 good_behind : (good g : GoodId) (goods : List GoodId) → g.0 < good.0 → with_good good (g ∷ goods) ≡ g ∷ with_good good goods
@@ -36,7 +37,7 @@ good_new : (good : GoodId) (goods : List GoodId) (place : ℕ) → Below good go
 unfolding with_good
 good_new good [] place below within at = absurd (omega arith)
 good_new good (g ∷ goods) zero below within at =
-    let less : nat_lt good.0 g.0 ≡ true = grind (arith, nat_tests) in first_branch (nat_lt good.0 g.0) _ _ less
+    let less : nat_lt good.0 g.0 ≡ true = grind (arith, nat_tests) in cond-true (nat_lt good.0 g.0) _ _ less
 good_new good (g ∷ goods) (suc place) below within at =
     good_behind good g goods (below 0 (omega arith)) ∙ ap (λ (gs : List GoodId). g ∷ gs) (good_new good goods place (λ k h. below (suc k) (omega arith)) (omega arith) at)
 

@@ -4,16 +4,9 @@ use Rattle.std.specs.Prelude.{Bool, true, false, ◌||◌, Some, slice_get, slic
 use Rattle.std.specs.List.{insert, list_any, remove}
 use Rattle.std.specs.Str.{bytes_eq}
 use Rattle.std.proofs.lemmas.Slice.Eq.{bytes_eq-Decides}
+use Rattle.std.proofs.lemmas.Bool.{or_from, or_parts}
 use Rattle.production_table.specs.declared.tables.TableRow.{TableRow}
 use Rattle.production_table.specs.Tables.{is_label, HasOwnLabels}
-
-pub or_false : (a b : Bool) → (a || b) ≡ false → (a ≡ false) × (b ≡ false)
-or_false false b h = (refl, h)
-or_false true b h = absurd (cc)
-
-pub false_or : (a b : Bool) → a ≡ false → b ≡ false → (a || b) ≡ false
-false_or false b h k = k
-false_or true b h k = absurd (cc)
 
 -- two labels differ both ways
 turned : (one other : List ℕ) (b : Bool) → bytes_eq other one ≡ b → bytes_eq one other ≡ false → b ≡ false
@@ -30,9 +23,9 @@ differ one other h = turned one other (bytes_eq other one) refl h
 pub any_remove : (p : TableRow → Bool) (rows : List TableRow) (k : ℕ) → list_any p rows ≡ false → list_any p (remove rows k) ≡ false
 any_remove p [] zero h = refl
 any_remove p [] (suc k) h = refl
-any_remove p (row ∷ rows) zero h = (or_false (p row) (list_any p rows) h).1
+any_remove p (row ∷ rows) zero h = (or_parts (p row) (list_any p rows) h).1
 any_remove p (row ∷ rows) (suc k) h =
-    let both = or_false (p row) (list_any p rows) h in false_or (p row) (list_any p (remove rows k)) both.0 (any_remove p rows k both.1)
+    let both = or_parts (p row) (list_any p rows) h in or_from (p row) (list_any p (remove rows k)) both.0 (any_remove p rows k both.1)
 
 pub own_remove : (rows : List TableRow) (k : ℕ) → HasOwnLabels rows → HasOwnLabels (remove rows k)
 own_remove [] zero h = tt
@@ -42,28 +35,28 @@ own_remove (row ∷ rows) (suc k) h = (any_remove (is_label row.label) rows k h.
 
 -- ---- one row more
 any_insert : (p : TableRow → Bool) (rows : List TableRow) (k : ℕ) (row : TableRow) → p row ≡ false → list_any p rows ≡ false → list_any p (insert rows k row) ≡ false
-any_insert p rows zero row h l = false_or (p row) (list_any p rows) h l
-any_insert p [] (suc k) row h l = false_or (p row) false h refl
+any_insert p rows zero row h l = or_from (p row) (list_any p rows) h l
+any_insert p [] (suc k) row h l = or_from (p row) false h refl
 any_insert p (x ∷ rows) (suc k) row h l =
-    let both = or_false (p x) (list_any p rows) l in false_or (p x) (list_any p (insert rows k row)) both.0 (any_insert p rows k row h both.1)
+    let both = or_parts (p x) (list_any p rows) l in or_from (p x) (list_any p (insert rows k row)) both.0 (any_insert p rows k row h both.1)
 
 pub own_insert : (rows : List TableRow) (k : ℕ) (row : TableRow) → HasOwnLabels rows → list_any (is_label row.label) rows ≡ false → HasOwnLabels (insert rows k row)
 own_insert rows zero row h l = (l, h)
 own_insert [] (suc k) row h l = (refl, tt)
 own_insert (x ∷ rows) (suc k) row h l =
-    let both = or_false (is_label row.label x) (list_any (is_label row.label) rows) l in
+    let both = or_parts (is_label row.label x) (list_any (is_label row.label) rows) l in
     (any_insert (is_label x.label) rows k row (differ row.label x.label both.0) h.0, own_insert rows k row h.1 both.1)
 
 -- ---- one row more at the end
 any_push : (p : TableRow → Bool) (rows : List TableRow) (row : TableRow) → p row ≡ false → list_any p rows ≡ false → list_any p (rows ++ row ∷ []) ≡ false
-any_push p [] row h l = false_or (p row) false h refl
+any_push p [] row h l = or_from (p row) false h refl
 any_push p (x ∷ rows) row h l =
-    let both = or_false (p x) (list_any p rows) l in false_or (p x) (list_any p (rows ++ row ∷ [])) both.0 (any_push p rows row h both.1)
+    let both = or_parts (p x) (list_any p rows) l in or_from (p x) (list_any p (rows ++ row ∷ [])) both.0 (any_push p rows row h both.1)
 
 pub own_push : (rows : List TableRow) (row : TableRow) → HasOwnLabels rows → list_any (is_label row.label) rows ≡ false → HasOwnLabels (rows ++ row ∷ [])
 own_push [] row h l = (refl, tt)
 own_push (x ∷ rows) row h l =
-    let both = or_false (is_label row.label x) (list_any (is_label row.label) rows) l in
+    let both = or_parts (is_label row.label x) (list_any (is_label row.label) rows) l in
     (any_push (is_label x.label) rows row (differ row.label x.label both.0) h.0, own_push rows row h.1 both.1)
 
 -- ---- another row of the same label
@@ -85,5 +78,5 @@ own_set (x ∷ rows) (suc k) old row h e own =
 -- a row that stands among others
 pub any_at : (p : TableRow → Bool) (rows : List TableRow) (k : ℕ) (row : TableRow) → list_any p rows ≡ false → slice_get rows k ≡ Some row → p row ≡ false
 any_at p [] k row h is = absurd (cc)
-any_at p (x ∷ rows) zero row h is = let same : x ≡ row = cc in subst (λ (r : TableRow). p r ≡ false) same (or_false (p x) (list_any p rows) h).0
-any_at p (x ∷ rows) (suc k) row h is = any_at p rows k row (or_false (p x) (list_any p rows) h).1 is
+any_at p (x ∷ rows) zero row h is = let same : x ≡ row = cc in subst (λ (r : TableRow). p r ≡ false) same (or_parts (p x) (list_any p rows) h).0
+any_at p (x ∷ rows) (suc k) row h is = any_at p rows k row (or_parts (p x) (list_any p rows) h).1 is

@@ -17,3 +17,6 @@ pub mod WellFormed
 pub mod InGame
 pub mod StaysInGame
 pub mod Search
+pub mod Fits
+pub mod Same
+pub mod Edited

@@ -3,25 +3,23 @@ use Rattle.std.proofs.Common.{◌≡◌, ◌∙◌, ◌<◌, ◌≤◌, ◌+◌,
 use Rattle.std.specs.Prelude.{Bool, true, false, cond, nat_lt, ◌==◌, Some, None, not, position, slice_get, slice_set, if◌then◌else◌}
 use Rattle.std.specs.List.{insert, position_or_len, remove}
 use Rattle.std.proofs.lemmas.Bool.Decides.{nat_tests}
+use Rattle.std.proofs.lemmas.Bool.{cond-true, cond-false}
 use Rattle.fractions.specs.Fraction.{Fraction}
 use Rattle.plan_base.specs.declared.ids.GoodId.{GoodId}
 use Rattle.game_types.proofs.Walks.{drop_all}
 use Rattle.production_table.specs.Numbers.{is_pair_of, number_of, with_number, without_number}
 use Rattle.table_rows.specs.Places.{has_at, AllBelow, IsPlace, StartsFrom}
-use Rattle.table_rows.proofs.Parts.{first_branch, second_branch, third_branch, has_place}
+use Rattle.table_rows.proofs.Parts.{second_branch, third_branch, has_place}
+use Rattle.production_table.proofs.Found.{chosen, none_chosen}
 
 -- ---- the number of a good, looked for from the front
 pub find_pass : (pairs rest : List (GoodId × Fraction)) (p : GoodId × Fraction) (good : GoodId) → pairs ≡ p ∷ rest → (p.0.0 == good.0) ≡ false → number_of pairs good ≡ number_of rest good
 unfolding number_of
-find_pass pairs rest p good is h = ap (λ (ps : List (GoodId × Fraction)). number_of ps good) is ∙ otherwise (p.0.0 == good.0) h
-  where
-    otherwise : (b : Bool) → b ≡ false → (if b then Some p.1 else number_of rest good) ≡ number_of rest good
-    otherwise false h = refl
-    otherwise true h = absurd (cc)
+find_pass pairs rest p good is h = ap (λ (ps : List (GoodId × Fraction)). number_of ps good) is ∙ cond-false (p.0.0 == good.0) (Some p.1) (number_of rest good) h
 
 pub find_stop : (pairs rest : List (GoodId × Fraction)) (p : GoodId × Fraction) (good : GoodId) → pairs ≡ p ∷ rest → (p.0.0 == good.0) ≡ true → number_of pairs good ≡ Some p.1
 unfolding number_of
-find_stop pairs rest p good is h = ap (λ (ps : List (GoodId × Fraction)). number_of ps good) is ∙ first_branch (p.0.0 == good.0) (Some p.1) (number_of rest good) h
+find_stop pairs rest p good is h = ap (λ (ps : List (GoodId × Fraction)). number_of ps good) is ∙ cond-true (p.0.0 == good.0) (Some p.1) (number_of rest good) h
 
 pub find_end : (pairs : List (GoodId × Fraction)) (k : ℕ) (good : GoodId) → length pairs ≤ k → number_of (drop k pairs) good ≡ None
 unfolding number_of
@@ -54,7 +52,7 @@ put_new good number [] zero below behind none within = refl
 put_new good number [] (suc place) below behind none within = absurd (omega arith)
 put_new good number (q ∷ ps) zero below behind none within =
     let less : nat_lt good.0 q.0.0 ≡ true = grind (arith, nat_tests) in
-    first_branch (nat_lt good.0 q.0.0) _ _ less
+    cond-true (nat_lt good.0 q.0.0) _ _ less
 put_new good number (q ∷ ps) (suc place) below behind none within = put_behind good number q ps below.0 ∙ ap (λ (rest : List (GoodId × Fraction)). q ∷ rest) (put_new good number ps place below.1 behind none (omega arith))
 
 pub put_at : (good : GoodId) (number : Fraction) (pairs : List (GoodId × Fraction)) (place : ℕ) → IsPlace pairs good place → has_at pairs place good ≡ true → with_number good number pairs ≡ slice_set pairs place (good, number)
@@ -73,17 +71,9 @@ unfolding without_number
 taken_at good [] = refl
 taken_at good (p ∷ ps) = first_place good p ps (is_pair_of good p) refl (taken_at good ps)
 
-chosen : (n k m : ℕ) (b : Bool) → nat_lt n m ≡ b → cond b (Some n) None ≡ Some k → n ≡ k
-chosen n k m true h e = cc
-chosen n k m false h e = absurd (cc)
-
-none_chosen : (n m : ℕ) (b : Bool) → nat_lt n m ≡ b → cond b (Some n) None ≡ None → m ≤ n
-none_chosen n m true h e = absurd (cc)
-none_chosen n m false h e = grind (arith, nat_tests)
-
 pub taken_is : (good : GoodId) (pairs : List (GoodId × Fraction)) (k : ℕ) → position (is_pair_of good) pairs ≡ Some k → without_number good pairs ≡ remove pairs k
 taken_is good pairs k h =
-    taken_at good pairs ∙ ap (remove pairs) (chosen (position_or_len (is_pair_of good) pairs) k (length pairs) (nat_lt (position_or_len (is_pair_of good) pairs) (length pairs)) refl h)
+    taken_at good pairs ∙ ap (remove pairs) (chosen (position_or_len (is_pair_of good) pairs) k (length pairs) (nat_lt (position_or_len (is_pair_of good) pairs) (length pairs)) refl h).0
 
 -- nothing to take away
 past : (pairs : List (GoodId × Fraction)) (k : ℕ) → length pairs ≤ k → remove pairs k ≡ pairs

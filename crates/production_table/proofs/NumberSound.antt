@@ -11,7 +11,7 @@ use Rattle.production_table.specs.declared.faults.TableFault.TheVariants.{Full, 
 use Rattle.production_table.specs.Answers.{Outcome}
 use Rattle.production_table.specs.Numbers.{guard, is_full, no_room, number_of, price_fits, put_or_take, repriced, rewanted, want_fits, with_number, without_number}
 use Rattle.fractions.specs.Signs.{is_negative, is_zero}
-use Rattle.production_table.specs.Tables.{Rises}
+use Rattle.production_table.specs.Tables.{IsSoundList, Rises}
 use Rattle.fractions.proofs.SignLemmas.{nonneg_is, positive_left}
 
 -- ---- order
@@ -128,11 +128,6 @@ fits_room low good number ps None there rise room few =
     spare n false h e = absurd (cc)
 
 -- ---- the changes
-pub record IsSoundList (P : Fraction → Type 0) (ps : List (GoodId × Fraction)) : Type 0 where
-  pub rise : Rises 0 ps
-  pub each : All (λ pair. P pair.1) ps
-  pub few : length ps ≤ 512
-
 passes : (b : Bool) (fault : TableFault) → guard b fault ≡ Ok tt → b ≡ false
 passes false fault h = refl
 passes true fault h = absurd (cc)

@@ -5,6 +5,7 @@ use Rattle.std.specs.List.{insert, list_any, position_or_len, remove}
 use Rattle.std.specs.Str.{bytes_eq}
 use Rattle.std.proofs.lemmas.Slice.Eq.{bytes_eq-Decides}
 use Rattle.std.proofs.lemmas.List.Elements.{All-head, All-tail}
+use Rattle.std.proofs.lemmas.Bool.{or_from, or_parts}
 use Rattle.fractions.specs.Fraction.{Fraction, zero_fraction, ◌≤ʳ◌}
 use Rattle.game_types.specs.declared.setups.Setup.{Setup}
 use Rattle.game_types.specs.declared.games.Game.{Game}
@@ -19,7 +20,7 @@ use Rattle.fractions.specs.Signs.{is_negative}
 use Rattle.production_table.specs.Tables.{is_label, HasOwnLabels, IsSoundTable}
 use Rattle.production_table.proofs.Pairs.{same_parts}
 use Rattle.production_table.proofs.Added.{new_is}
-use Rattle.production_table.proofs.Labels.{any_at, differ, or_false, false_or}
+use Rattle.production_table.proofs.Labels.{any_at, differ}
 use Rattle.fractions.proofs.SignLemmas.{not_negative}
 
 own_label : (label : List ℕ) → bytes_eq label label ≡ true
@@ -29,7 +30,7 @@ own_label label = (bytes_eq-Decides label label).1 refl
 last_place : (p : TableRow → Bool) (rows : List TableRow) (row : TableRow) → list_any p rows ≡ false → p row ≡ true → position_or_len p (rows ++ row ∷ []) ≡ length rows
 last_place p [] row h k = ap (λ b. cond (not b) (1 + 0) 0) k
 last_place p (x ∷ rows) row h k =
-    let both = or_false (p x) (list_any p rows) h in
+    let both = or_parts (p x) (list_any p rows) h in
     let rest = last_place p rows row both.1 k in
     ap (λ b. cond (not b) (1 + position_or_len p (rows ++ row ∷ [])) 0) both.0 ∙ ap (λ n. 1 + n) rest ∙ omega arith
 
@@ -71,7 +72,7 @@ label_free : (rows : List TableRow) (k : ℕ) (row : TableRow) → HasOwnLabels 
 label_free [] k row own h = absurd (cc)
 label_free (x ∷ rows) zero row own h = let same : x ≡ row = cc in subst (λ (r : TableRow). list_any (is_label r.label) rows ≡ false) same own.0
 label_free (x ∷ rows) (suc k) row own h =
-    false_or (is_label row.label x) (list_any (is_label row.label) (remove rows k)) (differ x.label row.label (any_at (is_label x.label) rows k row own.0 h)) (label_free rows k row own.1 h)
+    or_from (is_label row.label x) (list_any (is_label row.label) (remove rows k)) (differ x.label row.label (any_at (is_label x.label) rows k row own.0 h)) (label_free rows k row own.1 h)
 
 one_fewer : (rows : List TableRow) (k : ℕ) (row : TableRow) → slice_get rows k ≡ Some row → (length (remove rows k) + 1 ≡ length rows) × (k ≤ length (remove rows k))
 one_fewer [] k row h = absurd (cc)

@@ -19,16 +19,10 @@ pub with_rows : (t : Table) (rows : List TableRow) → IsSoundTable t → HasOwn
 with_rows t rows s own prices few = record {
   labels = own;
   prices = prices;
-  wants_rise = s.wants_rise;
-  imports_rise = s.imports_rise;
-  surpluses_rise = s.surpluses_rise;
+  few_rows = few;
   wants = s.wants;
   imports = s.imports;
   surpluses = s.surpluses;
-  few_rows = few;
-  few_wants = s.few_wants;
-  few_imports = s.few_imports;
-  few_surpluses = s.few_surpluses;
 }
 
 fewer : (rows : List TableRow) (k : ℕ) → length (remove rows k) ≤ length rows

@@ -1,8 +1,9 @@
 -- What a change of numbers answers undoes it.
 use Rattle.std.proofs.Common.{◌≡◌, ◌∙◌, ◌<◌, ◌+◌, ℕ, List, [], ◌∷◌, length, refl, sym, ap, subst, arith, inl, inr}
-use Rattle.std.specs.Prelude.{◌⊎◌, ◌≢◌, All, Bool, true, false, ◌&&◌, not, is_none, nat_lt, ◌==◌, Option, Some, None, Ok, Err, if◌then◌else◌}
+use Rattle.std.specs.Prelude.{◌⊎◌, ◌≢◌, All, Bool, true, false, ◌&&◌, not, is_none, nat_lt, ◌==◌, Option, Some, None, Ok, Err}
 use Rattle.std.proofs.lemmas.Bool.Decides.{nat_tests}
 use Rattle.std.proofs.lemmas.List.Elements.{All-head, All-tail}
+use Rattle.std.proofs.lemmas.Bool.{cond-true, cond-false}
 use Rattle.fractions.specs.Fraction.{Fraction, zero_fraction, ◌≤ʳ◌, ◌<ʳ◌}
 use Rattle.fractions.proofs.Order.{<ʳ-≤ʳ}
 use Rattle.plan_base.specs.declared.ids.GoodId.{GoodId}
@@ -12,12 +13,12 @@ use Rattle.production_table.specs.declared.faults.TableFault.TheVariants.{Full, 
 use Rattle.production_table.specs.Answers.{Outcome}
 use Rattle.production_table.specs.Numbers.{guard, is_full, lacks, no_room, number_of, or_nothing, or_zero, price_fits, put_or_take, repriced, rewanted, want_fits, with_number, without_number}
 use Rattle.fractions.specs.Signs.{is_negative, is_zero}
-use Rattle.production_table.specs.Tables.{Rises}
+use Rattle.production_table.specs.Tables.{IsSoundList, Rises}
 use Rattle.production_table.proofs.Pairs.{same_parts}
 use Rattle.production_table.proofs.NumberLemmas.{put_behind}
-use Rattle.production_table.proofs.NumberSound.{number_below, IsSoundList}
+use Rattle.production_table.proofs.NumberSound.{number_below}
 use Rattle.fractions.proofs.SignLemmas.{not_negative, positive_not_zero, zero_not_negative, zero_of}
-use Rattle.table_rows.proofs.Parts.{first_branch, second_branch}
+use Rattle.table_rows.proofs.Parts.{second_branch}
 
 -- ---- one good against another
 Side : ℕ → ℕ → Type 0
@@ -34,7 +35,7 @@ side a b = side_by a b (nat_lt a b) (a == b) refl refl
 -- ---- each function at the first of several
 put_less : (good : GoodId) (number : Fraction) (p : GoodId × Fraction) (ps : List (GoodId × Fraction)) → good.0 < p.0.0 → with_number good number (p ∷ ps) ≡ (good, number) ∷ p ∷ ps
 unfolding with_number
-put_less good number p ps h = let less : nat_lt good.0 p.0.0 ≡ true = grind (arith, nat_tests) in first_branch (nat_lt good.0 p.0.0) _ _ less
+put_less good number p ps h = let less : nat_lt good.0 p.0.0 ≡ true = grind (arith, nat_tests) in cond-true (nat_lt good.0 p.0.0) _ _ less
 
 put_same : (good : GoodId) (number : Fraction) (p : GoodId × Fraction) (ps : List (GoodId × Fraction)) → good.0 ≡ p.0.0 → with_number good number (p ∷ ps) ≡ (good, number) ∷ ps
 unfolding with_number
@@ -43,25 +44,21 @@ put_same good number p ps h =
     let equal : (p.0.0 == good.0) ≡ true = grind (arith, nat_tests) in
     second_branch (nat_lt good.0 p.0.0) (p.0.0 == good.0) _ _ _ above equal
 
-last_branch : {A : Type 0} (b : Bool) (x y : A) → b ≡ false → (if b then x else y) ≡ y
-last_branch false x y h = refl
-last_branch true x y h = absurd (cc)
-
 find_same : (good : GoodId) (p : GoodId × Fraction) (ps : List (GoodId × Fraction)) → good.0 ≡ p.0.0 → number_of (p ∷ ps) good ≡ Some p.1
 unfolding number_of
-find_same good p ps h = let equal : (p.0.0 == good.0) ≡ true = grind (arith, nat_tests) in first_branch (p.0.0 == good.0) _ _ equal
+find_same good p ps h = let equal : (p.0.0 == good.0) ≡ true = grind (arith, nat_tests) in cond-true (p.0.0 == good.0) _ _ equal
 
 find_other : (good : GoodId) (p : GoodId × Fraction) (ps : List (GoodId × Fraction)) → good.0 ≢ p.0.0 → number_of (p ∷ ps) good ≡ number_of ps good
 unfolding number_of
-find_other good p ps h = let apart : (p.0.0 == good.0) ≡ false = grind (arith, nat_tests, h) in last_branch (p.0.0 == good.0) _ _ apart
+find_other good p ps h = let apart : (p.0.0 == good.0) ≡ false = grind (arith, nat_tests, h) in cond-false (p.0.0 == good.0) _ _ apart
 
 take_same : (good : GoodId) (p : GoodId × Fraction) (ps : List (GoodId × Fraction)) → good.0 ≡ p.0.0 → without_number good (p ∷ ps) ≡ ps
 unfolding without_number
-take_same good p ps h = let equal : (p.0.0 == good.0) ≡ true = grind (arith, nat_tests) in first_branch (p.0.0 == good.0) _ _ equal
+take_same good p ps h = let equal : (p.0.0 == good.0) ≡ true = grind (arith, nat_tests) in cond-true (p.0.0 == good.0) _ _ equal
 
 take_other : (good : GoodId) (p : GoodId × Fraction) (ps : List (GoodId × Fraction)) → good.0 ≢ p.0.0 → without_number good (p ∷ ps) ≡ p ∷ without_number good ps
 unfolding without_number
-take_other good p ps h = let apart : (p.0.0 == good.0) ≡ false = grind (arith, nat_tests, h) in last_branch (p.0.0 == good.0) _ _ apart
+take_other good p ps h = let apart : (p.0.0 == good.0) ≡ false = grind (arith, nat_tests, h) in cond-false (p.0.0 == good.0) _ _ apart
 
 less_differs : (a b : ℕ) → a < b → a ≢ b
 less_differs a b h e = omega arith
@@ -253,14 +250,14 @@ wanted_back good rate given now new ps is fair room found put =
     ∙ ap (λ (o : Option Fraction). Ok (now, put_or_take good o new)) is ∙ ap (λ (qs : List (GoodId × Fraction)). Ok (now, qs)) put
 
 some_rate : (x : Fraction) → zero_fraction <ʳ x → or_nothing x ≡ Some x
-some_rate x h = last_branch (is_zero x) None (Some x) (positive_not_zero x h)
+some_rate x h = cond-false (is_zero x) None (Some x) (positive_not_zero x h)
 
 room_of : (b c : Bool) → c ≡ false → (not b && c) ≡ false
 room_of true c h = refl
 room_of false c h = h
 
 no_rate : or_nothing zero_fraction ≡ None
-no_rate = first_branch (is_zero zero_fraction) None (Some zero_fraction) zero_of
+no_rate = cond-true (is_zero zero_fraction) None (Some zero_fraction) zero_of
 
 zero_room : (ps : List (GoodId × Fraction)) (good : GoodId) → (not (is_zero zero_fraction) && no_room ps good) ≡ false
 zero_room ps good = ap (λ b. not b && no_room ps good) zero_of

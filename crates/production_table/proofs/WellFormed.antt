@@ -193,16 +193,16 @@ pub record IsOrdered (t : Table) (goods : List GoodId) (columns : List (List (Go
 form_with : (t : Table) (goods : List GoodId) (columns : List (List (GoodId × Fraction))) → IsSoundTable t → IsOrdered t goods columns → IsWellFormed (linear_with t goods columns)
 form_with t goods columns s o = record {
   wants_fit = length-map goods (want_of t.wants);
-  wants = λ g. each_nonneg (want_of t.wants) goods g (λ good. want_nonneg t.wants good s.wants);
+  wants = λ g. each_nonneg (want_of t.wants) goods g (λ good. want_nonneg t.wants good s.wants.each);
   goods_differ = λ i j less within. goods_apart 0 goods i j o.goods_up less within;
   columns =
       each_append (IsSoundColumn (linear_with t goods columns)) (row_columns goods 0 t.rows columns) (map (import_column goods) t.imports ++ map (surplus_column goods) t.surpluses)
       (λ j c is. row_sound (linear_with t goods columns) 0 j j t.rows columns c o.goods_up s.prices o.columns_up o.columns_in (omega arith) is)
       (λ n. any_append (IsSoundColumn (linear_with t goods columns) n) (map (import_column goods) t.imports) (map (surplus_column goods) t.surpluses)
-      (λ j c is. import_sound (linear_with t goods columns) n j t.imports c s.imports o.imports_in is)
-      (λ j c is. surplus_sound (linear_with t goods columns) n j t.surpluses c s.surpluses o.surpluses_in is));
-  kinds_rise = λ j c d is other. kinds_rise 0 0 (linear_with t goods columns).columns j c d (rows_from goods 0 0 t.rows columns t.imports t.surpluses (omega arith) s.imports_rise s.surpluses_rise) is other;
-  names_differ = λ i j c d less is other. names_apart 0 0 (linear_with t goods columns).columns i j c d (rows_from goods 0 0 t.rows columns t.imports t.surpluses (omega arith) s.imports_rise s.surpluses_rise) less is other;
+      (λ j c is. import_sound (linear_with t goods columns) n j t.imports c s.imports.each o.imports_in is)
+      (λ j c is. surplus_sound (linear_with t goods columns) n j t.surpluses c s.surpluses.each o.surpluses_in is));
+  kinds_rise = λ j c d is other. kinds_rise 0 0 (linear_with t goods columns).columns j c d (rows_from goods 0 0 t.rows columns t.imports t.surpluses (omega arith) s.imports.rise s.surpluses.rise) is other;
+  names_differ = λ i j c d less is other. names_apart 0 0 (linear_with t goods columns).columns i j c d (rows_from goods 0 0 t.rows columns t.imports t.surpluses (omega arith) s.imports.rise s.surpluses.rise) less is other;
 }
 
 pub table_goods_rise : (t : Table) (columns : List (List (GoodId × Fraction))) → GoodsRise 0 (table_goods t columns)

@@ -33,19 +33,20 @@ GoodsRise low (good ∷ goods) = (low ≤ good.0) × GoodsRise (good.0 + 1) good
 abbrev pub goods_of : List (GoodId × Fraction) → List ℕ
 goods_of pairs = map (λ pair. pair.0.0) pairs
 
+-- numbers of goods: in the order of goods, each of them such a number, and no more than there may be
+pub record IsSoundList (IsNumber : Fraction → Type 0) (pairs : List (GoodId × Fraction)) : Type 0 where
+  pub rise : Rises 0 pairs
+  pub each : All (λ pair. IsNumber pair.1) pairs
+  pub few : length pairs ≤ 512
+
+-- labels differ, wants are above 0, and prices are not below it
 pub record IsSoundTable (t : Table) : Type 0 where
   pub labels : HasOwnLabels t.rows
   pub prices : All (λ row. zero_fraction ≤ʳ row.price) t.rows
-  pub wants_rise : Rises 0 t.wants
-  pub imports_rise : Rises 0 t.imports
-  pub surpluses_rise : Rises 0 t.surpluses
-  pub wants : All (λ want. zero_fraction <ʳ want.1) t.wants
-  pub imports : All (λ import_. zero_fraction ≤ʳ import_.1) t.imports
-  pub surpluses : All (λ surplus. zero_fraction ≤ʳ surplus.1) t.surpluses
   pub few_rows : length t.rows ≤ 512
-  pub few_wants : length t.wants ≤ 512
-  pub few_imports : length t.imports ≤ 512
-  pub few_surpluses : length t.surpluses ≤ 512
+  pub wants : IsSoundList (λ rate. zero_fraction <ʳ rate) t.wants
+  pub imports : IsSoundList (λ price. zero_fraction ≤ʳ price) t.imports
+  pub surpluses : IsSoundList (λ price. zero_fraction ≤ʳ price) t.surpluses
 
 -- the goods that a table names are of a game: items, fluids, electricity and units of technologies
 pub record IsOfGame (g : Game) (t : Table) : Type 0 where

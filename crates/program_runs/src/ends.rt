@@ -1,14 +1,12 @@
-//! How the programs end, and what they say of it on standard error.
-use crate::files::{read_error, whole_file};
-use craft_reader::DumpCode;
+//! How the programs end.
+use crate::telling::{said_of, say};
 use plan_base::{NoMemory, Text};
-use planner_cli::{DUMP_LIMIT, Status};
-use run_hints::{hint, unread_hint};
+use run_inputs::Status;
 use std::alloc::Global;
+use std::io;
 use std::io::Write;
 use std::process::ExitCode;
 use std::rt::{Env, Files};
-use std::{env, io};
 
 /// The end of a program: what it says on standard error, and the number that it ends with.
 #[derive(Drop)]
@@ -48,36 +46,17 @@ fn run_words(alloc: Global, names: Names<'_>) -> Result<Vec<Text>, NoMemory> {
     Ok(words)
 }
 
-// Why a file can't be read, where it can't.
-fn unread<R: Files>(rt: &R, alloc: Global, name: &str) -> Option<Text> {
-    let error = read_error(rt, name)?;
-    let why = format!(in alloc; "{error}").ok()?;
-    unread_hint(alloc, name, why.as_str()).ok()
+/// How a run ends, and what is said of the first call of its store that failed.
+#[derive(Drop)]
+pub struct RunEnd {
+    pub status: Status,
+    pub unread: Option<Text>,
 }
 
-// The bytes of a dump whose text is no JSON, to tell the line and the column. What isn't kept, as a pipe, isn't read again.
-fn faulty_dump<R: Files>(rt: &R, alloc: Global, status: &Status, name: &str) -> Option<Vec<u8>> {
-    let Status::BadDump(fault) = status else {
-        return None;
-    };
-    let DumpCode::Json(_) = fault.code else {
-        return None;
-    };
-    whole_file(rt, alloc, name, DUMP_LIMIT)
-}
-
+// What is said of a run over these files.
 fn said<R: Files>(rt: &R, alloc: Global, status: &Status, names: Names<'_>) -> Option<Text> {
-    if let Status::ReadFault = status {
-        if let Some(said) = unread(rt, alloc, names.dump) {
-            return Some(said);
-        }
-        if let Some(said) = unread(rt, alloc, names.script) {
-            return Some(said);
-        }
-    }
     let words = run_words(alloc, names).ok()?;
-    let dump = faulty_dump(rt, alloc, status, names.dump);
-    hint(alloc, status, words.as_slice(), None, dump.as_deref()).ok()
+    said_of(rt, alloc, status, words.as_slice(), None)
 }
 
 /// The end by a status of a run over these files.
@@ -85,6 +64,18 @@ pub fn end_by<R: Files>(rt: &R, alloc: Global, status: &Status, names: Names<'_>
     End {
         said: said(rt, alloc, status, names),
         exit: status.exit(),
+    }
+}
+
+/// The end of a run over these files, which says that a file could not be read where that ended it.
+pub fn end_of_run<R: Files>(rt: &R, alloc: Global, end: RunEnd, names: Names<'_>) -> End {
+    let RunEnd { status, unread } = end;
+    match unread {
+        Some(said) => End {
+            said: Some(said),
+            exit: status.exit(),
+        },
+        None => end_by(rt, alloc, &status, names),
     }
 }
 
@@ -100,40 +91,6 @@ pub fn written<R: Files + Print>(
     match out.write_all(made) {
         Ok(()) => End::quiet(exit),
         Err(_) => end_by(rt, alloc, &Status::WriteFault, names),
-    }
-}
-
-// The last part of a path.
-fn last_part(path: &str) -> &str {
-    match path.rsplit_once('/') {
-        Some((_, name)) => name,
-        None => path,
-    }
-}
-
-// Says what is said of a run in the name of this program, of which the first word is its path.
-fn say_as<R: Eprint>(rt: &R, path: &str, said: &str) {
-    // Where nothing can be said, the status still tells.
-    match said.strip_prefix("factoplan:") {
-        Some(rest) => {
-            let _ = rt.eprint(last_part(path));
-            let _ = rt.eprint(":");
-            let _ = rt.eprint(rest);
-        }
-        None => {
-            let _ = rt.eprint(said);
-        }
-    }
-}
-
-// Says a text in the name of this program.
-fn say<R: Env + AllocGlobal + Eprint>(rt: &R, said: &str) {
-    match env::args(rt) {
-        Ok(mut arguments) => match arguments.next() {
-            Some(path) => say_as(rt, path.as_str(), said),
-            None => say_as(rt, "factoplan", said),
-        },
-        Err(_) => say_as(rt, "factoplan", said),
     }
 }
 

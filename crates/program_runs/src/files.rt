@@ -1,27 +1,12 @@
 //! Files that are read beside a run.
 use std::alloc::Global;
+use std::fs;
 use std::fs::File;
 use std::io::Read;
 use std::rt::Files;
-use std::{fs, io};
 
 // Files are read by pieces of this many bytes.
 const PIECE: usize = 65_536;
-
-/// Why a file can't be read, where that can be told. What isn't kept, as a pipe, isn't opened again: that could wait for ever.
-pub fn read_error<R: Files>(rt: &R, name: &str) -> Option<io::Error> {
-    let found = match fs::metadata(rt, name) {
-        Ok(found) => found,
-        Err(error) => return Some(error),
-    };
-    if found.is_dir() {
-        Some(io::ErrorKind::IsADirectory.into())
-    } else if found.is_file() {
-        File::open(rt, name).err()
-    } else {
-        None
-    }
-}
 
 // Puts what is read behind other bytes. Answers how many came.
 fn read_piece<F: Read>(file: &mut F, buffer: &mut [u8], bytes: &mut Vec<u8>) -> Option<usize> {

@@ -6,19 +6,21 @@ mod files;
 mod lines;
 mod sink;
 mod store;
+mod telling;
 mod watch;
 mod words;
 
 /// The version of the programs.
-pub const VERSION: &str = "0.7.0";
+pub const VERSION: &str = "0.8.0";
 
 /// The file of a run without a script: it is empty.
 pub const NO_SCRIPT: &str = "/dev/null";
 
-pub use ends::{End, Names, end_by, ended, written};
+pub use ends::{End, Names, RunEnd, end_by, end_of_run, ended, written};
 pub use files::whole_file;
 pub use lines::{LINES, answered, loaded};
 pub use sink::WatchedSink;
 pub use store::WatchedStore;
+pub use telling::{said_of, said_of_store};
 pub use watch::Watch;
 pub use words::{end_by_words, program_words};

@@ -1,11 +1,12 @@
 //! The planner of a dump, and what it answers.
 
-use crate::ends::Names;
+use crate::ends::{Names, RunEnd};
+use crate::telling::said_of_store;
 use plan_base::{NoMemory, Steps};
 use plan_io::HostStore;
 use plan_report::Reply;
-use planner_cli::{Ready, Status, read_files};
 use planner_core::Planner;
+use run_inputs::{Ready, read_files};
 use script_runner::{reading_of, reply_to};
 use std::alloc::Global;
 use std::rt::Files;
@@ -17,15 +18,21 @@ pub const LINES: u32 = 100_000;
 ///
 /// # Errors
 ///
-/// What ends a run before a line is answered.
+/// What ends a run before a line is answered. Of a file that could not be read, the cause is that of the first call that failed.
 pub fn loaded<R: Files, L>(
     rt: &R,
     alloc: Global,
     names: Names<'_>,
     steps: &mut Steps<L>,
-) -> Result<Ready, Status> {
+) -> Result<Ready, RunEnd> {
     let mut store = HostStore::make(alloc, rt);
-    read_files(alloc, names.dump, names.script, &mut store, steps)
+    match read_files(alloc, names.dump, names.script, &mut store, steps) {
+        Ok(ready) => Ok(ready),
+        Err(status) => Err(RunEnd {
+            status,
+            unread: said_of_store(alloc, store.fault()),
+        }),
+    }
 }
 
 /// The reply to a line.

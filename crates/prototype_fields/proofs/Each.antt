@@ -1,16 +1,9 @@
 -- Reading the elements of a list one after the other: what all give is what was found so far, and what the rest gives.
-use Rattle.std.proofs.Common.{◌≡◌, ◌∙◌, ◌<◌, ◌≤◌, ◌+◌, ◌++◌, ℕ, List, [], ◌∷◌, Option, Some, None, Ok, Err, length, map, drop, get_or, refl, ap, sym, append_assoc, append-nil, arith}
-use Rattle.std.proofs.Common.{drop-cons, add-one}
+use Rattle.std.proofs.Common.{◌≡◌, ◌∙◌, ◌<◌, ◌≤◌, ◌+◌, ◌++◌, ℕ, List, [], ◌∷◌, Option, Some, None, Ok, Err, length, map, drop, get_or, refl, ap, sym, append_assoc, append-nil}
 use Rattle.std.specs.Option.{option_to_list}
-use Rattle.std.proofs.lemmas.Grind.{common_steps}
+pub use Rattle.plan_base.proofs.Walks.{next, drop_all}
 use Rattle.prototype_fields.specs.declared.fault.FieldFault.{FieldFault}
 use Rattle.prototype_fields.specs.Values.{Reading, ◌▸◌, Names, each, each_found, each_with_names}
-
-pub next : {X : Type 0} (xs : List X) (k : ℕ) (x : X) → k < length xs → x ≡ get_or xs k x → drop k xs ≡ x ∷ drop (k + 1) xs
-next xs k x within is = drop-cons xs k x within ∙ ap (λ j. get_or xs k x ∷ drop j xs) (sym (add-one k)) ∙ ap (λ y. y ∷ drop (k + 1) xs) (sym is)
-
-drop_all : {X : Type 0} (xs : List X) (k : ℕ) → length xs ≤ k → drop k xs ≡ []
-drop_all xs k end = grind (arith, common_steps)
 
 abbrev pub prepended : {Y : Type 0} → List Y → Reading (List Y) → Reading (List Y)
 prepended found rest = rest ▸ λ more. Ok (found ++ more)

@@ -1,5 +1,5 @@
 -- The rank that a node's row gives it, and the key of a node whose rank is another.
-use Rattle.std.specs.Prelude.{ℕ, zero, suc, ◌+◌, ◌*◌, ◌<◌, ◌≤◌, ◌==◌, ◌≡◌, ◌^◌, ◌-◌, Bool, true, false, List, Option, None, Some, min, if◌then◌else◌, length, nat_le, nat_lt, slice_index, sum_by, ◌||◌}
+use Rattle.std.specs.Prelude.{ℕ, zero, suc, ◌+◌, ◌*◌, ◌<◌, ◌≤◌, ◌==◌, ◌≡◌, ◌^◌, ◌-◌, Bool, true, false, List, Option, None, Some, max, min, if◌then◌else◌, length, nat_le, nat_lt, slice_index, slice_index_or, sum_by, ◌||◌}
 use Rattle.plan_base.specs.declared.NodeId.{NodeId}
 use Rattle.graph_store.specs.declared.Row.{Row}
 use Rattle.graph_store.specs.Rows.{user_count, has_node}
@@ -61,9 +61,13 @@ abbrev pub key_when_goes : Option ℕ → ℕ → ℕ → Option ℕ
 key_when_goes None rank k = if nat_le rank k then None else Some rank
 key_when_goes (Some key) rank k = if nat_le rank k then Some key else Some (min key rank)
 
+-- the same for a user with a floor: it is not looked at before it, and not at all where that is 0
+abbrev pub key_at_floor : Option ℕ → ℕ → ℕ → ℕ → Option ℕ
+key_at_floor key rank next floor = if floor == 0 then key else key_when_comes key rank (max next floor)
+
 -- the key of a user after a node got its rank k, or lost it
-abbrev pub key_after : Bool → ℕ → Option ℕ → ℕ → Option ℕ
-key_after comes k key rank = if comes then key_when_comes key rank (min (k + 1) (2 ^ 32 - 1)) else key_when_goes key rank k
+abbrev pub key_after : Bool → ℕ → ℕ → Option ℕ → ℕ → Option ℕ
+key_after comes k floor key rank = if comes then key_at_floor key rank (min (k + 1) (2 ^ 32 - 1)) floor else key_when_goes key rank k
 
 -- how often a node may still be taken out: not at all where its rank is right, once where it has none, else twice
 abbrev pub visits_left : ℕ → ℕ → ℕ
@@ -89,9 +93,9 @@ abbrev pub left_to_do : World → List ℕ → List (Option ℕ) → ℕ
 left_to_do w ranks heap = work_left w ranks + early_keys w (2 ^ 32 - 1) ranks heap
 
 -- each of the nodes has a key no later than it gets after a node got its rank k or lost it, and the other nodes keep theirs
-pub record Marks (comes : Bool) (k : ℕ) (ranks : List ℕ) (nodes : List NodeId) (old new : List (Option ℕ)) : Type 0 where
+pub record Marks (comes : Bool) (k : ℕ) (floor ranks : List ℕ) (nodes : List NodeId) (old new : List (Option ℕ)) : Type 0 where
   pub as_long : length new ≡ length old
-  pub at_nodes : (n : ℕ) → has_node nodes n ≡ true → is_by (key_at new n) (key_after comes k (key_at old n) (slice_index ranks n)) ≡ true
+  pub at_nodes : (n : ℕ) → has_node nodes n ≡ true → is_by (key_at new n) (key_after comes k (slice_index_or floor n 1) (key_at old n) (slice_index ranks n)) ≡ true
   pub others : (n : ℕ) → has_node nodes n ≡ false → key_at new n ≡ key_at old n
 
 -- the nodes have the keys that these ranks give them, and the other nodes keep theirs

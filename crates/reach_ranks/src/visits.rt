@@ -1,9 +1,10 @@
 //! Visits: the node of the least key gets its rank, and the nodes that use it get their keys, until none has a key.
-ghost use Rattle.std.specs.Prelude.{◌≡◌, ℕ, ◌+◌, ◌*◌, ◌-◌, ◌^◌, ◌<◌, ◌≤◌, None, Some, false, true, All, length, replicate, slice_index, slice_set};
+ghost use Rattle.std.specs.Prelude.{◌≡◌, ℕ, ◌+◌, ◌*◌, ◌-◌, ◌^◌, ◌<◌, ◌≤◌, None, Some, false, true, All, length, replicate, slice_index, slice_index_or, slice_set};
 ghost use Rattle.index_heap.specs.Keys.{key_at};
 ghost use Rattle.reach_ranks.specs.Rounds.{world, IsWhole};
 ghost use Rattle.reach_ranks.specs.Ranks.{AreRanks};
 ghost use Rattle.reach_ranks.specs.Given.{given, key_after, key_of, is_same_key, left_to_do, next_kept, work_left, HoldsBounds, HoldsKeys, Marks, Refreshes};
+ghost use Rattle.reach_ranks.specs.Floors.{AreAbove, IsFloor};
 
 use crate::given::{earlier, given_rank};
 use graph_store::Rows;
@@ -103,13 +104,22 @@ fn put(heap: &mut Heap, node: NodeId, key: Option<u32>)
     }
 }
 
-/// The key of a user that has this key and rank, after a node got its rank `k` or lost it.
-fn key_after(comes: bool, k: u32, key: Option<u32>, rank: u32) -> Option<u32>
-    ensures { result ≡ key_after comes k key rank }
+/// The rank below which a node's can't be.
+fn floor_of(floor: &[u32], node: NodeId) -> u32
+    ensures { result ≡ slice_index_or floor.now node.0 1 }
+{
+    let place = node.0 as usize;
+    if place < floor.len() { floor[place] } else { 1 }
+}
+
+/// The key of a user that has this key, rank and floor, after a node got its rank `k` or lost it.
+fn key_after(comes: bool, k: u32, floor: u32, key: Option<u32>, rank: u32) -> Option<u32>
+    ensures { result ≡ key_after comes k floor key rank }
 {
     if comes {
-        let next = k.saturating_add(1);
+        let next = k.saturating_add(1).max(floor);
         match key {
+            _ if floor == 0 => key,
             None if 0 < rank && rank <= next => None,
             None => Some(next),
             Some(other) => Some(other.min(next)),
@@ -124,43 +134,49 @@ fn key_after(comes: bool, k: u32, key: Option<u32>, rank: u32) -> Option<u32>
 }
 
 /// Gives a user its key after a node got its rank `k` or lost it.
-fn mark(ranks: &[u32], heap: &mut Heap, user: NodeId, comes: bool, k: u32)
+fn mark(ranks: &[u32], floor: &[u32], heap: &mut Heap, user: NodeId, comes: bool, k: u32)
     requires node { user.0 < length heap.old }
     requires ranks { length ranks.now ≡ length heap.old }
-    ensures { heap.new ≡ slice_set heap.old user.0 (key_after comes k (key_at heap.old user.0) (slice_index ranks.now user.0)) }
+    ensures { heap.new ≡ slice_set heap.old user.0 (key_after comes k (slice_index_or floor.now user.0 1) (key_at heap.old user.0) (slice_index ranks.now user.0)) }
 {
     let key = heap.key_of(user);
-    let after = key_after(comes, k, key, ranks[user.0 as usize]);
+    let low = floor_of(floor, user);
+    let after = key_after(comes, k, low, key, ranks[user.0 as usize]);
     if after != key {
         put(heap, user, after);
     }
 }
 
 /// The same for each of the users.
-fn mark_all(ranks: &[u32], heap: &mut Heap, users: &[NodeId], comes: bool, k: u32)
+fn mark_all(ranks: &[u32], floor: &[u32], heap: &mut Heap, users: &[NodeId], comes: bool, k: u32)
     requires users { All (λ u. u.0 < length heap.old) users.now }
     requires ranks { length ranks.now ≡ length heap.old }
-    ensures marks { Marks comes k ranks.now users.now heap.old heap.new }
+    ensures marks { Marks comes k floor.now ranks.now users.now heap.old heap.new }
 {
     for user in users {
-        mark(ranks, heap, *user, comes, k);
+        mark(ranks, floor, heap, *user, comes, k);
     }
 }
 
 /// Takes out the node of the least key, where one has a key. Where the key is right the node gets its next rank, and
-/// the nodes that use it get keys by which they are looked at again; else the node gets its right key.
+/// the nodes that use it get keys by which they are looked at again, none of them before its floor; else the node gets
+/// its right key.
 fn visit_least<R: Rows<L>, L>(
     ranks: &mut [u32],
     rows: &R,
     barred: &[bool],
     granted: &[bool],
     extra: Option<NodeId>,
+    floor: &[u32],
     heap: &mut Heap,
     steps: &mut Steps<L>,
 ) -> bool
     requires marks { IsWhole (world (R.rows rows.now) barred.now granted.now extra) }
     requires keys { HoldsBounds (world (R.rows rows.now) barred.now granted.now extra) (2 ^ 32 - 1) ranks.old heap.old }
+    requires floor { IsFloor (world (R.rows rows.now) barred.now granted.now extra) (2 ^ 32 - 1) floor.now }
+    requires above { AreAbove floor.now ranks.old }
     ensures keys { HoldsBounds (world (R.rows rows.now) barred.now granted.now extra) (2 ^ 32 - 1) ranks.new heap.new }
+    ensures above { AreAbove floor.now ranks.new }
     ensures none { result ≡ false → (n : ℕ) → n < length (R.rows rows.now) → key_at heap.new n ≡ None }
     ensures steps { let w = world (R.rows rows.now) barred.now granted.now extra in
         steps.new + left_to_do w ranks.new heap.new ≤ steps.old + left_to_do w ranks.old heap.old }
@@ -182,10 +198,37 @@ fn visit_least<R: Rows<L>, L>(
             ranks[node.0 as usize] = next;
             put(heap, node, right_key(next, by_row));
             let users = rows.users(node, steps);
-            mark_all(ranks, heap, users, next == key, key);
+            mark_all(ranks, floor, heap, users, next == key, key);
             true
         }
     }
+}
+
+/// Visits nodes until none has a key, where no rank is below the floor.
+///
+/// The floor is a rank for each node, or for none, such that no row gives a node a rank below it where no rank is. So a
+/// node needn't be looked at before its floor: with the ranks of a world that bars less, most are looked at once.
+pub fn settle_above<R: Rows<L>, L>(
+    ranks: &mut [u32],
+    rows: &R,
+    barred: &[bool],
+    granted: &[bool],
+    extra: Option<NodeId>,
+    floor: &[u32],
+    heap: &mut Heap,
+    steps: &mut Steps<L>,
+)
+    requires marks { IsWhole (world (R.rows rows.now) barred.now granted.now extra) }
+    requires keys { HoldsKeys (world (R.rows rows.now) barred.now granted.now extra) (2 ^ 32 - 1) ranks.old heap.old }
+    requires few { length (R.rows rows.now) < 2 ^ 32 - 1 }
+    requires floor { IsFloor (world (R.rows rows.now) barred.now granted.now extra) (2 ^ 32 - 1) floor.now }
+    requires above { AreAbove floor.now ranks.old }
+    ensures ranks { AreRanks (world (R.rows rows.now) barred.now granted.now extra) ranks.new }
+    ensures heap { heap.new ≡ replicate (length (R.rows rows.now)) None }
+    ensures steps { steps.new ≤ steps.old + work_left (world (R.rows rows.now) barred.now granted.now extra) ranks.old }
+    ensures later { steps.old ≤ steps.new }
+{
+    'visits: while visit_least(ranks, rows, barred, granted, extra, floor, heap, steps) {}
 }
 
 /// Visits nodes until none has a key.
@@ -206,5 +249,5 @@ pub fn settle<R: Rows<L>, L>(
     ensures steps { steps.new ≤ steps.old + work_left (world (R.rows rows.now) barred.now granted.now extra) ranks.old }
     ensures later { steps.old ≤ steps.new }
 {
-    'visits: while visit_least(ranks, rows, barred, granted, extra, heap, steps) {}
+    settle_above(ranks, rows, barred, granted, extra, &[], heap, steps);
 }

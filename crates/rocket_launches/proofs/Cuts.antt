@@ -1,8 +1,7 @@
 -- Texts that are cut at a colon.
 use Rattle.std.proofs.Common.{◌≡◌, ◌∙◌, ◌<◌, ◌≤◌, ◌+◌, ◌-◌, ◌++◌, ◌⊎◌, ℕ, Bool, true, false, zero, suc, List, [], ◌∷◌, length, take, drop, refl, sym, ap, arith, inl, inr}
 use Rattle.std.specs.Prelude.{codes, slice_index_or}
-use Rattle.std.proofs.lemmas.List.{take-append-drop}
-use Rattle.game_types.proofs.Walks.{next_at}
+use Rattle.std.proofs.lemmas.List.{take-append-drop, drop_more}
 
 heads : (x y : ℕ) (xs ys : List ℕ) → x ∷ xs ≡ y ∷ ys → x ≡ y
 heads x y xs ys e = cc
@@ -62,7 +61,7 @@ within_cut (x ∷ xs) c = let rest = within_cut xs c in further (length xs) (len
 
 pub cut_at : (text : List ℕ) (place : ℕ) → place < length text → slice_index_or text place 0 ≡ 58 → text ≡ take place text ++ (58 ∷ drop (place + 1) text)
 cut_at text place within colon =
-    sym (take-append-drop place text) ∙ ap (λ rest. take place text ++ rest) (next_at text place 0 within ∙ ap (λ n. n ∷ drop (place + 1) text) colon)
+    sym (take-append-drop place text) ∙ ap (λ rest. take place text ++ rest) (drop_more text place 0 within ∙ ap (λ n. n ∷ drop (place + 1) text) colon)
 
 pub drop_front : (front rest : List ℕ) → drop (length front) (front ++ rest) ≡ rest
 drop_front [] rest = refl

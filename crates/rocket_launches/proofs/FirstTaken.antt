@@ -1,23 +1,16 @@
 -- The first name that is taken: where it stands, by which names are before it.
 use Rattle.std.proofs.Common.{◌≡◌, ◌∙◌, ◌<◌, ◌≤◌, ◌+◌, ◌++◌, ◌⊎◌, ℕ, Bool, true, false, zero, suc, List, [], ◌∷◌, Option, Some, None, length, take, get_or, refl, sym, ap, subst, append_assoc, append-nil, arith, inl, inr}
 use Rattle.std.specs.Prelude.{is_some, slice_get, slice_index_or, ◌||◌, if◌then◌else◌}
-use Rattle.std.specs.List.{list_any, position}
 use Rattle.std.specs.Str.{bytes_eq}
 use Rattle.std.proofs.lemmas.Grind.{common_steps}
 use Rattle.std.proofs.lemmas.List.Folds.{list_any_at}
 use Rattle.std.proofs.lemmas.Option.{get_or_from_slice_get, slice_get_within}
 use Rattle.std.proofs.lemmas.Slice.Eq.{bytes_eq-Decides}
+use Rattle.std.proofs.lemmas.Bool.{or_left, or_right}
 use Rattle.name_table.specs.Names.{place_of}
 use Rattle.name_table.proofs.NamesLemmas.{named_at}
 use Rattle.rocket_launches.specs.Launches.{first_taken, is_taken}
-
-some_position : {X : Type 0} (p : X → Bool) (xs : List X) → is_some (position p xs) ≡ list_any p xs
-some_position p [] = refl
-some_position p (x ∷ xs) = let rest = some_position p xs in by_head (p x) refl rest
-  where
-    by_head : (b : Bool) → p x ≡ b → is_some (position p xs) ≡ list_any p xs → is_some (position p (x ∷ xs)) ≡ list_any p (x ∷ xs)
-    by_head true passes rest = grind (arith, common_steps, passes, rest)
-    by_head false fails rest = grind (arith, common_steps, fails, rest)
+use Rattle.rocket_launches.proofs.NameLemmas.{length_take, some_position}
 
 pub place_some : (names : List (List ℕ)) (j : ℕ) (d name : List ℕ) → j < length names → slice_index_or names j d ≡ name → is_some (place_of names name) ≡ true
 place_some names j d name within is = some_position (bytes_eq name) names ∙ list_any_at (bytes_eq name) names j d within ((bytes_eq-Decides name (slice_index_or names j d)).1 (sym is))
@@ -66,16 +59,6 @@ take_get [] (suc k) j d below = refl
 take_get (x ∷ xs) zero j d below = absurd (omega (arith, below))
 take_get (x ∷ xs) (suc k) zero d below = refl
 take_get (x ∷ xs) (suc k) (suc j) d below = take_get xs k j d (omega (arith, below))
-
-length_take : {X : Type 0} (xs : List X) (k : ℕ) → k < length xs → length (take k xs) ≡ k
-length_take xs k within = grind (arith, common_steps)
-
-or_right : (a b : Bool) → b ≡ true → (a || b) ≡ true
-or_right true b is = refl
-or_right false b is = is
-
-or_left : (a b : Bool) → a ≡ true → (a || b) ≡ true
-or_left a b is = ap (λ t. t || b) is
 
 held_hit : (dumped names : List (List ℕ)) (k : ℕ) → k < length names → IsHeld dumped names k → hit dumped [] names k ≡ true
 held_hit dumped names k within (inl there) = or_left (is_some (place_of dumped (slice_index_or names k []))) (is_some (place_of (take k names) (slice_index_or names k []))) there

@@ -4,7 +4,7 @@ use Rattle.std.specs.Prelude.{nat_lt, option_map, slice_get, slice_index_or, ◌
 use Rattle.std.specs.List.{AllPairs}
 use Rattle.std.proofs.Math.Nat.{mul-le-mul_right}
 use Rattle.std.proofs.lemmas.Bool.Decides.{nat_tests}
-use Rattle.std.proofs.lemmas.Option.{get_or_from_slice_get, slice_get-get_or, slice_get_within}
+use Rattle.std.proofs.lemmas.Option.{get_or_from_slice_get, slice_get-get_or, slice_get_within, same_Some}
 use Rattle.plan_base.specs.declared.ids.GoodId.{GoodId}
 use Rattle.game_types.specs.declared.games.Game.{Game}
 use Rattle.rocket_launches.specs.declared.silos.Flight.{Flight}
@@ -36,9 +36,6 @@ row_order n q p r s i j first second low small less = by_tests (nat_lt q p) (nat
         let same : q ≡ p = grind (arith, nat_tests, below, above) in
         inr (same, one_row (q * n) (p * n) r s i j (ap (λ m. m * n) same) first second less)
 
-same_some : {A : Type 0} (x y : A) → Some x ≡ Some y → x ≡ y
-same_some x y e = cc
-
 ordered : {B : Type 0} (number : B → ℕ) (xs : List B) (i j : ℕ) (x y : B) → AllPairs (λ v w. number v < number w) xs → slice_get xs i ≡ Some x → slice_get xs j ≡ Some y → i < j → number x < number y
 ordered number xs i j x y pairs first second less =
     let here = get_or_from_slice_get xs i x x first in
@@ -49,7 +46,7 @@ ordered number xs i j x y pairs first second less =
     omega (arith, below, left, right)
 
 one_there : {B : Type 0} (xs : List B) (i j : ℕ) (x y : B) → slice_get xs i ≡ Some x → slice_get xs j ≡ Some y → i ≡ j → x ≡ y
-one_there xs i j x y first second same = same_some x y (sym first ∙ ap (slice_get xs) same ∙ second)
+one_there xs i j x y first second same = same_Some x y (sym first ∙ ap (slice_get xs) same ∙ second)
 
 module _ (g : Game) where
   abbrev count : ℕ
@@ -85,7 +82,7 @@ module _ (g : Game) where
           let c = slice_index_or (cargo_in g) found.cargo (record { 0 = 0 }) in
           let here = slice_get-get_or (silos_in g) found.silo no_silo found.silo_in in
           let there = slice_get-get_or (cargo_in g) found.cargo (record { 0 = 0 }) found.cargo_in in
-          let same : flight s c ≡ one = same_some (flight s c) one (sym (flies found.silo found.cargo s c here there) ∙ sym (ap (slice_get (flights g)) found.is) ∙ at) in
+          let same : flight s c ≡ one = same_Some (flight s c) one (sym (flies found.silo found.cargo s c here there) ∙ sym (ap (slice_get (flights g)) found.is) ∙ at) in
           record { row = found.silo; column = found.cargo; silo = here ∙ ap (λ (f : Flight). Some f.silo) same; cargo = there ∙ ap (λ (f : Flight). Some f.cargo) same; is = found.is }
 
   pub in_order : (i j : ℕ) (a b : Flight) → slice_get (flights g) i ≡ Some a → slice_get (flights g) j ≡ Some b → i < j → is_before a b ≡ true

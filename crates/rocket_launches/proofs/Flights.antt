@@ -3,10 +3,9 @@ use Rattle.std.proofs.Common.{◌≡◌, ◌∙◌, ◌<◌, ◌≤◌, ◌+◌,
 use Rattle.std.specs.Prelude.{All, IfSome, IsSomeAnd, pos, slice_get, slice_index_or, ◌==◌, if◌then◌else◌}
 use Rattle.std.specs.List.{cons_option, flat_map}
 use Rattle.std.proofs.lemmas.Grind.{common_steps}
-use Rattle.std.proofs.lemmas.List.{get_or-drop}
+use Rattle.std.proofs.lemmas.List.{get_or-drop, drop_more}
 use Rattle.std.proofs.lemmas.List.Elements.{All-nil, All-cons, All-append, All-head, All-tail, All-map, All-get_or, All-weaker}
 use Rattle.std.proofs.lemmas.Option.{get_or_from_slice_get, slice_get_cases, slice_get_within, slice_get-get_or}
-use Rattle.game_types.proofs.Walks.{next_at}
 use Rattle.fractions.specs.Fraction.{one_fraction, whole_fraction}
 use Rattle.plan_base.specs.declared.ids.EntityId.{EntityId}
 use Rattle.plan_base.specs.declared.ids.GoodId.{GoodId}
@@ -38,7 +37,7 @@ tails a b xs ys e = cc
 next_rest : {A : Type 0} (whole : List A) (number : ℕ) (x : A) (xs : List A) → drop number whole ≡ x ∷ xs → drop (number + 1) whole ≡ xs
 next_rest whole number x xs is =
     let within : number < length whole = grind (arith, common_steps, ap length is) in
-    tails (get_or whole number x) x (drop (number + 1) whole) xs (sym (next_at whole number x within) ∙ is)
+    tails (get_or whole number x) x (drop (number + 1) whole) xs (sym (drop_more whole number x within) ∙ is)
 
 pub found_hold : {A B : Type 0} (find : ℕ → A → Option B) (P : B → Type 0) (whole : List A) → ((k : ℕ) (x : A) → slice_get whole k ≡ Some x → IfSome (find k x) P)
     → (number : ℕ) → (rest : List A) → drop number whole ≡ rest → All P (found_from find number rest)

@@ -1,13 +1,8 @@
 -- Loops that go through a list: what was found so far, and what the rest gives behind it.
-use Rattle.std.proofs.Common.{◌≡◌, ◌∙◌, ◌<◌, ◌≤◌, ◌+◌, ℕ, List, [], ◌∷◌, ◌++◌, Option, Some, None, length, drop, get_or, map, refl, sym, ap, append_assoc, append-nil, arith}
-use Rattle.std.specs.List.{cons_option, flat_map}
-use Rattle.game_types.proofs.Walks.{next, drop_all}
+use Rattle.std.proofs.Common.{◌≡◌, ◌∙◌, ◌<◌, ◌≤◌, ◌+◌, ℕ, List, [], ◌++◌, Option, length, drop, get_or, refl, ap, append-nil, arith}
+use Rattle.std.specs.List.{cons_option}
+use Rattle.plan_base.proofs.Walks.{before_rest, drop_all, next}
 use Rattle.rocket_launches.specs.Launches.{found_from}
-
--- ---- what is found
-before_rest : {B : Type 0} (found : List B) (one : Option B) (rest : List B) → found ++ cons_option one rest ≡ (found ++ cons_option one []) ++ rest
-before_rest found None rest = ap (λ xs. xs ++ rest) (sym (append-nil found))
-before_rest found (Some value) rest = sym (append_assoc found (value ∷ []) rest)
 
 pub found_next : {A B : Type 0} (find : ℕ → A → Option B) (number k : ℕ) (found : List B) (xs : List A) (x : A) → k < length xs → x ≡ get_or xs k x
     → found ++ found_from find number (drop k xs) ≡ (found ++ cons_option (find number x) []) ++ found_from find (number + 1) (drop (k + 1) xs)
@@ -20,14 +15,3 @@ unfolding found_from
 found_end find number k found xs end = ap (λ ys. found ++ found_from find number ys) (drop_all xs k end) ∙ append-nil found
 
 -- ---- what each gives
-pub map_next : {A B : Type 0} (f : A → B) (k : ℕ) (found : List B) (xs : List A) (x : A) → k < length xs → x ≡ get_or xs k x → found ++ map f (drop k xs) ≡ (found ++ f x ∷ []) ++ map f (drop (k + 1) xs)
-map_next f k found xs x within is = ap (λ ys. found ++ map f ys) (next xs k x within is) ∙ sym (append_assoc found (f x ∷ []) (map f (drop (k + 1) xs)))
-
-pub map_end : {A B : Type 0} (f : A → B) (k : ℕ) (found : List B) (xs : List A) → length xs ≤ k → found ++ map f (drop k xs) ≡ found
-map_end f k found xs end = ap (λ ys. found ++ map f ys) (drop_all xs k end) ∙ append-nil found
-
-pub flat_next : {A B : Type 0} (f : A → List B) (k : ℕ) (found : List B) (xs : List A) (x : A) → k < length xs → x ≡ get_or xs k x → found ++ flat_map f (drop k xs) ≡ (found ++ f x) ++ flat_map f (drop (k + 1) xs)
-flat_next f k found xs x within is = ap (λ ys. found ++ flat_map f ys) (next xs k x within is) ∙ sym (append_assoc found (f x) (flat_map f (drop (k + 1) xs)))
-
-pub flat_end : {A B : Type 0} (f : A → List B) (k : ℕ) (found : List B) (xs : List A) → length xs ≤ k → found ++ flat_map f (drop k xs) ≡ found
-flat_end f k found xs end = ap (λ ys. found ++ flat_map f ys) (drop_all xs k end) ∙ append-nil found

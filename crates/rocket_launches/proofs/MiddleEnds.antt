@@ -1,5 +1,5 @@
 -- What cargo gives for middles: by the places of its name, and of all cargo.
-use Rattle.std.proofs.Common.{◌≡◌, ◌≢◌, ◌∙◌, ◌<◌, ◌≤◌, ◌+◌, ◌++◌, ℕ, Bool, true, false, suc, List, ◌∷◌, Option, Some, None, Ok, Err, Result, length, take, drop, get_or, refl, sym, ap, subst, arith}
+use Rattle.std.proofs.Common.{◌≡◌, ◌≢◌, ◌∙◌, ◌<◌, ◌≤◌, ◌+◌, ◌++◌, ℕ, Bool, true, false, suc, List, ◌∷◌, Option, Some, None, Ok, Err, Result, length, take, drop, get_or, refl, sym, ap, subst, arith, eq-eqb, eqb-true}
 use Rattle.std.specs.Prelude.{IfOk, option_and_then, slice_index_or, nat_lt, ◌==◌, if◌then◌else◌}
 use Rattle.std.specs.Str.{bytes_eq}
 use Rattle.std.proofs.lemmas.Bool.Decides.{nat_tests}
@@ -19,12 +19,6 @@ no_more : (a : Option Ends) → joined a None ≡ a
 no_more None = refl
 no_more (Some a) = refl
 
-is_true : (a b : ℕ) → a ≡ b → (a == b) ≡ true
-is_true a b same = grind (arith, nat_tests, same)
-
-is_equal : (a b : ℕ) → (a == b) ≡ true → a ≡ b
-is_equal a b told = grind (arith, nat_tests, told)
-
 differ : false ≡ true → ⊥
 differ e = absurd (cc)
 
@@ -42,7 +36,7 @@ module _ (g : Game) (cargo : GoodId) (name : List ℕ) (name_is : name ≡ name_
   nothing_here place middle old none = by_length (length middle == place) refl
     where
       by_length : (b : Bool) → (length middle == place) ≡ b → old ≡ (if b then joined old (ends_with g middle cargo) else old)
-      by_length true told = sym (ap (joined old) (none (is_equal (length middle) place told)) ∙ no_more old)
+      by_length true told = sym (ap (joined old) (none (eqb-true (length middle) place told)) ∙ no_more old)
       by_length false told = refl
 
   front : (middle rest : List ℕ) (place : ℕ) → length middle ≡ place → name ≡ middle ++ (58 ∷ rest) → middle ≡ take place name
@@ -64,7 +58,7 @@ module _ (g : Game) (cargo : GoodId) (name : List ℕ) (name_is : name ≡ name_
     itself_here : (found : Option GoodId) (old : Option Ends) → cargo_named g behind ≡ found → joined old (option_and_then (λ rest. Some (record { whole = cargo; rest = rest })) found) ≡ here place before old
     itself_here found old is =
         ap (joined old) (sym (ends_rest g cargo before behind found (sym name_is ∙ cut) is))
-        ∙ ap (λ b. if b then joined old (ends_with g before cargo) else old) (sym (is_true (length before) place (ap length before_is ∙ length_front place name within)))
+        ∙ ap (λ b. if b then joined old (ends_with g before cargo) else old) (sym (eq-eqb (length before) place (ap length before_is ∙ length_front place name within)))
 
     each_here : (old new : List ℕ → Option Ends) (found : Option GoodId) → cargo_named g behind ≡ found → new before ≡ joined (old before) (option_and_then (λ rest. Some (record { whole = cargo; rest = rest })) found)
         → ((other : List ℕ) → other ≢ before → new other ≡ old other) → (middle : List ℕ) → new middle ≡ here place middle (old middle)

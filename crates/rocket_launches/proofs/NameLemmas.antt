@@ -3,14 +3,13 @@ use Rattle.std.proofs.Common.{◌≡◌, ◌∙◌, ◌<◌, ◌≤◌, ◌+◌,
 use Rattle.std.specs.Prelude.{is_some, ◌||◌, if◌then◌else◌}
 use Rattle.std.specs.List.{list_any, position}
 use Rattle.std.specs.Str.{bytes_eq}
-use Rattle.std.proofs.Math.Seq.{take-suc}
 use Rattle.std.proofs.lemmas.Grind.{common_steps}
 use Rattle.std.proofs.lemmas.List.Folds.{list_any-append}
-use Rattle.game_types.proofs.Walks.{next, drop_all}
+use Rattle.plan_base.proofs.Walks.{next, drop_all, take_next}
 use Rattle.name_table.specs.Names.{place_of, with_name}
 use Rattle.rocket_launches.specs.Launches.{first_taken, is_taken}
 
-some_position : {X : Type 0} (p : X → Bool) (xs : List X) → is_some (position p xs) ≡ list_any p xs
+pub some_position : {X : Type 0} (p : X → Bool) (xs : List X) → is_some (position p xs) ≡ list_any p xs
 some_position p [] = refl
 some_position p (x ∷ xs) = let rest = some_position p xs in by_head (p x) refl rest
   where
@@ -23,10 +22,7 @@ place_append xs ys name =
     some_position (bytes_eq name) (xs ++ ys) ∙ list_any-append (bytes_eq name) xs ys
     ∙ sym (ap (λ b. b || is_some (place_of ys name)) (some_position (bytes_eq name) xs) ∙ ap (λ b. list_any (bytes_eq name) xs || b) (some_position (bytes_eq name) ys))
 
-take_next : {X : Type 0} (xs : List X) (k : ℕ) (x : X) → k < length xs → x ≡ get_or xs k x → take (k + 1) xs ≡ take k xs ++ x ∷ []
-take_next xs k x within is = grind (arith, common_steps, take-suc xs k x within, is)
-
-length_take : {X : Type 0} (xs : List X) (k : ℕ) → k < length xs → length (take k xs) ≡ k
+pub length_take : {X : Type 0} (xs : List X) (k : ℕ) → k < length xs → length (take k xs) ≡ k
 length_take xs k within = grind (arith, common_steps)
 
 pub taken_stop : (old names : List (List ℕ)) (k : ℕ) (x : List ℕ) → k < length names → x ≡ get_or names k x → is_some (place_of (old ++ take k names) x) ≡ true

@@ -1,8 +1,8 @@
 -- The earliest flight of a taken name, by what names are made of, is the first whose name is taken.
-use Rattle.std.proofs.Common.{◌≡◌, ◌∙◌, ◌<◌, ◌+◌, ◌-◌, ◌++◌, ◌⊎◌, ℕ, Bool, true, false, List, [], ◌∷◌, Option, Some, None, length, take, drop, map, ◌*◌, refl, sym, ap, subst, append_assoc, arith, inl, inr}
+use Rattle.std.proofs.Common.{◌≡◌, ◌∙◌, ◌<◌, ◌+◌, ◌-◌, ◌++◌, ◌⊎◌, ℕ, Bool, true, false, List, [], ◌∷◌, Option, Some, None, length, take, drop, map, ◌*◌, refl, sym, ap, subst, append_assoc, arith, inl, inr, eq-eqb, eqb-true}
 use Rattle.std.specs.Prelude.{IfSome, codes, eqb, is_some, option_and_then, option_map, slice_get, slice_index_or, ◌==◌, if◌then◌else◌}
 use Rattle.std.specs.List.{starts_with}
-use Rattle.std.proofs.lemmas.Bool.Decides.{Decides-eqb, nat_tests}
+use Rattle.std.proofs.lemmas.Bool.Decides.{Decides-eqb}
 use Rattle.std.proofs.lemmas.Grind.{common_steps}
 use Rattle.std.proofs.lemmas.List.{length-map}
 use Rattle.std.proofs.lemmas.Option.{get_or_from_slice_get, slice_get-get_or, slice_get-map, slice_get_within}
@@ -23,12 +23,6 @@ use Rattle.rocket_launches.proofs.Earliest.{Covers, below_covers, below_holds, i
 use Rattle.rocket_launches.proofs.FirstTaken.{IsHeld, first_held, none_held, place_some}
 use Rattle.rocket_launches.proofs.FlightOrder.{Stands, flies, in_order, stands, which_first}
 use Rattle.rocket_launches.proofs.Numbered.{Seat, cargo_number, named_again, seat, silo_number}
-
-is_true : (a b : ℕ) → a ≡ b → (a == b) ≡ true
-is_true a b same = grind (arith, nat_tests, same)
-
-is_equal : (a b : ℕ) → (a == b) ≡ true → a ≡ b
-is_equal a b told = grind (arith, nat_tests, told)
 
 module _ (g : Game) (sound : IsSound g) (machines : AreDifferent g.machine_names) (items : AreDifferent g.item_names) where
   abbrev silo_number_of : Silo → ℕ
@@ -108,7 +102,7 @@ module _ (g : Game) (sound : IsSound g) (machines : AreDifferent g.machine_names
           → IfSome (option_and_then (λ cargo. Some (flight silo cargo)) found) Known
       by_cargo silo silo_is colon None cargo_is = tt
       by_cargo silo silo_is colon (Some cargo) cargo_is =
-          pair_known number text (take place text) (drop (place + 1) text) silo cargo dumped (cut_at text place within (is_equal (slice_index_or text place 0) 58 colon)) silo_is cargo_is
+          pair_known number text (take place text) (drop (place + 1) text) silo cargo dumped (cut_at text place within (eqb-true (slice_index_or text place 0) 58 colon)) silo_is cargo_is
 
       by_silo : (slice_index_or text place 0 == 58) ≡ true → (found : Option Silo) → silo_named g (take place text) ≡ found
           → IfSome (option_and_then (λ silo. option_and_then (λ cargo. Some (flight silo cargo)) (cargo_named g (drop (place + 1) text))) found) Known
@@ -190,7 +184,7 @@ module _ (g : Game) (sound : IsSound g) (machines : AreDifferent g.machine_names
       by_short place within colon None short_is = tt
       by_short place within colon (Some short) short_is =
           in_holds Known (clash_with g short long (drop (place + 1) (silo_name long))) (cargo_in g)
-          (with_known long q short (take place (silo_name long)) (drop (place + 1) (silo_name long)) here short_is (cut_at (silo_name long) place within (is_equal (slice_index_or (silo_name long) place 0) 58 colon)))
+          (with_known long q short (take place (silo_name long)) (drop (place + 1) (silo_name long)) here short_is (cut_at (silo_name long) place within (eqb-true (slice_index_or (silo_name long) place 0) 58 colon)))
 
       by_colon : (place : ℕ) → place < length (silo_name long) → (b : Bool) → (slice_index_or (silo_name long) place 0 == 58) ≡ b
           → IfSome (if b then option_and_then (λ short. least_in (clash_with g short long (drop (place + 1) (silo_name long))) (cargo_in g)) (silo_named g (take place (silo_name long))) else None) Known
@@ -207,7 +201,7 @@ module _ (g : Game) (sound : IsSound g) (machines : AreDifferent g.machine_names
   cut_found : (before behind : List ℕ) (silo : Silo) (cargo : GoodId) → silo_named g before ≡ Some silo → cargo_named g behind ≡ Some cargo → flight_cut g (before ++ (58 ∷ behind)) (length before) ≡ Some (flight silo cargo)
   unfolding flight_cut flight_named
   cut_found before behind silo cargo silo_is cargo_is =
-      ap (λ b. if b then flight_named g (take (length before) (before ++ (58 ∷ behind))) (drop (length before + 1) (before ++ (58 ∷ behind))) else None) (is_true (slice_index_or (before ++ (58 ∷ behind)) (length before) 0) 58 (colon_cut before behind))
+      ap (λ b. if b then flight_named g (take (length before) (before ++ (58 ∷ behind))) (drop (length before + 1) (before ++ (58 ∷ behind))) else None) (eq-eqb (slice_index_or (before ++ (58 ∷ behind)) (length before) 0) 58 (colon_cut before behind))
       ∙ ap (λ t. flight_named g t (drop (length before + 1) (before ++ (58 ∷ behind)))) (take_cut before behind) ∙ ap (flight_named g before) (drop_cut before behind)
       ∙ ap (option_and_then (λ silo. option_and_then (λ cargo. Some (flight silo cargo)) (cargo_named g behind))) silo_is
       ∙ ap (option_and_then (λ cargo. Some (flight silo cargo))) cargo_is
@@ -231,7 +225,7 @@ module _ (g : Game) (sound : IsSound g) (machines : AreDifferent g.machine_names
       → later_of (flight short cargo) (flight long other) ≡ one → Covers (clash_cut g (cargo_in g) long (length before)) one
   unfolding clash_cut
   cut_covers q r short long cargo other before middle rest one there short_is other_is long_cut cargo_cut later =
-      let colon : (slice_index_or (silo_name long) (length before) 0 == 58) ≡ true = is_true (slice_index_or (silo_name long) (length before) 0) 58 (ap (λ (name : List ℕ). slice_index_or name (length before) 0) long_cut ∙ colon_cut before middle) in
+      let colon : (slice_index_or (silo_name long) (length before) 0 == 58) ≡ true = eq-eqb (slice_index_or (silo_name long) (length before) 0) 58 (ap (λ (name : List ℕ). slice_index_or name (length before) 0) long_cut ∙ colon_cut before middle) in
       let front : take (length before) (silo_name long) ≡ before = ap (take (length before)) long_cut ∙ take_cut before middle in
       let back : drop (length before + 1) (silo_name long) ≡ middle = ap (drop (length before + 1)) long_cut ∙ drop_cut before middle in
       let found : Covers (least_in (clash_with g short long middle) (cargo_in g)) one =

@@ -35,7 +35,7 @@ fn as_catalyst(product: &Product) -> Product
     }
 }
 
-#[tactic(auto, using(crate::proofs::Loops::map_next, crate::proofs::Loops::map_end))]
+#[tactic(auto, using(plan_base::proofs::Walks::map_next, plan_base::proofs::Walks::map_end))]
 fn brought_back(alloc: Global, products: &[Product]) -> Result<Items<Product>, NoMemory>
     ensures { IfOk result (λ back. back ≡ map as_catalyst products.now) }
 {
@@ -96,7 +96,7 @@ pub fn launch_name(alloc: Global, game: &Game, flight: &Flight) -> Result<Text, 
 }
 
 /// The recipes of flights.
-#[tactic(auto, using(crate::proofs::Loops::map_next, crate::proofs::Loops::map_end))]
+#[tactic(auto, using(plan_base::proofs::Walks::map_next, plan_base::proofs::Walks::map_end))]
 pub fn launch_recipes(
     alloc: Global,
     game: &Game,
@@ -114,7 +114,7 @@ pub fn launch_recipes(
 }
 
 /// The names of flights.
-#[tactic(auto, using(crate::proofs::Loops::map_next, crate::proofs::Loops::map_end))]
+#[tactic(auto, using(plan_base::proofs::Walks::map_next, plan_base::proofs::Walks::map_end))]
 pub fn launch_names(alloc: Global, game: &Game, flights: &[Flight]) -> Result<Vec<Text>, NoMemory>
     requires sound { IsSound game.now }
     requires there { All (IsThere game.now) flights.now }

@@ -119,7 +119,7 @@ pub fn cargo(alloc: Global, game: &Game) -> Result<Vec<GoodId>, NoMemory>
 }
 
 // The flights of a silo, behind others.
-#[tactic(auto, using(crate::proofs::Loops::map_next, crate::proofs::Loops::map_end))]
+#[tactic(auto, using(plan_base::proofs::Walks::map_next, plan_base::proofs::Walks::map_end))]
 fn put_flights(list: &mut Vec<Flight>, silo: Silo, cargo: &[GoodId]) -> Result<(), NoMemory>
     ensures { IfOk result (λ done. list.new.items ≡ list.old.items ++ map (flight silo) cargo.now) }
 {
@@ -130,7 +130,7 @@ fn put_flights(list: &mut Vec<Flight>, silo: Silo, cargo: &[GoodId]) -> Result<(
 }
 
 /// Each silo with each cargo, both in order.
-#[tactic(auto, using(crate::proofs::Loops::flat_next, crate::proofs::Loops::flat_end))]
+#[tactic(auto, using(plan_base::proofs::Walks::flat_next, plan_base::proofs::Walks::flat_end))]
 pub fn flights(alloc: Global, silos: &[Silo], cargo: &[GoodId]) -> Result<Vec<Flight>, NoMemory>
     ensures { IfOk result (λ flights. flights.items ≡ flights_of silos.now cargo.now) }
 {

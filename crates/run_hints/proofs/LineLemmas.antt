@@ -1,11 +1,12 @@
 -- What is said has no newline but its last byte.
-use Rattle.std.proofs.Common.{◌≡◌, ◌∙◌, ◌++◌, ◌&&◌, ◌/◌, ◌%◌, ◌⊎◌, inl, inr, ◌∷◌, [], ℕ, zero, suc, Bool, true, false, not, List, length, ap, sym, refl, codes, arith, append_assoc}
+use Rattle.std.proofs.Common.{◌≡◌, ◌∙◌, ◌++◌, ◌/◌, ◌%◌, ◌⊎◌, inl, inr, ◌∷◌, [], ℕ, zero, suc, Bool, true, false, not, List, length, ap, sym, refl, codes, arith, append_assoc}
 use Rattle.std.specs.Prelude.{Option, Some, None, ◌==◌, if◌then◌else◌, decimal}
 use Rattle.std.specs.List.{flat_map, list_all}
 use Rattle.std.specs.Fmt.{digit_glyph, digits, digits_onto}
 use Rattle.std.proofs.lemmas.List.Folds.{list_all-append}
 use Rattle.std.proofs.lemmas.List.Concat.{flat_map-cons}
 use Rattle.std.proofs.lemmas.Grind.{common_steps}
+use Rattle.std.proofs.lemmas.Bool.{and_parts}
 use Rattle.plan_report.specs.Words.{in_quotes, is_bare, needs_quotes, printed_word, quoted}
 use Rattle.run_hints.specs.Places.{is_newline}
 use Rattle.run_hints.specs.Hints.{IsLine, cert_text, hint_line, hint_of, is_unbroken, long_hint, name_part}
@@ -53,22 +54,15 @@ decimal_unbroken n = digits_unbroken 64 n [] refl
 bare_byte : (byte : ℕ) → not (needs_quotes byte) ≡ true → not (is_newline byte) ≡ true
 bare_byte byte bare = grind (arith, common_steps)
 
-both : (p q : Bool) → (p && q) ≡ true → (p ≡ true) × (q ≡ true)
-both true q is = (refl, is)
-both false q is = absurd (no_true is)
-  where
-    no_true : false ≡ true → ⊥
-    no_true is = cc
-
 bare_bytes : (bytes : List ℕ) → list_all (λ b. not (needs_quotes b)) bytes ≡ true → is_unbroken bytes ≡ true
 bare_bytes [] bare = refl
 bare_bytes (byte ∷ bytes) bare =
-    let parts = both (not (needs_quotes byte)) (list_all (λ b. not (needs_quotes b)) bytes) bare in
+    let parts = and_parts (not (needs_quotes byte)) (list_all (λ b. not (needs_quotes b)) bytes) bare in
     rw (bare_byte byte parts.0, bare_bytes bytes parts.1) refl
 
 bare_word : (word : List ℕ) → is_bare word ≡ true → is_unbroken word ≡ true
 bare_word [] bare = refl
-bare_word (byte ∷ bytes) bare = bare_bytes (byte ∷ bytes) (both (not (byte == 35)) (list_all (λ b. not (needs_quotes b)) (byte ∷ bytes)) bare).1
+bare_word (byte ∷ bytes) bare = bare_bytes (byte ∷ bytes) (and_parts (not (byte == 35)) (list_all (λ b. not (needs_quotes b)) (byte ∷ bytes)) bare).1
 
 quoted_byte : (byte : ℕ) → is_unbroken (in_quotes byte) ≡ true
 quoted_byte byte = grind (arith, common_steps)

@@ -4,13 +4,8 @@ use Rattle.std.specs.Prelude.{Option, Some, None, drop, if◌then◌else◌}
 use Rattle.std.specs.Str.{bytes_eq}
 use Rattle.cli_words.specs.Words.{ThreeWords, is_option, plain_words, three_in, three_of}
 use Rattle.std.specs.List.{position_or_len, slice_get}
+use Rattle.std.proofs.lemmas.Option.{same_Some, none-some}
 use Rattle.run_hints.specs.Names.{dump_name, is_dashes, script_name, without_dashes}
-
-some_is : {X : Type 0} (x y : X) → Some x ≡ Some y → x ≡ y
-some_is x y e = cc
-
-no_some : {X : Type 0} (x : X) → None ≡ Some x → ⊥
-no_some x e = cc
 
 one_more : (n : ℕ) → 1 + n ≡ suc n
 one_more n = omega arith
@@ -24,9 +19,9 @@ kept word words is = rw (is, one_more (position_or_len is_dashes words), add_one
 
 behind_word : (option : Bool) (word : List ℕ) (later : Option (List (List ℕ))) (words rest : List (List ℕ)) → ((l : List (List ℕ)) → later ≡ Some l → words ≡ l)
     → (if option then None else option_map (λ l. word ∷ l) later) ≡ Some rest → word ∷ words ≡ rest
-behind_word true word later words rest same read = absurd (no_some rest read)
-behind_word false word None words rest same read = absurd (no_some rest read)
-behind_word false word (Some l) words rest same read = ap (λ (ws : List (List ℕ)). word ∷ ws) (same l refl) ∙ some_is (word ∷ l) rest read
+behind_word true word later words rest same read = absurd (none-some rest read)
+behind_word false word None words rest same read = absurd (none-some rest read)
+behind_word false word (Some l) words rest same read = ap (λ (ws : List (List ℕ)). word ∷ ws) (same l refl) ∙ same_Some (word ∷ l) rest read
 
 -- a word, and what is behind it
 on_word : (word : List ℕ) (words rest : List (List ℕ)) → ((later : List (List ℕ)) → plain_words words ≡ Some later → without_dashes words ≡ later)
@@ -40,20 +35,20 @@ on_word word words rest same read = by_test (bytes_eq word (codes "--")) refl re
     by_test false is read = kept word words is ∙ behind_word (is_option word) word (plain_words words) (without_dashes words) rest same read
 
 pub without_is_plain : (words rest : List (List ℕ)) → plain_words words ≡ Some rest → without_dashes words ≡ rest
-without_is_plain [] rest read = some_is [] rest read
+without_is_plain [] rest read = same_Some [] rest read
 without_is_plain (word ∷ words) rest read = on_word word words rest (without_is_plain words) read
 
 -- three words, of the second and the third of which the files are named
 named_by : (plain : Option (List (List ℕ))) (words : List (List ℕ)) (three : ThreeWords) → ((rest : List (List ℕ)) → plain ≡ Some rest → words ≡ rest)
     → three_in plain ≡ Some three → (slice_get words 1 ≡ Some three.first) × (slice_get words 2 ≡ Some three.second)
-named_by None words three same read = absurd (no_some three read)
-named_by (Some []) words three same read = absurd (no_some three read)
-named_by (Some (a ∷ [])) words three same read = absurd (no_some three read)
-named_by (Some (a ∷ b ∷ [])) words three same read = absurd (no_some three read)
+named_by None words three same read = absurd (none-some three read)
+named_by (Some []) words three same read = absurd (none-some three read)
+named_by (Some (a ∷ [])) words three same read = absurd (none-some three read)
+named_by (Some (a ∷ b ∷ [])) words three same read = absurd (none-some three read)
 named_by (Some (a ∷ b ∷ c ∷ [])) words three same read =
-    let is = sym (some_is _ _ read) in
+    let is = sym (same_Some _ _ read) in
     rw (same (a ∷ b ∷ c ∷ []) refl, is) (refl, refl)
-named_by (Some (a ∷ b ∷ c ∷ d ∷ rest)) words three same read = absurd (no_some three read)
+named_by (Some (a ∷ b ∷ c ∷ d ∷ rest)) words three same read = absurd (none-some three read)
 
 pub names_are : (words : List (List ℕ)) (three : ThreeWords) → three_of words ≡ Some three
     → (dump_name words ≡ Some three.first) × (script_name words ≡ Some three.second)

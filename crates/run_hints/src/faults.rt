@@ -6,7 +6,7 @@ use crate::place::{Place, place_in};
 use craft_reader::{DumpCode, DumpFault};
 use json_text::{JsonCode, JsonFault};
 use plan_report::printed_word;
-use planner_cli::DUMP_LIMIT;
+use run_inputs::DUMP_LIMIT;
 use std::alloc::{AllocError, Global};
 
 fn json_words(code: JsonCode) -> &'static str

@@ -7,7 +7,7 @@ use crate::names::{dump_name, script_name};
 use certificate_file::CertFault;
 use plan_base::{NoMemory, Text};
 use plan_report::printed_word;
-use planner_cli::{Long, Status};
+use run_inputs::{Long, Status};
 use std::alloc::{AllocError, Global};
 
 // The name of a file and a colon, or nothing where there is no name.

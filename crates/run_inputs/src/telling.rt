@@ -9,7 +9,7 @@ use crate::status::{Long, Status, status_of};
 use certificate_file::CertFault;
 use craft_reader::DumpFault;
 use plan_io::Sink;
-use script_runner::{ScriptEnd, write_all};
+use script_lines::{ScriptEnd, write_all};
 use std::alloc::Global;
 
 fn long_line(long: Long) -> &'static [u8]

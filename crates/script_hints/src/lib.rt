@@ -6,6 +6,7 @@
 
 mod kept;
 mod lines;
+mod room;
 mod telling;
 
 pub use kept::KeptStore;

@@ -1,6 +1,7 @@
 //! The lines of a script, looked at a second time.
 ghost use Rattle.game_types.specs.Sound.{IsSound};
 
+use crate::room::Telling;
 use game_types::Game;
 use hint_causes::{Found, Line, found_of, found_unread, short_of};
 use line_causes::words_of;
@@ -8,60 +9,10 @@ use linear_table::{Linear, SolveAnswer};
 use plan_base::{NoMemory, Steps, Text};
 use plan_report::{Detail, RefusalCode, Reply};
 use planner_core::{Planner, Posed};
-use run_hints::{more_hint, refused_hint, short_hint};
-use script_reader::{Command, ScriptFault};
-use script_runner::{reading_of, split_line, trim_return};
+use run_hints::{refused_hint, short_hint};
+use script_lines::{Lines, has_many_lines};
+use script_runner::{fault_code, pose, reading_of};
 use std::alloc::Global;
-
-/// The most lines that a script may have.
-const LINES: u32 = 100_000;
-
-/// The most lines that something is said of.
-const MOST: u32 = 20;
-
-// What is said so far.
-#[derive(Drop)]
-struct Telling {
-    said: String,
-    told: u32,
-    more: u32,
-}
-
-impl Telling {
-    fn make(alloc: Global) -> Telling {
-        Telling {
-            said: String::new(alloc),
-            told: 0,
-            more: 0,
-        }
-    }
-
-    // Whether something more may be said, and else counts it.
-    fn has_room(&mut self) -> bool {
-        if self.told < MOST {
-            return true;
-        }
-        self.more = self.more.saturating_add(1);
-        false
-    }
-
-    fn tell(&mut self, text: &Text) -> Result<(), NoMemory> {
-        self.said.push_str(text.as_str())?;
-        self.told = self.told.saturating_add(1);
-        Ok(())
-    }
-
-    // All that is said of a script.
-    fn end(self, alloc: Global, script: Option<&str>) -> Result<Text, NoMemory> {
-        let Telling { said, more, .. } = self;
-        let mut said = said;
-        if more > 0 {
-            let text = more_hint(alloc, script, more)?;
-            said.push_str(text.as_str())?;
-        }
-        Ok(Text::from_string(said))
-    }
-}
 
 /// A script, its name, and what the solver answered to its lines.
 #[derive(Clone, Copy)]
@@ -86,15 +37,14 @@ fn tell_found(
 
 // The line of a number.
 fn line_at(script: &[u8], number: u32) -> &[u8] {
-    let mut rest = script;
-    let mut passed: u32 = 1;
-    while !rest.is_empty() {
-        let (line, more) = split_line(rest);
-        if passed >= number {
-            return trim_return(line);
+    if has_many_lines(script) {
+        return &[];
+    }
+    let mut lines = Lines::behind(0, script);
+    while let Some(line) = lines.next() {
+        if line.number >= number {
+            return line.bytes;
         }
-        rest = more;
-        passed = passed.saturating_add(1);
     }
     &[]
 }
@@ -211,40 +161,6 @@ fn tell_answer(
     }
 }
 
-// The code of a line that can't be read.
-fn code_of_fault(fault: ScriptFault) -> RefusalCode {
-    match fault {
-        ScriptFault::UnknownCommand | ScriptFault::NoMemory => RefusalCode::Q1,
-        ScriptFault::WrongWords => RefusalCode::Q2,
-        ScriptFault::BadNumber => RefusalCode::Q3,
-        ScriptFault::BadQuoting => RefusalCode::Q4,
-        ScriptFault::BadObject => RefusalCode::Q5,
-    }
-}
-
-// The refusal of a line that can't be read.
-fn refused_by(fault: ScriptFault) -> Reply {
-    Reply::Refused {
-        code: code_of_fault(fault),
-        detail: Detail::Bare,
-        at: None,
-    }
-}
-
-// Carries out what a line is read as, with nothing solved.
-fn carried_out<L>(
-    planner: &mut Planner,
-    number: u32,
-    reading: Result<Option<Command>, ScriptFault>,
-    steps: &mut Steps<L>,
-) -> Result<Posed, NoMemory> {
-    match reading {
-        Ok(Some(command)) => planner.pose(number, command, steps),
-        Ok(None) => Ok(Posed::Reply(Reply::Nothing)),
-        Err(fault) => Ok(Posed::Reply(refused_by(fault))),
-    }
-}
-
 // Says what is to be said of the reply to a line.
 fn tell_reply(
     alloc: Global,
@@ -316,7 +232,7 @@ fn look_at<L>(
     steps: &mut Steps<L>,
 ) -> Result<usize, NoMemory> {
     let reading = reading_of(alloc, line.bytes)?;
-    let posed = carried_out(planner, line.number, reading, steps)?;
+    let posed = pose(planner, line.number, reading, steps)?;
     tell_posed(alloc, planner, script, line, &posed, solved, telling)
 }
 
@@ -328,19 +244,15 @@ fn look_at_lines<L>(
     telling: &mut Telling,
     steps: &mut Steps<L>,
 ) -> Result<(), NoMemory> {
-    let mut rest = script.bytes;
-    let mut number: u32 = 0;
+    if has_many_lines(script.bytes) {
+        return Ok(());
+    }
+    let mut lines = Lines::behind(0, script.bytes);
     let mut solved: usize = 0;
-    while !rest.is_empty() {
-        if number >= LINES {
-            return Ok(());
-        }
-        number += 1;
-        let (bytes, more) = split_line(rest);
-        rest = more;
+    while let Some(line) = lines.next() {
         let line = Line {
-            number,
-            bytes: trim_return(bytes),
+            number: line.number,
+            bytes: line.bytes,
         };
         solved = look_at(alloc, planner, script, &line, solved, telling, steps)?;
     }
@@ -378,7 +290,7 @@ fn tell_unread(
     if !telling.has_room() {
         return Ok(());
     }
-    let found = found_unread(alloc, line, code_of_fault(fault))?;
+    let found = found_unread(alloc, line, fault_code(fault))?;
     tell_found(alloc, script, line.number, &found, telling)
 }
 
@@ -389,15 +301,14 @@ fn tell_unread(
 /// `NoMemory` where memory could not be had.
 pub fn unread_hints(alloc: Global, script: &Script<'_>) -> Result<Text, NoMemory> {
     let mut telling = Telling::make(alloc);
-    let mut rest = script.bytes;
-    let mut number: u32 = 0;
-    while !rest.is_empty() {
-        let (bytes, more) = split_line(rest);
-        rest = more;
-        number = number.saturating_add(1);
+    if has_many_lines(script.bytes) {
+        return telling.end(alloc, script.name);
+    }
+    let mut lines = Lines::behind(0, script.bytes);
+    while let Some(line) = lines.next() {
         let line = Line {
-            number,
-            bytes: trim_return(bytes),
+            number: line.number,
+            bytes: line.bytes,
         };
         tell_unread(alloc, script.name, &line, &mut telling)?;
     }

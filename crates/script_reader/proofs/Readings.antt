@@ -1,5 +1,5 @@
 -- Readings one behind another, and the answers of programs.
-use Rattle.std.specs.Prelude.{◌≡◌, ◌≢◌, ℕ, ◌<◌, List, [], ◌∷◌, length, Result, Ok, Err, MatchResult, IsOkAnd}
+use Rattle.std.specs.Prelude.{◌≡◌, ◌≢◌, ℕ, ◌<◌, List, [], ◌∷◌, length, Result, Ok, Err, MatchResult, IsErr, IsErrAnd, IsOkAnd}
 use Rattle.std.proofs.Common.{refl, sym, ap, subst, ◌∙◌, inl, inr, arith}
 use Rattle.script_reader.specs.declared.command.ScriptFault.{ScriptFault}
 use Rattle.script_reader.specs.declared.command.ScriptFault.TheVariants.{UnknownCommand, WrongWords, BadNumber, BadQuoting, BadObject, NoMemory}
@@ -99,6 +99,14 @@ wrong_five reading (a ∷ b ∷ c ∷ d ∷ []) h = answers_wrong _
 wrong_five reading (a ∷ b ∷ c ∷ d ∷ e ∷ words) h = absurd (omega arith)
 
 -- ---- the same for what `?` returns
+pub passed : {A E : Type 0} (result : Result A E) (fault : E) → IsErr result × IsErrAnd result (λ e. e ≡ fault) → result ≡ Err fault
+passed (Ok a) fault h = absurd h.1
+passed (Err e) fault h = ap Err h.1
+
+-- what is returned is the fault that a step had
+pub answers_of_fault : {A : Type 0} (reading : Result A ScriptFault → Type 0) (fault : ScriptFault) (result : Result A ScriptFault) → IsErr result × IsErrAnd result (λ e. e ≡ fault) → Answers reading (Err fault) → Answers reading result
+answers_of_fault reading fault result from h = subst (Answers reading) (sym (passed result fault from)) h
+
 pub answers_fault : {A B : Type 0} (first : Result A ScriptFault → Type 0) (next : A → Result B ScriptFault → Type 0) (fault : ScriptFault) (read : Result A ScriptFault) (result : Result B ScriptFault) → read ≡ Err fault → result ≡ Err fault → Answers first read → Answers (and_then first next) result
 answers_fault first next fault read result e f h = subst (Answers (and_then first next)) (sym f) (answers_first first next fault (subst (Answers first) e h))
 

@@ -2,6 +2,7 @@
 use Rattle.std.specs.Prelude.{◌≡◌, ℕ, Bool, true, false, not, ◌==◌, ◌||◌, ◌&&◌, List, [], ◌∷◌, ◌++◌, Option, Some, Result, Ok, Err}
 use Rattle.std.specs.List.{list_all}
 use Rattle.std.proofs.Common.{refl, sym, ap, subst, ◌∙◌, inl, inr, append_assoc}
+use Rattle.std.proofs.lemmas.Bool.{not-true}
 use Rattle.script_reader.specs.declared.command.Command.{Command}
 use Rattle.script_reader.specs.declared.command.ScriptFault.{ScriptFault}
 use Rattle.script_reader.specs.Words.{is_separator, is_plain, unquoted, ends_word, IsBare, SpellsWord, SpellsFirst, SpellsLine}
@@ -17,16 +18,12 @@ plain_byte false true q e = absurd (cc)
 plain_byte false false true e = absurd (cc)
 plain_byte false false false e = refl
 
-not_true : (q : Bool) → not q ≡ true → q ≡ false
-not_true true e = absurd (cc)
-not_true false e = refl
-
 says_itself : (word : List ℕ) → list_all is_plain word ≡ true → list_all (λ c. not (c == 92)) word ≡ true → unquoted word ≡ Some word
 says_itself [] h k = refl
 says_itself (c ∷ cs) h k =
     let p : (is_plain c ≡ true) × (list_all is_plain cs ≡ true) = all_tail is_plain c cs h in
     let q : (not (c == 92) ≡ true) × (list_all (λ c. not (c == 92)) cs ≡ true) = all_tail (λ c. not (c == 92)) c cs k in
-    plain_more c cs cs (plain_byte (c == 32) (c == 9) (c == 34) p.0) (not_true (c == 92) q.0) (says_itself cs p.1 q.1)
+    plain_more c cs cs (plain_byte (c == 32) (c == 9) (c == 34) p.0) (not-true (c == 92) q.0) (says_itself cs p.1 q.1)
 
 bare_spells : (word : List ℕ) → IsBare word → SpellsWord word word
 bare_spells word b = inl (b.some, b.plain, refl)

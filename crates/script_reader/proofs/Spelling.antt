@@ -1,7 +1,7 @@
 -- The reader finds the words that a line spells, and no others.
 use Rattle.std.specs.Prelude.{◌≡◌, ◌≢◌, ℕ, ◌<◌, Bool, true, false, not, cond, ◌==◌, ◌||◌, ◌&&◌, List, [], ◌∷◌, ◌++◌, length, Option, Some, None}
 use Rattle.std.specs.List.{list_all}
-use Rattle.std.proofs.Common.{refl, sym, ap, subst, ◌∙◌, arith, inl, inr, ⊎_elim, eqb-true, append_assoc}
+use Rattle.std.proofs.Common.{refl, sym, ap, subst, ◌∙◌, arith, inl, inr, ⊎_elim, eqb-true, append_assoc, append-nil}
 use Rattle.script_reader.specs.Words.{is_separator, is_plain, escaped, put, unquoted, SpellsWord, ends_word, SpellsFirst, SpellsLine}
 use Rattle.script_reader.specs.Scan.{front_by, behind_by, put_front, unquote, ended, first_word}
 
@@ -279,13 +279,9 @@ blank_behind (c ∷ cs) h =
     let t : (is_separator c ≡ true) × (list_all is_separator cs ≡ true) = all_tail is_separator c cs h in
     ap (λ b. cond b (behind_by is_separator cs) (c ∷ cs)) t.0 ∙ blank_behind cs t.1
 
-append-nothing : (l : List ℕ) → l ++ [] ≡ l
-append-nothing [] = refl
-append-nothing (x ∷ xs) = ap (λ t. x ∷ t) (append-nothing xs)
-
 pub behind_blank : (line : List ℕ) → behind_by is_separator line ≡ [] → list_all is_separator line ≡ true
 behind_blank line e =
-    subst (λ (l : List ℕ). list_all is_separator l ≡ true) (sym (append-nothing (front_by is_separator line)) ∙ (ap (λ l. front_by is_separator line ++ l) (sym e) ∙ front-behind is_separator line)) (front_all is_separator line)
+    subst (λ (l : List ℕ). list_all is_separator l ≡ true) (sym (append-nil (front_by is_separator line)) ∙ (ap (λ l. front_by is_separator line ++ l) (sym e) ∙ front-behind is_separator line)) (front_all is_separator line)
 
 pub first_found : (line word rest : List ℕ) → SpellsFirst line word rest → first_word (behind_by is_separator line) ≡ some_pair word rest
 first_found line word rest s =

@@ -1,12 +1,15 @@
 //! The words behind a command word.
-ghost use Rattle.std.specs.Prelude.{◌≡◌, ◌≢◌, ◌∷◌, [], length, codes, MatchOption};
+ghost use Rattle.std.specs.Prelude.{◌≡◌, ◌≢◌, ◌∷◌, [], length, MatchOption};
 ghost use Rattle.script_reader.specs.Reading.{Answers};
-ghost use Rattle.script_reader.specs.Arguments.{count, object, enabled_words, power_words, good_of_recipe_words, kind, kind_words, label_words, no_words, node_words, price_of_good_words, price_words, ratio, ratio_or, solve_words, switch, switch_words, text_words, time_words, unlock_words, want_words};
+ghost use Rattle.script_reader.specs.Arguments.{enabled_words, power_words, good_of_recipe_words, kind_words, label_words, no_words, node_words, price_of_good_words, price_words, solve_words, switch_words, text_words, time_words, unlock_words, want_words};
 
-use crate::change::copy_text;
-use crate::fields::{Place, count_at, kind_of, object_at};
+use crate::copies::copy_text;
+use crate::fields::Place;
+use crate::word_values::{
+    amount_at, budget_at, kind_at, object_word, price_at, ratio_at, switch_at,
+};
 use crate::{Object, ScriptFault};
-use fractions::{Ratio, read_ratio};
+use fractions::Ratio;
 use plan_base::{Kind, Text};
 use std::alloc::Global;
 
@@ -37,13 +40,6 @@ fn three(words: &[Text]) -> Option<(&Text, &Text, &Text)>
     }
 }
 
-/// The object that a word names.
-pub fn object_word(alloc: Global, word: &Text, place: Place) -> Result<Object, ScriptFault>
-    ensures { Answers (object place word.now) result }
-{
-    object_at(alloc, word.as_str(), place)
-}
-
 // No words.
 #[tactic(auto, unfolding(crate::specs::Reading::Answers, crate::specs::Reading::the_one, crate::specs::Reading::gives, crate::specs::Reading::refuses, crate::specs::Reading::no_word))]
 pub fn nothing_at(words: &[Text]) -> Result<(), ScriptFault>
@@ -53,76 +49,6 @@ pub fn nothing_at(words: &[Text]) -> Result<(), ScriptFault>
         Ok(())
     } else {
         Err(ScriptFault::WrongWords)
-    }
-}
-
-#[tactic(auto, unfolding(crate::specs::Reading::Answers, crate::specs::Reading::the_one, crate::specs::Reading::gives, crate::specs::Reading::refuses, crate::specs::Reading::no_word))]
-fn ratio_at(word: &Text) -> Result<Ratio, ScriptFault>
-    ensures { Answers (ratio word.now) result }
-{
-    match read_ratio(word.as_str().as_bytes()) {
-        Ok(value) => Ok(value),
-        Err(_) => Err(ScriptFault::BadNumber),
-    }
-}
-
-// A number, or `drop`.
-#[tactic(auto, unfolding(crate::specs::Reading::Answers, crate::specs::Reading::the_one, crate::specs::Reading::gives, crate::specs::Reading::refuses, crate::specs::Reading::no_word))]
-fn amount_at(word: &Text) -> Result<Option<Ratio>, ScriptFault>
-    ensures { Answers (ratio_or (codes "drop") word.now) result }
-{
-    if word.as_str() == "drop" {
-        return Ok(None);
-    }
-    match ratio_at(word) {
-        Ok(value) => Ok(Some(value)),
-        Err(fault) => Err(fault),
-    }
-}
-
-// A number, or `off`.
-#[tactic(auto, unfolding(crate::specs::Reading::Answers, crate::specs::Reading::the_one, crate::specs::Reading::gives, crate::specs::Reading::refuses, crate::specs::Reading::no_word))]
-fn price_at(word: &Text) -> Result<Option<Ratio>, ScriptFault>
-    ensures { Answers (ratio_or (codes "off") word.now) result }
-{
-    if word.as_str() == "off" {
-        return Ok(None);
-    }
-    match ratio_at(word) {
-        Ok(value) => Ok(Some(value)),
-        Err(fault) => Err(fault),
-    }
-}
-
-#[tactic(auto, unfolding(crate::specs::Reading::Answers, crate::specs::Reading::the_one, crate::specs::Reading::gives, crate::specs::Reading::refuses, crate::specs::Reading::no_word))]
-fn switch_at(word: &Text) -> Result<bool, ScriptFault>
-    ensures { Answers (switch word.now) result }
-{
-    match word.as_str() {
-        "on" => Ok(true),
-        "off" => Ok(false),
-        _ => Err(ScriptFault::WrongWords),
-    }
-}
-
-#[tactic(auto, unfolding(crate::specs::Reading::Answers, crate::specs::Reading::the_one, crate::specs::Reading::gives, crate::specs::Reading::refuses, crate::specs::Reading::no_word))]
-fn budget_at(word: &Text) -> Result<u32, ScriptFault>
-    ensures { Answers (count 1 100000 word.now) result }
-{
-    match count_at(word.as_str(), 1, 100_000) {
-        Some(steps) => Ok(steps),
-        None => Err(ScriptFault::BadNumber),
-    }
-}
-
-/// How many there are.
-#[tactic(auto, unfolding(crate::specs::Reading::Answers, crate::specs::Reading::the_one, crate::specs::Reading::gives, crate::specs::Reading::refuses, crate::specs::Reading::no_word))]
-pub fn number_at(word: &Text) -> Result<u32, ScriptFault>
-    ensures { Answers (count 0 65535 word.now) result }
-{
-    match count_at(word.as_str(), 0, 65_535) {
-        Some(number) => Ok(number),
-        None => Err(ScriptFault::BadNumber),
     }
 }
 
@@ -144,16 +70,6 @@ pub fn kind(words: &[Text]) -> Result<Kind, ScriptFault>
         return Err(ScriptFault::WrongWords);
     };
     kind_at(word)
-}
-
-#[tactic(auto, unfolding(crate::specs::Reading::Answers, crate::specs::Reading::the_one, crate::specs::Reading::gives, crate::specs::Reading::refuses, crate::specs::Reading::no_word))]
-fn kind_at(word: &Text) -> Result<Kind, ScriptFault>
-    ensures { Answers (kind word.now) result }
-{
-    match kind_of(word.as_str()) {
-        Some(kind) => Ok(kind),
-        None => Err(ScriptFault::BadObject),
-    }
 }
 
 #[tactic(auto, using(crate::proofs::Readings::readings))]
@@ -208,10 +124,7 @@ pub fn solve(alloc: Global, words: &[Text]) -> Result<(Text, u32), ScriptFault>
     let Some((table, budget)) = two(words) else {
         return Err(ScriptFault::WrongWords);
     };
-    let budget = match budget_at(budget) {
-        Ok(value) => value,
-        Err(fault) => return Err(fault),
-    };
+    let budget = budget_at(budget)?;
     let Ok(table) = copy_text(alloc, table) else {
         return Err(ScriptFault::NoMemory);
     };
@@ -228,18 +141,9 @@ pub fn good_of_recipe(
     let Some((recipe, good, amount)) = three(words) else {
         return Err(ScriptFault::WrongWords);
     };
-    let recipe = match object_word(alloc, recipe, Place::OneRecipe) {
-        Ok(value) => value,
-        Err(fault) => return Err(fault),
-    };
-    let good = match object_word(alloc, good, Place::Good) {
-        Ok(value) => value,
-        Err(fault) => return Err(fault),
-    };
-    let amount = match amount_at(amount) {
-        Ok(value) => value,
-        Err(fault) => return Err(fault),
-    };
+    let recipe = object_word(alloc, recipe, Place::OneRecipe)?;
+    let good = object_word(alloc, good, Place::Good)?;
+    let amount = amount_at(amount)?;
     Ok((recipe, good, amount))
 }
 
@@ -250,18 +154,9 @@ pub fn unlock(alloc: Global, words: &[Text]) -> Result<(Object, Object, bool), S
     let Some((tech, recipe, on)) = three(words) else {
         return Err(ScriptFault::WrongWords);
     };
-    let on = match switch_at(on) {
-        Ok(value) => value,
-        Err(fault) => return Err(fault),
-    };
-    let tech = match object_word(alloc, tech, Place::OneTech) {
-        Ok(value) => value,
-        Err(fault) => return Err(fault),
-    };
-    let recipe = match object_word(alloc, recipe, Place::OneRecipe) {
-        Ok(value) => value,
-        Err(fault) => return Err(fault),
-    };
+    let on = switch_at(on)?;
+    let tech = object_word(alloc, tech, Place::OneTech)?;
+    let recipe = object_word(alloc, recipe, Place::OneRecipe)?;
     Ok((tech, recipe, on))
 }
 
@@ -272,14 +167,8 @@ pub fn time(alloc: Global, words: &[Text]) -> Result<(Object, Ratio), ScriptFaul
     let Some((recipe, seconds)) = two(words) else {
         return Err(ScriptFault::WrongWords);
     };
-    let recipe = match object_word(alloc, recipe, Place::OneRecipe) {
-        Ok(value) => value,
-        Err(fault) => return Err(fault),
-    };
-    let seconds = match ratio_at(seconds) {
-        Ok(value) => value,
-        Err(fault) => return Err(fault),
-    };
+    let recipe = object_word(alloc, recipe, Place::OneRecipe)?;
+    let seconds = ratio_at(seconds)?;
     Ok((recipe, seconds))
 }
 
@@ -290,14 +179,8 @@ pub fn enabled(alloc: Global, words: &[Text]) -> Result<(Object, bool), ScriptFa
     let Some((recipe, on)) = two(words) else {
         return Err(ScriptFault::WrongWords);
     };
-    let on = match switch_at(on) {
-        Ok(value) => value,
-        Err(fault) => return Err(fault),
-    };
-    let recipe = match object_word(alloc, recipe, Place::OneRecipe) {
-        Ok(value) => value,
-        Err(fault) => return Err(fault),
-    };
+    let on = switch_at(on)?;
+    let recipe = object_word(alloc, recipe, Place::OneRecipe)?;
     Ok((recipe, on))
 }
 
@@ -308,10 +191,7 @@ pub fn price(alloc: Global, words: &[Text]) -> Result<(Text, Text, Ratio), Scrip
     let Some((table, label, price)) = three(words) else {
         return Err(ScriptFault::WrongWords);
     };
-    let price = match ratio_at(price) {
-        Ok(value) => value,
-        Err(fault) => return Err(fault),
-    };
+    let price = ratio_at(price)?;
     let Ok(table) = copy_text(alloc, table) else {
         return Err(ScriptFault::NoMemory);
     };
@@ -328,10 +208,7 @@ pub fn power(alloc: Global, words: &[Text]) -> Result<(Text, bool), ScriptFault>
     let Some((table, on)) = two(words) else {
         return Err(ScriptFault::WrongWords);
     };
-    let on = match switch_at(on) {
-        Ok(value) => value,
-        Err(fault) => return Err(fault),
-    };
+    let on = switch_at(on)?;
     let Ok(table) = copy_text(alloc, table) else {
         return Err(ScriptFault::NoMemory);
     };
@@ -345,14 +222,8 @@ pub fn want(alloc: Global, words: &[Text]) -> Result<(Text, Object, Ratio), Scri
     let Some((table, good, amount)) = three(words) else {
         return Err(ScriptFault::WrongWords);
     };
-    let good = match object_word(alloc, good, Place::TableGood) {
-        Ok(value) => value,
-        Err(fault) => return Err(fault),
-    };
-    let amount = match ratio_at(amount) {
-        Ok(value) => value,
-        Err(fault) => return Err(fault),
-    };
+    let good = object_word(alloc, good, Place::TableGood)?;
+    let amount = ratio_at(amount)?;
     let Ok(table) = copy_text(alloc, table) else {
         return Err(ScriptFault::NoMemory);
     };
@@ -369,14 +240,8 @@ pub fn price_of_good(
     let Some((table, good, price)) = three(words) else {
         return Err(ScriptFault::WrongWords);
     };
-    let good = match object_word(alloc, good, Place::TableGood) {
-        Ok(value) => value,
-        Err(fault) => return Err(fault),
-    };
-    let price = match price_at(price) {
-        Ok(value) => value,
-        Err(fault) => return Err(fault),
-    };
+    let good = object_word(alloc, good, Place::TableGood)?;
+    let price = price_at(price)?;
     let Ok(table) = copy_text(alloc, table) else {
         return Err(ScriptFault::NoMemory);
     };

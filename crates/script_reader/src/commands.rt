@@ -8,7 +8,7 @@ use crate::arguments::{
     switch, text, time, unlock, want,
 };
 use crate::command_words::{CommandWord, command_of};
-use crate::parts::row_of;
+use crate::row_words::row_of;
 use crate::{Change, Command, ScriptFault};
 use plan_base::Text;
 use std::alloc::Global;
@@ -17,158 +17,128 @@ use std::alloc::Global;
 fn alone<T: Drop>(words: &[Text], command: T) -> Result<T, ScriptFault>
     ensures { Answers (and_then (no_words words.now) (λ u. gives command)) result }
 {
-    match nothing_at(words) {
-        Ok(()) => Ok(command),
-        Err(fault) => Err(fault),
-    }
+    nothing_at(words)?;
+    Ok(command)
 }
 
 fn rate(alloc: Global, words: &[Text]) -> Result<Command, ScriptFault>
     ensures { Answers (arguments CommandWord.Rate words.now) result }
 {
-    match label(alloc, words) {
-        Ok((table, label)) => Ok(Command::Rate { table, label }),
-        Err(fault) => Err(fault),
-    }
+    let (table, label) = label(alloc, words)?;
+    Ok(Command::Rate { table, label })
 }
 
 fn solving(alloc: Global, words: &[Text]) -> Result<Command, ScriptFault>
     ensures { Answers (arguments CommandWord.Solve words.now) result }
 {
-    match solve(alloc, words) {
-        Ok((table, budget)) => Ok(Command::Solve { table, budget }),
-        Err(fault) => Err(fault),
-    }
+    let (table, budget) = solve(alloc, words)?;
+    Ok(Command::Solve { table, budget })
 }
 
 fn ingredient(alloc: Global, words: &[Text]) -> Result<Command, ScriptFault>
     ensures { Answers (arguments CommandWord.Ingredient words.now) result }
 {
-    match good_of_recipe(alloc, words) {
-        Ok((recipe, good, amount)) => Ok(Command::Change(Change::Ingredient {
-            recipe,
-            good,
-            amount,
-        })),
-        Err(fault) => Err(fault),
-    }
+    let (recipe, good, amount) = good_of_recipe(alloc, words)?;
+    Ok(Command::Change(Change::Ingredient {
+        recipe,
+        good,
+        amount,
+    }))
 }
 
 fn product(alloc: Global, words: &[Text]) -> Result<Command, ScriptFault>
     ensures { Answers (arguments CommandWord.Product words.now) result }
 {
-    match good_of_recipe(alloc, words) {
-        Ok((recipe, good, amount)) => Ok(Command::Change(Change::Product {
-            recipe,
-            good,
-            amount,
-        })),
-        Err(fault) => Err(fault),
-    }
+    let (recipe, good, amount) = good_of_recipe(alloc, words)?;
+    Ok(Command::Change(Change::Product {
+        recipe,
+        good,
+        amount,
+    }))
 }
 
 fn unlocking(alloc: Global, words: &[Text]) -> Result<Command, ScriptFault>
     ensures { Answers (arguments CommandWord.Unlock words.now) result }
 {
-    match unlock(alloc, words) {
-        Ok((tech, recipe, on)) => Ok(Command::Change(Change::Unlock { tech, recipe, on })),
-        Err(fault) => Err(fault),
-    }
+    let (tech, recipe, on) = unlock(alloc, words)?;
+    Ok(Command::Change(Change::Unlock { tech, recipe, on }))
 }
 
 fn timing(alloc: Global, words: &[Text]) -> Result<Command, ScriptFault>
     ensures { Answers (arguments CommandWord.Time words.now) result }
 {
-    match time(alloc, words) {
-        Ok((recipe, seconds)) => Ok(Command::Change(Change::Time { recipe, seconds })),
-        Err(fault) => Err(fault),
-    }
+    let (recipe, seconds) = time(alloc, words)?;
+    Ok(Command::Change(Change::Time { recipe, seconds }))
 }
 
 fn enabling(alloc: Global, words: &[Text]) -> Result<Command, ScriptFault>
     ensures { Answers (arguments CommandWord.Enabled words.now) result }
 {
-    match enabled(alloc, words) {
-        Ok((recipe, on)) => Ok(Command::Change(Change::Enabled { recipe, on })),
-        Err(fault) => Err(fault),
-    }
+    let (recipe, on) = enabled(alloc, words)?;
+    Ok(Command::Change(Change::Enabled { recipe, on }))
 }
 
 fn powering(alloc: Global, words: &[Text]) -> Result<Command, ScriptFault>
     ensures { Answers (arguments CommandWord.Power words.now) result }
 {
-    match power(alloc, words) {
-        Ok((table, on)) => Ok(Command::Change(Change::Power { table, on })),
-        Err(fault) => Err(fault),
-    }
+    let (table, on) = power(alloc, words)?;
+    Ok(Command::Change(Change::Power { table, on }))
 }
 
 fn row(alloc: Global, words: &[Text]) -> Result<Command, ScriptFault>
     ensures { Answers (arguments CommandWord.Row words.now) result }
 {
-    match row_of(alloc, words) {
-        Ok((table, label, activity, machine, parts)) => Ok(Command::Change(Change::Row {
-            table,
-            label,
-            activity,
-            machine,
-            parts,
-        })),
-        Err(fault) => Err(fault),
-    }
+    let (table, label, activity, machine, parts) = row_of(alloc, words)?;
+    Ok(Command::Change(Change::Row {
+        table,
+        label,
+        activity,
+        machine,
+        parts,
+    }))
 }
 
 fn unrow(alloc: Global, words: &[Text]) -> Result<Command, ScriptFault>
     ensures { Answers (arguments CommandWord.Unrow words.now) result }
 {
-    match label(alloc, words) {
-        Ok((table, label)) => Ok(Command::Change(Change::Unrow { table, label })),
-        Err(fault) => Err(fault),
-    }
+    let (table, label) = label(alloc, words)?;
+    Ok(Command::Change(Change::Unrow { table, label }))
 }
 
 fn pricing(alloc: Global, words: &[Text]) -> Result<Command, ScriptFault>
     ensures { Answers (arguments CommandWord.Price words.now) result }
 {
-    match price(alloc, words) {
-        Ok((table, label, price)) => Ok(Command::Change(Change::Price {
-            table,
-            label,
-            price,
-        })),
-        Err(fault) => Err(fault),
-    }
+    let (table, label, price) = price(alloc, words)?;
+    Ok(Command::Change(Change::Price {
+        table,
+        label,
+        price,
+    }))
 }
 
 fn wanting(alloc: Global, words: &[Text]) -> Result<Command, ScriptFault>
     ensures { Answers (arguments CommandWord.Want words.now) result }
 {
-    match want(alloc, words) {
-        Ok((table, good, amount)) => Ok(Command::Change(Change::Want {
-            table,
-            good,
-            amount,
-        })),
-        Err(fault) => Err(fault),
-    }
+    let (table, good, amount) = want(alloc, words)?;
+    Ok(Command::Change(Change::Want {
+        table,
+        good,
+        amount,
+    }))
 }
 
 fn import(alloc: Global, words: &[Text]) -> Result<Command, ScriptFault>
     ensures { Answers (arguments CommandWord.Import words.now) result }
 {
-    match price_of_good(alloc, words) {
-        Ok((table, good, price)) => Ok(Command::Change(Change::Import { table, good, price })),
-        Err(fault) => Err(fault),
-    }
+    let (table, good, price) = price_of_good(alloc, words)?;
+    Ok(Command::Change(Change::Import { table, good, price }))
 }
 
 fn surplus(alloc: Global, words: &[Text]) -> Result<Command, ScriptFault>
     ensures { Answers (arguments CommandWord.Surplus words.now) result }
 {
-    match price_of_good(alloc, words) {
-        Ok((table, good, price)) => Ok(Command::Change(Change::Surplus { table, good, price })),
-        Err(fault) => Err(fault),
-    }
+    let (table, good, price) = price_of_good(alloc, words)?;
+    Ok(Command::Change(Change::Surplus { table, good, price }))
 }
 
 /// The command that its first word begins and the words behind it end.

@@ -6,10 +6,13 @@ mod change;
 mod command;
 mod command_words;
 mod commands;
+mod copies;
 mod fields;
 mod parts;
 mod read;
+mod row_words;
 mod split;
+mod word_values;
 pub mod words;
 
 pub use change::{Change, Object, RowPart};

@@ -1,15 +1,13 @@
-//! The parts of a row.
-ghost use Rattle.std.specs.Prelude.{◌≡◌, ◌<◌, ◌∷◌, [], length, count_by, drop, nat_le, MatchOption, IfErr, IfOk, OnOk, Ok, Err};
+//! The words of a row's parts, part by part.
+ghost use Rattle.std.specs.Prelude.{◌≡◌, ◌<◌, ◌∷◌, length, count_by, drop, nat_le, MatchOption};
 ghost use Rattle.std.specs.List.{before_first, list_any};
 ghost use Rattle.script_reader.specs.Reading.{Answers};
 ghost use Rattle.script_reader.specs.PartWords.{all_parts, first_part, is_beacon, is_fuel, is_in, written_part};
-ghost use Rattle.script_reader.specs.Arguments.{add_part, add_parts, beacon_words, part_words, parts_behind, row_words};
+ghost use Rattle.script_reader.specs.Arguments.{parts_behind};
 
-use crate::arguments::{number_at, object_word};
-use crate::change::{copy_text, two_copies};
-use crate::fields::Place;
-use crate::{Object, RowPart, ScriptFault};
-use plan_base::{Items, NoMemory, Text};
+use crate::ScriptFault;
+use crate::copies::{copy_text, two_copies};
+use plan_base::{Items, Text};
 use std::alloc::Global;
 
 /// The words of a part, behind the one that names it.
@@ -173,10 +171,7 @@ fn split_parts(alloc: Global, words: &[Text]) -> Result<Items<PartWords>, Script
     let mut parts = Vec::new(alloc);
     let mut rest = words;
     while !rest.is_empty() {
-        let part = match first_part_of(alloc, rest) {
-            Ok(part) => part,
-            Err(fault) => return Err(fault),
-        };
+        let part = first_part_of(alloc, rest)?;
         let (_, behind) = rest.split_at(part.len());
         rest = behind;
         match parts.push(part) {
@@ -187,17 +182,18 @@ fn split_parts(alloc: Global, words: &[Text]) -> Result<Items<PartWords>, Script
     Ok(Items::from_vec(parts))
 }
 
-// The parts behind `by` and a machine.
-fn parts_after(alloc: Global, by: &Text, words: &[Text]) -> Result<Items<PartWords>, ScriptFault>
+/// The parts behind `by` and a machine.
+pub fn parts_after(
+    alloc: Global,
+    by: &Text,
+    words: &[Text],
+) -> Result<Items<PartWords>, ScriptFault>
     ensures { Answers (parts_behind by.now words.now) result }
 {
     if by.as_str() != "by" {
         return Err(ScriptFault::WrongWords);
     }
-    let parts = match split_parts(alloc, words) {
-        Ok(parts) => parts,
-        Err(fault) => return Err(fault),
-    };
+    let parts = split_parts(alloc, words)?;
     if has_in_first(parts.as_slice()) {
         return Err(ScriptFault::WrongWords);
     }
@@ -206,162 +202,4 @@ fn parts_after(alloc: Global, by: &Text, words: &[Text]) -> Result<Items<PartWor
     } else {
         Err(ScriptFault::WrongWords)
     }
-}
-
-fn fuel_of(alloc: Global, item: &Text) -> Result<RowPart, ScriptFault>
-    ensures { Answers (part_words (PartWords.Fuel item.now)) result }
-{
-    match object_word(alloc, item, Place::OneItem) {
-        Ok(item) => Ok(RowPart::Fuel(item)),
-        Err(fault) => Err(fault),
-    }
-}
-
-fn module_of(alloc: Global, item: &Text, number: &Text) -> Result<RowPart, ScriptFault>
-    ensures { Answers (part_words (PartWords.Module item.now number.now)) result }
-{
-    let item = match object_word(alloc, item, Place::OneItem) {
-        Ok(value) => value,
-        Err(fault) => return Err(fault),
-    };
-    let count = match number_at(number) {
-        Ok(value) => value,
-        Err(fault) => return Err(fault),
-    };
-    Ok(RowPart::Module(item, count))
-}
-
-fn in_of(alloc: Global, item: &Text, number: &Text) -> Result<RowPart, ScriptFault>
-    ensures { Answers (part_words (PartWords.In item.now number.now)) result }
-{
-    let item = match object_word(alloc, item, Place::OneItem) {
-        Ok(value) => value,
-        Err(fault) => return Err(fault),
-    };
-    let count = match number_at(number) {
-        Ok(value) => value,
-        Err(fault) => return Err(fault),
-    };
-    Ok(RowPart::In(item, count))
-}
-
-fn beacon_of(
-    alloc: Global,
-    machine: &Text,
-    number: &Text,
-    share: &Text,
-) -> Result<RowPart, ScriptFault>
-    ensures { Answers (beacon_words machine.now number.now share.now) result }
-{
-    let machine = match object_word(alloc, machine, Place::OneMachine) {
-        Ok(value) => value,
-        Err(fault) => return Err(fault),
-    };
-    let count = match number_at(number) {
-        Ok(value) => value,
-        Err(fault) => return Err(fault),
-    };
-    let share = match number_at(share) {
-        Ok(value) => value,
-        Err(fault) => return Err(fault),
-    };
-    Ok(RowPart::Beacon {
-        machine,
-        count,
-        share,
-    })
-}
-
-fn at_of(alloc: Global, fluid: &Text) -> Result<RowPart, ScriptFault>
-    ensures { Answers (part_words (PartWords.At fluid.now)) result }
-{
-    match object_word(alloc, fluid, Place::OneFluid) {
-        Ok(fluid) => Ok(RowPart::At(fluid)),
-        Err(fault) => Err(fault),
-    }
-}
-
-fn part_of(alloc: Global, part: &PartWords) -> Result<RowPart, ScriptFault>
-    ensures { Answers (part_words part.now) result }
-{
-    match part {
-        PartWords::Fuel(item) => fuel_of(alloc, item),
-        PartWords::Module(item, number) => module_of(alloc, item, number),
-        PartWords::Beacon(machine, number, share) => beacon_of(alloc, machine, number, share),
-        PartWords::In(item, number) => in_of(alloc, item, number),
-        PartWords::At(fluid) => at_of(alloc, fluid),
-    }
-}
-
-// One part more.
-fn add_one(alloc: Global, parts: &mut Vec<RowPart>, words: &PartWords) -> Result<(), ScriptFault>
-    ensures ok { OnOk result (Answers (add_part parts.old.items words.now) (Ok parts.new.items)) }
-    ensures fault { IfErr result (λ fault. Answers (add_part parts.old.items words.now) (Err fault)) }
-{
-    let part = match part_of(alloc, words) {
-        Ok(value) => value,
-        Err(fault) => return Err(fault),
-    };
-    let Ok(()) = parts.push(part) else {
-        return Err(ScriptFault::NoMemory);
-    };
-    Ok(())
-}
-
-// One part after another.
-fn read_parts(alloc: Global, words: &[PartWords]) -> Result<Items<RowPart>, ScriptFault>
-    ensures { Answers (add_parts [] words.now) result }
-{
-    let mut parts = Vec::new(alloc);
-    for part in words {
-        match add_one(alloc, &mut parts, part) {
-            Ok(()) => {}
-            Err(fault) => return Err(fault),
-        }
-    }
-    Ok(Items::from_vec(parts))
-}
-
-fn five(words: &[Text]) -> Option<(&Text, &Text, &Text, &Text, &Text, &[Text])>
-    ensures { MatchOption result (length words.now < 5) (λ p. words.now ≡ p.0.now ∷ p.1.now ∷ p.2.now ∷ p.3.now ∷ p.4.now ∷ p.5.now) }
-{
-    match words {
-        [a, b, c, d, e, rest @ ..] => Some((a, b, c, d, e, rest)),
-        _ => None,
-    }
-}
-
-/// A row.
-pub fn row_of(
-    alloc: Global,
-    words: &[Text],
-) -> Result<(Text, Text, Object, Object, Items<RowPart>), ScriptFault>
-    ensures { Answers (row_words words.now) result }
-{
-    let Some((table, label, activity, by, machine, rest)) = five(words) else {
-        return Err(ScriptFault::WrongWords);
-    };
-    let parts = match parts_after(alloc, by, rest) {
-        Ok(value) => value,
-        Err(fault) => return Err(fault),
-    };
-    let activity = match object_word(alloc, activity, Place::Activity) {
-        Ok(value) => value,
-        Err(fault) => return Err(fault),
-    };
-    let machine = match object_word(alloc, machine, Place::OneMachine) {
-        Ok(value) => value,
-        Err(fault) => return Err(fault),
-    };
-    let parts = match read_parts(alloc, parts.as_slice()) {
-        Ok(value) => value,
-        Err(fault) => return Err(fault),
-    };
-    let Ok(table) = copy_text(alloc, table) else {
-        return Err(ScriptFault::NoMemory);
-    };
-    let Ok(label) = copy_text(alloc, label) else {
-        return Err(ScriptFault::NoMemory);
-    };
-    Ok((table, label, activity, machine, parts))
 }

@@ -20,14 +20,9 @@ fn check_utf8(line: &[u8]) -> Result<(), ScriptFault>
 fn read_command(alloc: Global, line: &[u8]) -> Result<Option<Command>, ScriptFault>
     ensures { Answers (command_spelled line.now) result }
 {
-    let words = match split_words(alloc, line) {
-        Ok(words) => words,
-        Err(fault) => return Err(fault),
-    };
-    match read_words(alloc, words.as_slice()) {
-        Ok(command) => Ok(Some(command)),
-        Err(fault) => Err(fault),
-    }
+    let words = split_words(alloc, line)?;
+    let command = read_words(alloc, words.as_slice())?;
+    Ok(Some(command))
 }
 
 /// The command of a line, or none where the line is blank or a comment.
@@ -40,10 +35,7 @@ fn read_command(alloc: Global, line: &[u8]) -> Result<Option<Command>, ScriptFau
 pub fn read_line(alloc: Global, line: &[u8]) -> Result<Option<Command>, ScriptFault>
     ensures { Answers (command_of_line line.now) result }
 {
-    match check_utf8(line) {
-        Ok(()) => {}
-        Err(fault) => return Err(fault),
-    }
+    check_utf8(line)?;
     if begins_comment(behind_separators(line)) {
         Ok(None)
     } else {

@@ -144,13 +144,11 @@ fn front_word(alloc: Global, text: &[u8]) -> Result<(Vec<u8>, &[u8]), ScriptFaul
     } else {
         bare(alloc, text)
     };
-    match found {
-        Ok((word, behind)) => if ends_word(behind) {
-            Ok((word, behind))
-        } else {
-            Err(ScriptFault::BadQuoting)
-        },
-        Err(fault) => Err(fault),
+    let (word, behind) = found?;
+    if ends_word(behind) {
+        Ok((word, behind))
+    } else {
+        Err(ScriptFault::BadQuoting)
     }
 }
 
@@ -171,10 +169,7 @@ pub fn split_words(alloc: Global, line: &[u8]) -> Result<Items<Text>, ScriptFaul
     let mut words = Vec::new(alloc);
     let mut rest = behind_separators(line);
     while !rest.is_empty() {
-        let (bytes, behind) = match front_word(alloc, rest) {
-            Ok(found) => found,
-            Err(fault) => return Err(fault),
-        };
+        let (bytes, behind) = front_word(alloc, rest)?;
         let Some(word) = text_of_bytes(bytes) else {
             return Err(ScriptFault::BadQuoting);
         };

@@ -7,12 +7,14 @@ use Rattle.planner_core.specs.Lines.{Planned}
 use Rattle.script_reader.specs.declared.command.ScriptFault.{ScriptFault}
 use Rattle.script_reader.specs.declared.command.ScriptFault.TheVariants as fault
 use Rattle.script_reader.specs.Reading.{Answers}
-use Rattle.script_runner.specs.declared.run.ScriptEnd.TheVariants.{TooManyLines, WriteFault}
+use Rattle.script_lines.specs.declared.ends.ScriptEnd.{ScriptEnd}
+use Rattle.script_lines.specs.declared.ends.ScriptEnd.TheVariants.{Done, NoMemory, SomeRefused, TooManyLines, WriteFault}
 use Rattle.script_runner.specs.Answers.{is_no_memory}
 use Rattle.script_runner.specs.Leaves.{Leaves}
-use Rattle.script_runner.specs.Lines.{lines_of}
+use Rattle.script_lines.specs.Lines.{lines_of}
 use Rattle.script_runner.specs.Scripts.{EndsScript, is_cut}
-use Rattle.script_runner.specs.Writing.{AppendsFront}
+use Rattle.script_runner.specs.TrialLines.{TellsMany}
+use Rattle.script_lines.specs.Writing.{AppendsFront}
 
 -- a fault that is told
 pub fault_read : {A : Type 0} (reading : Result A ScriptFault → Type 0) (why : ScriptFault) → Answers reading (Err why) → is_no_memory why ≡ false → reading (Err why)
@@ -40,3 +42,12 @@ pub cuts_long : (first : Planned) (script : List ℕ) (solved : List SolveAnswer
 unfolding EndsScript
 cuts_long first script solved before after steps none many front =
     record { text = codes "too long script lines\n"; work = 0; ends = inr (record { many = many; none = none; told = refl; takes = refl }); adds = front; steps = omega arith; later = omega arith }
+
+-- a script of too many lines, told or cut off
+pub ends_many : (first : Planned) (script : List ℕ) (solved : List SolveAnswer) (before after : Option (List ℕ)) (steps : ℕ) (end : ScriptEnd) → solved ≡ [] → 100_000 < length (lines_of script) → TellsMany before after end
+    → Leaves (EndsScript first script solved) is_cut before after steps steps end
+ends_many first script solved before after steps TooManyLines none many told = ends_long first script solved before after steps none many told
+ends_many first script solved before after steps WriteFault none many told = cuts_long first script solved before after steps none many told
+ends_many first script solved before after steps Done none many told = absurd told
+ends_many first script solved before after steps SomeRefused none many told = absurd told
+ends_many first script solved before after steps NoMemory none many told = absurd told

@@ -14,5 +14,3 @@ pub mod PairLemmas
 pub mod NewlineLemmas
 pub mod CertificateLemmas
 pub mod RecheckLemmas
-pub mod LinesLemmas
-pub mod WritingLemmas

@@ -1,12 +1,13 @@
 -- A session grows by one line.
 use Rattle.std.proofs.Common.{◌≡◌, ◌+◌, ◌++◌, ◌∷◌, [], ℕ, zero, suc, List, length, map, arith, ap, sym, subst, refl, ◌∙◌, append-nil}
-use Rattle.std.specs.Prelude.{All, Bool, true, false, ◌||◌, Ok, Option, Some, None, option_to_list}
+use Rattle.std.specs.Prelude.{All, ◌||◌, Ok, Option, Some, None, option_to_list}
 use Rattle.std.specs.List.{cons_option, range_with_len}
 use Rattle.std.proofs.lemmas.List.{map-append, length-append}
 use Rattle.std.proofs.lemmas.List.Elements.{All-append, All-cons, All-nil, filter_map-append}
 use Rattle.std.proofs.lemmas.List.Concat.{flat_map-append}
 use Rattle.std.proofs.lemmas.List.Folds.{list_any-append}
 use Rattle.std.proofs.lemmas.List.Sums.{sum_by-append}
+use Rattle.plan_base.proofs.Bools.{or_false}
 use Rattle.edit_undo.specs.Edits.{apply_edits}
 use Rattle.edit_undo.specs.Kept.{session_of}
 use Rattle.edit_undo.specs.Session.{active_edits}
@@ -47,12 +48,8 @@ session_more first lines answers a s is number = record {
 pub report_more : (answers : List Answered) (a : Answered) → report (answers ++ a ∷ []) ≡ report answers ++ text_of a
 report_more answers a = flat_map-append text_of answers (a ∷ []) ∙ ap (λ t. report answers ++ t) (append-nil (text_of a))
 
-any_one : (b : Bool) → (b || false) ≡ b
-any_one true = refl
-any_one false = refl
-
 pub refused_more : (answers : List Answered) (a : Answered) → some_refused (answers ++ a ∷ []) ≡ (some_refused answers || is_refusal a)
-refused_more answers a = list_any-append is_refusal answers (a ∷ []) ∙ ap (λ b. some_refused answers || b) (any_one (is_refusal a))
+refused_more answers a = list_any-append is_refusal answers (a ∷ []) ∙ ap (λ b. some_refused answers || b) (or_false (is_refusal a))
 
 one_kept : {X : Type 0} (o : Option X) → cons_option o [] ≡ option_to_list o
 one_kept None = refl

@@ -6,20 +6,21 @@ use Rattle.std.proofs.lemmas.List.{length-append}
 use Rattle.std.proofs.lemmas.List.Concat.{flat_map-append}
 use Rattle.std.proofs.lemmas.List.Folds.{list_any-append}
 use Rattle.std.proofs.lemmas.List.Sums.{sum_by-append}
+use Rattle.plan_base.proofs.Bools.{or_false}
 use Rattle.planner_core.specs.Lines.{Planned}
 use Rattle.certificate_file.specs.declared.CertEntry.{CertEntry}
 use Rattle.script_runner.specs.Checks.{EndsCheck, JudgesAll, JudgesSome}
 use Rattle.script_runner.specs.Leaves.{Leaves}
-use Rattle.script_runner.specs.Lines.{lines_of}
+use Rattle.script_lines.specs.Lines.{lines_of}
 use Rattle.script_runner.specs.Scripts.{is_cut}
 use Rattle.script_runner.specs.TrialLines.{IsTallyTold, JudgesLine, TellsTally}
 use Rattle.script_runner.specs.Trials.{IsJudged, IsTrial, Judged, form_count, is_form, is_passed, is_said_refused, is_shown, judged_text, judged_work, proved_count, some_said_refused, tally_line, trial_text, trial_work}
-use Rattle.script_runner.specs.Writing.{Adds, AppendsFront}
-use Rattle.script_runner.specs.declared.run.ScriptEnd.{ScriptEnd}
-use Rattle.script_runner.specs.declared.run.ScriptEnd.TheVariants.{Done, SomeRefused, TooManyLines, WriteFault, NoMemory}
+use Rattle.script_lines.specs.Writing.{Adds, AppendsFront}
+use Rattle.script_lines.specs.declared.ends.ScriptEnd.{ScriptEnd}
+use Rattle.script_lines.specs.declared.ends.ScriptEnd.TheVariants.{Done, SomeRefused, TooManyLines, WriteFault, NoMemory}
 use Rattle.script_runner.specs.declared.trial.Note.{Note}
 use Rattle.script_runner.proofs.SoFarLemmas.{all_taken, drop_next}
-use Rattle.script_runner.proofs.WritingLemmas.{appends_both, appends_none, front_after}
+use Rattle.script_lines.proofs.WritingLemmas.{appends_both, appends_none, front_after}
 
 -- ---- one more line
 pub trial_more : (entries : List CertEntry) (number : ℕ) (first now : Planned) (lines : List (List ℕ)) (judged : List Judged) (a : Judged) (line : List ℕ) (next : Planned) → IsTrial entries number first lines judged now → IsJudged entries a
@@ -36,12 +37,8 @@ trial_more entries number first now (l ∷ lines) (b ∷ judged) a line next tri
 text_more : (judged : List Judged) (a : Judged) → trial_text (judged ++ a ∷ []) ≡ trial_text judged ++ judged_text a
 text_more judged a = flat_map-append judged_text judged (a ∷ []) ∙ ap (λ t. trial_text judged ++ t) (append-nil (judged_text a))
 
-any_one : (b : Bool) → (b || false) ≡ b
-any_one true = refl
-any_one false = refl
-
 refused_more : (judged : List Judged) (a : Judged) → some_said_refused (judged ++ a ∷ []) ≡ (some_said_refused judged || is_said_refused a.said)
-refused_more judged a = list_any-append (λ b. is_said_refused b.said) judged (a ∷ []) ∙ ap (λ b. some_said_refused judged || b) (any_one (is_said_refused a.said))
+refused_more judged a = list_any-append (λ b. is_said_refused b.said) judged (a ∷ []) ∙ ap (λ b. some_said_refused judged || b) (or_false (is_said_refused a.said))
 
 work_more : (judged : List Judged) (a : Judged) → trial_work (judged ++ a ∷ []) ≡ trial_work judged + judged_work a
 work_more judged a = let same : trial_work judged + (0 + judged_work a) ≡ trial_work judged + judged_work a = omega arith in sum_by-append judged_work judged (a ∷ []) ∙ same

@@ -10,5 +10,3 @@ pub mod TrialLines
 pub mod Alike
 pub mod Rechecks
 pub mod Verdicts
-pub mod Lines
-pub mod Writing

@@ -2,10 +2,10 @@
 use Rattle.std.specs.Prelude.{◌≡◌, ◌⊎◌, ◌<◌, ◌≤◌, ℕ, Bool, true, false, List, [], codes, length, take}
 use Rattle.linear_table.specs.declared.SolveAnswer.{SolveAnswer}
 use Rattle.planner_core.specs.Lines.{Planned}
-use Rattle.script_runner.specs.declared.run.ScriptEnd.{ScriptEnd}
-use Rattle.script_runner.specs.declared.run.ScriptEnd.TheVariants.{Done, SomeRefused, TooManyLines, WriteFault, NoMemory}
+use Rattle.script_lines.specs.declared.ends.ScriptEnd.{ScriptEnd}
+use Rattle.script_lines.specs.declared.ends.ScriptEnd.TheVariants.{Done, SomeRefused, TooManyLines, WriteFault, NoMemory}
 use Rattle.script_runner.specs.Answers.{Answered}
-use Rattle.script_runner.specs.Lines.{lines_of}
+use Rattle.script_lines.specs.Lines.{lines_of}
 use Rattle.script_runner.specs.Sessions.{IsSession, report, solutions, some_refused, work}
 
 -- the text is the report of a session of these lines, what the solver answered is what its replies tell, and the steps are those

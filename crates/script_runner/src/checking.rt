@@ -1,43 +1,21 @@
 //! The lines of a script, checked against claims.
-ghost use Rattle.std.specs.Prelude.{◌≡◌, ◌≤◌, ◌<◌, false, true, if◌then◌else◌, length};
+ghost use Rattle.std.specs.Prelude.{◌≡◌, ◌≤◌, if◌then◌else◌, length};
 ghost use Rattle.plan_io.specs.Causes.{Rose};
 ghost use Rattle.state_changes.specs.States.{State};
 ghost use Rattle.planner_core.specs.Lines.{IsSessionOf};
 ghost use Rattle.script_runner.specs.Checks.{EndsCheck};
 ghost use Rattle.script_runner.specs.Leaves.{Leaves};
-ghost use Rattle.script_runner.specs.Lines.{lines_of};
+ghost use Rattle.script_lines.specs.Lines.{lines_of};
 ghost use Rattle.script_runner.specs.Scripts.{is_cut};
-ghost use Rattle.script_runner.specs.TrialLines.{TellsMany, TellsTally};
+ghost use Rattle.script_runner.specs.TrialLines.{TellsTally};
 
-use crate::run::{LINE_LIMIT, ScriptEnd};
 use crate::trial::judge_line;
-use crate::{line_count, split_line, trim_return, write_all};
 use certificate_file::CertEntry;
 use plan_base::Steps;
 use plan_io::Sink;
 use planner_core::Planner;
+use script_lines::{Lines, ScriptEnd, write_all};
 use std::alloc::Global;
-
-/// Whether a script has more lines than it may.
-pub fn has_many_lines(script: &[u8]) -> bool
-    ensures many { result ≡ true → 100_000 < length (lines_of script.now) }
-    ensures few { result ≡ false → length (lines_of script.now) ≤ 100_000 }
-{
-    line_count(script) > LINE_LIMIT
-}
-
-/// Tells that a script has more lines than it may.
-pub fn tell_many_lines<K: Sink>(out: &mut K) -> ScriptEnd
-    ensures tells { TellsMany (K.written out.old) (K.written out.new) result }
-    ensures limit { K.limit out.new ≡ K.limit out.old }
-    ensures later { K.faults out.old ≤ K.faults out.new }
-    ensures failed { result ≡ ScriptEnd.WriteFault → Rose (K.faults out.old) (K.faults out.new) }
-{
-    match write_all(out, b"too long script lines\n") {
-        Ok(()) => ScriptEnd::TooManyLines,
-        Err(_) => ScriptEnd::WriteFault,
-    }
-}
 
 fn one_if(test: bool) -> u32
     ensures { result ≡ (if test then 1 else 0) }
@@ -90,14 +68,12 @@ pub fn check_lines<K: Sink, L>(
     ensures later { K.faults out.old ≤ K.faults out.new }
     ensures failed { result ≡ ScriptEnd.WriteFault → Rose (K.faults out.old) (K.faults out.new) }
 {
-    let mut rest = script;
-    let mut count: u32 = 0;
+    let mut lines = Lines::behind(0, script);
     let mut refused = false;
     let mut proved: u32 = 0;
     let mut forms: u32 = 0;
-    while !rest.is_empty() {
-        let (line, more) = split_line(rest);
-        let note = match judge_line(alloc, planner, entries, count + 1, trim_return(line), steps) {
+    while let Some(line) = lines.next() {
+        let note = match judge_line(alloc, planner, entries, line.number, line.bytes, steps) {
             Ok(note) => note,
             Err(_) => return ScriptEnd::NoMemory,
         };
@@ -105,8 +81,6 @@ pub fn check_lines<K: Sink, L>(
             Ok(()) => {}
             Err(_) => return ScriptEnd::WriteFault,
         }
-        rest = more;
-        count += 1;
         refused |= note.refused;
         proved += one_if(note.proved);
         forms += one_if(note.form);

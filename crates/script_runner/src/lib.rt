@@ -4,8 +4,6 @@
 mod answer;
 mod checking;
 mod laws;
-mod lines;
-mod output;
 mod proving;
 mod reading;
 mod report;
@@ -15,14 +13,13 @@ mod trial;
 mod verdict;
 
 pub use answer::{is_refusal, reply_to};
-pub use checking::{check_lines, has_many_lines, tell_many_lines};
+pub use checking::check_lines;
 pub use laws::{
     certificates_prove_their_script, lines_lead_to_one_planner, planners_grow_from_the_base,
     plans_cost_least,
 };
-pub use lines::{line_count, split_line, trim_return};
-pub use output::write_all;
 pub use proving::prove_script;
-pub use reading::reading_of;
-pub use run::{LINE_LIMIT, ScriptEnd, run_script};
+pub use reading::{fault_code, reading_of};
+pub use run::{run_script, tell_many_lines};
+pub use trial::pose;
 pub use verdict::{Verdict, is_proved, verdict_line, verdict_on};

@@ -2,25 +2,24 @@
 ghost use Rattle.std.specs.Prelude.{◌≡◌, ◌≤◌, ◌++◌, ◌∷◌, [], codes, MatchResult, IfOk, OnOk, OnErr, length, option_map, option_to_list};
 ghost use Rattle.std.specs.Io.KnownBytes.{Appends};
 ghost use Rattle.plan_io.specs.Causes.{HasCause, Rose};
-ghost use Rattle.script_runner.specs.Writing.{AppendsFront};
+ghost use Rattle.script_lines.specs.Writing.{AppendsFront};
 ghost use Rattle.state_changes.specs.States.{State};
 ghost use Rattle.planner_core.specs.Lines.{IsSessionOf};
 ghost use Rattle.script_runner.specs.Certificates.{claim_of, end_of, EndsProof, entry_for, IsEntered, IsEnteredInPart};
 ghost use Rattle.script_runner.specs.Leaves.{Leaves};
-ghost use Rattle.script_runner.specs.Lines.{lines_of};
+ghost use Rattle.script_lines.specs.Lines.{lines_of};
 ghost use Rattle.script_runner.specs.Scripts.{is_cut};
 
 use crate::answer::answer_line;
-use crate::checking::{has_many_lines, tell_many_lines};
-use crate::run::ScriptEnd;
+use crate::run::tell_many_lines;
 use crate::solutions::keep;
-use crate::{split_line, trim_return, write_all};
 use certificate_file::{CertEntry, Claim, write_cert};
 use fractions::Ratio;
 use linear_table::{Plan, SolveAnswer};
 use plan_base::{Items, NoMemory, Steps, Text};
 use plan_io::{Failed, Sink};
 use planner_core::Planner;
+use script_lines::{Lines, ScriptEnd, has_many_lines, write_all};
 use state_changes::put;
 use std::alloc::Global;
 
@@ -107,16 +106,14 @@ fn answer_all<L>(
     ensures history { (base : State) → IsSessionOf base planner.old → IsSessionOf base planner.new }
     ensures later { steps.old ≤ steps.new }
 {
-    let mut rest = script;
-    let mut count: u32 = 0;
+    let mut lines = Lines::behind(0, script);
     let mut refused = false;
-    while !rest.is_empty() {
-        let (line, more) = split_line(rest);
-        let told = match answer_line(alloc, planner, count + 1, trim_return(line), steps) {
+    while let Some(line) = lines.next() {
+        let told = match answer_line(alloc, planner, line.number, line.bytes, steps) {
             Ok(told) => told,
             Err(_) => return Err(NoMemory),
         };
-        match enter(alloc, entries, count + 1, &told.solved) {
+        match enter(alloc, entries, line.number, &told.solved) {
             Ok(()) => {}
             Err(_) => return Err(NoMemory),
         }
@@ -124,8 +121,6 @@ fn answer_all<L>(
             Ok(()) => {}
             Err(_) => return Err(NoMemory),
         }
-        rest = more;
-        count += 1;
         refused |= told.refused;
     }
     Ok(refused)

@@ -41,7 +41,8 @@ pub fn reading_of(alloc: Global, line: &[u8]) -> Result<Reading, NoMemory>
     }
 }
 
-fn fault_code(fault: ScriptFault) -> RefusalCode
+/// The code of a line that can't be read.
+pub fn fault_code(fault: ScriptFault) -> RefusalCode
     ensures { result ≡ fault_code fault }
 {
     match fault {

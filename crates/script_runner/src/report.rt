@@ -4,17 +4,16 @@ ghost use Rattle.plan_io.specs.Causes.{Rose};
 ghost use Rattle.state_changes.specs.States.{State};
 ghost use Rattle.planner_core.specs.Lines.{IsSessionOf};
 ghost use Rattle.script_runner.specs.Leaves.{Leaves};
-ghost use Rattle.script_runner.specs.Lines.{lines_of};
+ghost use Rattle.script_lines.specs.Lines.{lines_of};
 ghost use Rattle.script_runner.specs.Scripts.{is_cut, EndsScript};
 
 use crate::answer::answer_line;
-use crate::run::ScriptEnd;
 use crate::solutions::keep;
-use crate::{split_line, trim_return, write_all};
 use linear_table::SolveAnswer;
 use plan_base::Steps;
 use plan_io::Sink;
 use planner_core::Planner;
+use script_lines::{Lines, ScriptEnd, write_all};
 use std::alloc::Global;
 
 /// Answers each line, and writes its reply before the next line is answered.
@@ -34,12 +33,10 @@ pub fn answer_lines<K: Sink, L>(
     ensures later { K.faults out.old ≤ K.faults out.new }
     ensures failed { result ≡ ScriptEnd.WriteFault → Rose (K.faults out.old) (K.faults out.new) }
 {
-    let mut rest = script;
-    let mut count: u32 = 0;
+    let mut lines = Lines::behind(0, script);
     let mut refused = false;
-    while !rest.is_empty() {
-        let (line, more) = split_line(rest);
-        let told = match answer_line(alloc, planner, count + 1, trim_return(line), steps) {
+    while let Some(line) = lines.next() {
+        let told = match answer_line(alloc, planner, line.number, line.bytes, steps) {
             Ok(told) => told,
             Err(_) => return ScriptEnd::NoMemory,
         };
@@ -51,8 +48,6 @@ pub fn answer_lines<K: Sink, L>(
             Ok(()) => {}
             Err(_) => return ScriptEnd::WriteFault,
         }
-        rest = more;
-        count += 1;
         refused |= told.refused;
     }
     if refused {

@@ -5,31 +5,27 @@ ghost use Rattle.state_changes.specs.States.{State};
 ghost use Rattle.planner_core.specs.Lines.{IsSessionOf};
 ghost use Rattle.script_runner.specs.Leaves.{Leaves};
 ghost use Rattle.script_runner.specs.Scripts.{EndsScript, is_cut};
+ghost use Rattle.script_runner.specs.TrialLines.{TellsMany};
 
 use crate::report::answer_lines;
-use crate::{line_count, write_all};
 use linear_table::SolveAnswer;
 use plan_base::Steps;
 use plan_io::Sink;
 use planner_core::Planner;
+use script_lines::{ScriptEnd, has_many_lines, write_all};
 use std::alloc::Global;
 
-/// The most lines that a script may have.
-pub const LINE_LIMIT: usize = 100_000;
-
-/// How the lines of a script ended.
-#[derive(Clone, Copy, Debug, PartialEq, Eq)]
-pub enum ScriptEnd {
-    /// Every line was answered, and no reply is a refusal.
-    Done,
-    /// Every line was answered, and some reply is a refusal.
-    SomeRefused,
-    /// The script has too many lines, and none was answered.
-    TooManyLines,
-    /// The report could not be written.
-    WriteFault,
-    /// Memory could not be had.
-    NoMemory,
+/// Tells that a script has more lines than it may.
+pub fn tell_many_lines<K: Sink>(out: &mut K) -> ScriptEnd
+    ensures tells { TellsMany (K.written out.old) (K.written out.new) result }
+    ensures limit { K.limit out.new ≡ K.limit out.old }
+    ensures later { K.faults out.old ≤ K.faults out.new }
+    ensures failed { result ≡ ScriptEnd.WriteFault → Rose (K.faults out.old) (K.faults out.new) }
+{
+    match write_all(out, b"too long script lines\n") {
+        Ok(()) => ScriptEnd::TooManyLines,
+        Err(_) => ScriptEnd::WriteFault,
+    }
 }
 
 /// Answers each line of a script by the planner, and writes its reply before the next line is answered. What the solver answered
@@ -49,11 +45,8 @@ pub fn run_script<K: Sink, L>(
     ensures later { K.faults out.old ≤ K.faults out.new }
     ensures failed { result ≡ ScriptEnd.WriteFault → Rose (K.faults out.old) (K.faults out.new) }
 {
-    if line_count(script) > LINE_LIMIT {
-        return match write_all(out, b"too long script lines\n") {
-            Ok(()) => ScriptEnd::TooManyLines,
-            Err(_) => ScriptEnd::WriteFault,
-        };
+    if has_many_lines(script) {
+        return tell_many_lines(out);
     }
     answer_lines(alloc, planner, script, out, solved, steps)
 }

@@ -46,8 +46,12 @@ fn table_asked(alloc: Global, reading: &Reading) -> Result<Text, NoMemory>
     }
 }
 
-// Carries out what a line is read as, with nothing solved.
-fn pose<L>(
+/// Carries out what a line is read as, with nothing solved.
+///
+/// # Errors
+///
+/// `NoMemory` where memory could not be had. Then all is as before.
+pub fn pose<L>(
     planner: &mut Planner,
     number: u32,
     reading: Reading,

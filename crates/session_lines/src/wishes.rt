@@ -1,10 +1,10 @@
 //! What answers wishes.
 ghost use Rattle.std.specs.Prelude.{◌≡◌};
 
+use catalog_text::ShownFields;
 use plan_base::{NoMemory, Steps};
 use plan_report::RefusalCode;
 use planner_core::Planner;
-use shown_fields::ShownFields;
 use std::alloc::Global;
 
 /// The answer to a wish.

@@ -2,6 +2,7 @@
 use Rattle.std.proofs.Common.{◌≡◌, ◌∙◌, ℕ, ◌+◌, ◌<◌, ◌≤◌, ◌||◌, ◌&&◌, zero, suc, Bool, false, true, List, [], ◌∷◌, ◌++◌, Option, None, Some, Ok, Err, length, get_or, drop, refl, sym, ap, subst, arith}
 use Rattle.std.specs.List.{list_all, list_any}
 use Rattle.std.proofs.lemmas.List.{append_assoc, append-nil, drop_all, drop_more}
+use Rattle.std.proofs.lemmas.Bool.{or_parts}
 use Rattle.plan_base.specs.declared.ids.NodeId.{NodeId}
 use Rattle.plan_base.specs.declared.shape.Shape.{Shape}
 use Rattle.graph_store.specs.Rows.{has_node}
@@ -31,7 +32,7 @@ use Rattle.table_words.specs.declared.refusals.TableRefusal.{TableRefusal}
 use Rattle.planner_tables.specs.declared.undos.TableUndo.{TableUndo}
 use Rattle.planner_tables.specs.Effects.{AreSoundTables, IsSoundOn, is_of_tables, tables_effect}
 use Rattle.planner_tables.specs.Undoing.{tables_restored}
-use Rattle.table_laws.proofs.Edited.{edit_kept, goods_kept}
+use Rattle.production_table.proofs.Edited.{edit_kept, goods_kept}
 use Rattle.state_changes.specs.declared.refusals.Refusal.{Refusal}
 use Rattle.state_changes.specs.declared.refusals.Refusal.TheVariants.{OfEdit, OfTables}
 use Rattle.state_changes.specs.declared.undos.Undo.{Undo}
@@ -208,11 +209,6 @@ any-append : {A : Type 0} (test : A → Bool) (xs ys : List A) → list_any test
 any-append test [] ys = refl
 any-append test (x ∷ xs) ys = elim (test x) as (λ b. (b || list_any test (xs ++ ys)) ≡ ((b || list_any test xs) || list_any test ys)) [ true ↦ refl | false ↦ any-append test xs ys ]
 
-neither : (a b : Bool) → (a || b) ≡ false → (a ≡ false) × (b ≡ false)
-neither false false e = (refl, refl)
-neither false true e = absurd cc
-neither true b e = absurd cc
-
 all-append : {A : Type 0} (test : A → Bool) (xs ys : List A) → list_all test xs ≡ true → list_all test ys ≡ true → list_all test (xs ++ ys) ≡ true
 all-append test [] ys a b = b
 all-append test (x ∷ xs) ys a b =
@@ -290,11 +286,11 @@ tables-more undos i d old tables new inside e f =
 -- ---- one more change
 pub untouched-more : (old : Book) (edits more : List Edit) (n : ℕ) → is_touched old (edits ++ more) n ≡ false → (is_touched old edits n ≡ false) × (is_touched old more n ≡ false)
 untouched-more old edits more n e =
-    neither (is_touched old edits n) (is_touched old more n) (sym (any-append (λ edit. has_node (touched_by (shape_of old.game) edit) n) edits more) ∙ e)
+    or_parts (is_touched old edits n) (is_touched old more n) (sym (any-append (λ edit. has_node (touched_by (shape_of old.game) edit) n) edits more) ∙ e)
 
 pub untouched-one : (old : Book) (change : Change) (edit : Edit) (n : ℕ) → edit_named old.game change ≡ Ok (Some edit) → is_touched old (edits_named old.game (change ∷ [])) n ≡ false → has_node (touched_by (shape_of old.game) edit) n ≡ false
 untouched-one old change edit n named e =
-    (neither (has_node (touched_by (shape_of old.game) edit) n) false (ap (λ (o : Outcome (Option Edit)). is_touched old (edit_and o []) n) (sym named) ∙ e)).0
+    (or_parts (has_node (touched_by (shape_of old.game) edit) n) false (ap (λ (o : Outcome (Option Edit)). is_touched old (edit_and o []) n) (sym named) ∙ e)).0
 
 pub next-book : (old new : Book) (tables : List ProductionTable) (change : Change) (edits more_edits : List Edit) (undos more_undos : List Undo) (edit : Edit) (part : Inverse)
     → can_be_held change ≡ true → is_of_tables change ≡ false → AppliesOne old change edit part new → more_edits ≡ edits ++ edit ∷ [] → more_undos ≡ undos ++ Part part ∷ [] → AreSoundTables old.game tables

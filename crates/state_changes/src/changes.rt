@@ -49,10 +49,9 @@ fn apply_change(
     ensures fault { IfErr result (λ fault. (refusal : Refusal) (milestones : List NodeId) (tables : List Table) → fault ≡ ChangeFault.Refused refusal → effect_of (state_of book.old milestones tables) change.now ≡ Err refusal) }
     ensures err { OnErr result (book.new ≡ book.old) }
 {
-    let edit = match edit_named(alloc, &book.game, change) {
-        Ok(Some(edit)) => edit,
-        Ok(None) => unreachable!(),
-        Err(fault) => return Err(fault),
+    let named = edit_named(alloc, &book.game, change)?;
+    let Some(edit) = named else {
+        unreachable!();
     };
     match apply_edit(alloc, book, &edit) {
         Ok(inverse) => Ok((edit, inverse)),

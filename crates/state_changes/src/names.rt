@@ -11,53 +11,6 @@ use plan_base::{GoodId, Kind, NodeId, RecipeId, Shape, TechId};
 use script_reader::Object;
 use std::alloc::Global;
 
-// The number of the first node of a kind.
-fn first_of(shape: &Shape, kind: Kind) -> u32
-    requires { node_count shape.now < 2 ^ 32 }
-    ensures { result ≡ first_of shape.now kind }
-{
-    match kind {
-        Kind::Special => 0,
-        Kind::Item => 3,
-        Kind::Fluid => 3 + shape.items,
-        Kind::Recipe => 3 + shape.items + shape.fluids,
-        Kind::Source => 3 + shape.items + shape.fluids + shape.recipes,
-        Kind::Machine => 3 + shape.items + shape.fluids + shape.recipes + shape.sources,
-        Kind::Tech => {
-            3 + shape.items + shape.fluids + shape.recipes + shape.sources + shape.machines
-        }
-    }
-}
-
-fn count_of(shape: &Shape, kind: Kind) -> u32
-    ensures { result ≡ count_of shape.now kind }
-{
-    match kind {
-        Kind::Special => 3,
-        Kind::Item => shape.items,
-        Kind::Fluid => shape.fluids,
-        Kind::Recipe => shape.recipes,
-        Kind::Source => shape.sources,
-        Kind::Machine => shape.machines,
-        Kind::Tech => shape.techs,
-    }
-}
-
-// How far the nodes of a kind go.
-fn within(shape: &Shape, kind: Kind)
-    ensures { first_of shape.now kind + count_of shape.now kind ≤ node_count shape.now }
-{
-    match kind {
-        Kind::Special => {}
-        Kind::Item => {}
-        Kind::Fluid => {}
-        Kind::Recipe => {}
-        Kind::Source => {}
-        Kind::Machine => {}
-        Kind::Tech => {}
-    }
-}
-
 /// The number of the first node of a kind, and the one behind its last.
 pub fn nodes_of(shape: &Shape, kind: Kind) -> (u32, u32)
     requires { node_count shape.now < 2 ^ 32 }
@@ -65,9 +18,8 @@ pub fn nodes_of(shape: &Shape, kind: Kind) -> (u32, u32)
     ensures end { result.1 ≡ first_of shape.now kind + count_of shape.now kind }
     ensures nodes { result.1 ≤ node_count shape.now }
 {
-    within(shape, kind);
-    let first = first_of(shape, kind);
-    (first, first + count_of(shape, kind))
+    let first = shape.first_of(kind);
+    (first, first + shape.count_of(kind))
 }
 
 /// The node that an object names.
@@ -97,9 +49,8 @@ fn place_named(alloc: Global, game: &Game, kind: Kind, object: &Object) -> Resul
     ensures place { Gives (place_named game.now kind object.now) result }
     ensures within { IfOk result (λ place. place < count_of (shape_of game.now) kind) }
 {
-    let first = first_of(&game.shape(), kind);
-    match game.find(kind, object.name.as_str()) {
-        Some(node) => Ok(node.0 - first),
+    match game.place_of(kind, object.name.as_str()) {
+        Some(place) => Ok(place),
         None => match object.copy(alloc) {
             Ok(copy) => Err(ChangeFault::Refused(Refusal::Unknown(copy))),
             Err(_) => Err(ChangeFault::NoMemory),

@@ -4,16 +4,13 @@ use Rattle.std.specs.Prelude.{Bool, true, false, nat_lt, ◌==◌, Option, Some,
 use Rattle.std.specs.List.{insert}
 use Rattle.std.proofs.lemmas.Bool.Decides.{nat_tests}
 use Rattle.std.proofs.lemmas.Option.{slice_get_read, slice_get_within}
+use Rattle.std.proofs.lemmas.Bool.{cond-true}
 use Rattle.fractions.specs.Fraction.{Fraction}
 use Rattle.plan_base.specs.declared.ids.GoodId.{GoodId}
 use Rattle.game_types.specs.declared.effects.Wide.{Wide}
 use Rattle.game_types.specs.Steps.{◌▸◌, added}
 use Rattle.table_rows.specs.Columns.{with_part}
 use Rattle.table_rows.specs.Places.{has_at, is_of, AllBelow, IsPlace, StartsFrom}
-
-pub first_branch : {A : Type 0} (b : Bool) (x y : A) → b ≡ true → (if b then x else y) ≡ x
-first_branch true x y h = refl
-first_branch false x y h = absurd (cc)
 
 pub second_branch : {A : Type 0} (b c : Bool) (x y z : A) → b ≡ false → c ≡ true → (if b then x else if c then y else z) ≡ y
 second_branch false true x y z h k = refl
@@ -67,7 +64,7 @@ part_new step good amount [] zero below behind none within = refl
 part_new step good amount [] (suc place) below behind none within = absurd (omega arith)
 part_new step good amount (q ∷ ps) zero below behind none within =
     let less : nat_lt good.0 q.0.0 ≡ true = grind (arith, nat_tests) in
-    first_branch (nat_lt good.0 q.0.0) _ _ less
+    cond-true (nat_lt good.0 q.0.0) _ _ less
 part_new step good amount (q ∷ ps) (suc place) below behind none within =
     part_behind step good amount q ps below.0
     ∙ ap (λ (r : Result (List (GoodId × Fraction)) Wide). r ▸ λ rest. Ok (q ∷ rest)) (part_new step good amount ps place below.1 behind none (omega arith))

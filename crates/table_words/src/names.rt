@@ -1,6 +1,6 @@
 //! What the words of tables name.
-ghost use Rattle.std.specs.Prelude.{◌≡◌, ◌+◌, ◌<◌, ◌^◌, ◌∷◌, ◌++◌, [], IfOk, IfSome, length, is_some};
-ghost use Rattle.plan_base.specs.Shape.{count_of, first_of, node_count};
+ghost use Rattle.std.specs.Prelude.{◌≡◌, ◌<◌, ◌∷◌, ◌++◌, [], IfOk, IfSome, length, is_some};
+ghost use Rattle.plan_base.specs.Shape.{count_of};
 ghost use Rattle.game_types.specs.Goods.{good_count};
 ghost use Rattle.std.specs.Bool.{OnTrue};
 ghost use Rattle.game_types.specs.Lookups.{item_at};
@@ -12,7 +12,7 @@ ghost use Rattle.table_words.specs.Refusals.{Gives};
 
 use crate::{ChangeFault, TableRefusal};
 use game_types::{Activity, BeaconGroup, Game, MachineKind, Setup};
-use plan_base::{EntityId, GoodId, Items, Kind, NoMemory, RecipeId, Shape, SourceId, TechId};
+use plan_base::{EntityId, GoodId, Items, Kind, NoMemory, RecipeId, SourceId, TechId};
 use script_reader::{Object, RowPart};
 use std::alloc::Global;
 
@@ -26,24 +26,6 @@ fn unknown(alloc: Global, object: &Object) -> ChangeFault
     }
 }
 
-// The number of the first node of a kind.
-fn first_of(shape: &Shape, kind: Kind) -> u32
-    requires { node_count shape.now < 2 ^ 32 }
-    ensures { result ≡ first_of shape.now kind }
-{
-    match kind {
-        Kind::Special => 0,
-        Kind::Item => 3,
-        Kind::Fluid => 3 + shape.items,
-        Kind::Recipe => 3 + shape.items + shape.fluids,
-        Kind::Source => 3 + shape.items + shape.fluids + shape.recipes,
-        Kind::Machine => 3 + shape.items + shape.fluids + shape.recipes + shape.sources,
-        Kind::Tech => {
-            3 + shape.items + shape.fluids + shape.recipes + shape.sources + shape.machines
-        }
-    }
-}
-
 #[tactic(auto, unfolding(crate::specs::Names::place_named))]
 // The place of a word's name among the names of a kind.
 fn place_named(alloc: Global, game: &Game, kind: Kind, object: &Object) -> Result<u32, ChangeFault>
@@ -51,9 +33,8 @@ fn place_named(alloc: Global, game: &Game, kind: Kind, object: &Object) -> Resul
     ensures place { Gives (place_named game.now kind object.now) result }
     ensures within { IfOk result (λ place. place < count_of (shape_of game.now) kind) }
 {
-    let first = first_of(&game.shape(), kind);
-    match game.find(kind, object.name.as_str()) {
-        Some(node) => Ok(node.0 - first),
+    match game.place_of(kind, object.name.as_str()) {
+        Some(place) => Ok(place),
         None => Err(unknown(alloc, object)),
     }
 }

@@ -12,10 +12,9 @@ use plan_report::printed_word;
 use production_table::Table;
 use std::alloc::Global;
 use wish_lines::{Notes, more_text, table_text};
-use wish_names::{NameFault, say_name_fault, say_wish_fault, wish_of};
 use wish_setups::{Met, Wish, WishFault};
 use wish_tables::{more_rows, wish_table};
-use wish_words::{Asked, AskedMore};
+use wish_words::{Asked, AskedMore, NameFault, say_name_fault, say_wish_fault, wish_of};
 
 /// The lines for a wish, with the wish that the words name and what meets it.
 #[derive(Drop)]

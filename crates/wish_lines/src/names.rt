@@ -139,15 +139,9 @@ pub fn push_label(game: &Game, setup: &Setup, label: &mut String) -> Result<(), 
 fn count_of(game: &Game, kind: Kind) -> u32
     requires { IsSound game.now }
 {
-    let shape = game.shape();
     match kind {
         Kind::Special => 1,
-        Kind::Item => shape.items,
-        Kind::Fluid => shape.fluids,
-        Kind::Recipe => shape.recipes,
-        Kind::Source => shape.sources,
-        Kind::Machine => shape.machines,
-        Kind::Tech => shape.techs,
+        kind => game.shape().count_of(kind),
     }
 }
 

@@ -1,28 +1,13 @@
 //! What is reached, and what of it is taken as it is.
 ghost use Rattle.std.specs.Prelude.{◌≡◌, ◌<◌, false, length, slice_get, slice_index_or};
 ghost use Rattle.std.specs.List.{list_any};
-ghost use Rattle.plan_base.specs.Shape.{count_of};
 ghost use Rattle.game_types.specs.Sound.{IsSound};
 ghost use Rattle.wish_setups.specs.Reach.{is_expected, is_good_reached, is_mined, is_reached, is_some_of, mines, source_gives};
 
 use fractions::is_positive;
 use game_types::{Game, Product};
-use plan_base::{GoodId, Kind, NoMemory, Shape};
+use plan_base::{GoodId, Kind, NoMemory};
 use std::alloc::Global;
-
-fn count_of(shape: &Shape, kind: Kind) -> u32
-    ensures { result ≡ count_of shape.now kind }
-{
-    match kind {
-        Kind::Special => 3,
-        Kind::Item => shape.items,
-        Kind::Fluid => shape.fluids,
-        Kind::Recipe => shape.recipes,
-        Kind::Source => shape.sources,
-        Kind::Machine => shape.machines,
-        Kind::Tech => shape.techs,
-    }
-}
 
 /// Whether a mark stands at a place.
 pub fn is_marked(marks: &[bool], place: usize) -> bool
@@ -59,7 +44,7 @@ pub fn is_reached(game: &Game, reached: &[bool], kind: Kind, place: u32) -> bool
     ensures { result ≡ is_reached game.now reached.now kind place }
 {
     let shape = game.shape();
-    if place < count_of(&shape, kind) {
+    if place < shape.count_of(kind) {
         is_marked(reached, shape.node_of(kind, place).0 as usize)
     } else {
         false

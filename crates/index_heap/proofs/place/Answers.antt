@@ -15,4 +15,4 @@ returns-then-is_same_key c =
 pub returns : goal.returns
 returns c =
     heap-written c.args.keys.now c.args.tree.now c.put.new.tree c.args.waiting.now c.args.node c.args.key c.requires.node c.requires.heap (sym c.may_wait.ensures ∙ c.if-may_wait.false)
-    c.put.ensures.long c.put.ensures.after (c.put.ensures.here ∙ c.with_node-2.ensures) c.put.ensures.others
+    c.put.ensures.long c.put.ensures.after (c.put.ensures.here ∙ c.encoded.ensures) c.put.ensures.others

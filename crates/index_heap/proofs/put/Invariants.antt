@@ -7,8 +7,9 @@ invariant-climb l = record {
   long : length l.tree ≡ 2 * l.fn.n;
   positive : 0 < l.j;
   inside : l.j < 2 * l.fn.n;
+  least : entry_at l.tree l.j ≡ l.least;
   but : AreLesserBut l.tree l.fn.n (l.j / 2);
-  here : entry_at l.tree l.fn.at ≡ l.fn.entry;
+  here : entry_at l.tree l.fn.at ≡ l.fn.number;
   others : (i : ℕ) → l.fn.n ≤ i → i < 2 * l.fn.n → (i ≡ l.fn.at → ⊥) → entry_at l.tree i ≡ entry_at l.fn.tree i;
 }
 

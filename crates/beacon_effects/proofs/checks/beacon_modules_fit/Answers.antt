@@ -1,21 +1,22 @@
 use Rattle.std.proofs.Common.{◌∙◌, sym}
 use Rattle.std.specs.Prelude.{ℕ}
+use Rattle.std.proofs.lemmas.List.{drop_more}
 use Rattle.plan_base.specs.declared.ids.GoodId.{GoodId}
 use Rattle.game_types.specs.Beacons.{beacon_module_fits, beacon_modules_fit}
-use Rattle.game_types.proofs.Walks.{next_at, fault_pass, fault_stop, fault_end, returned}
+use Rattle.game_types.proofs.Walks.{fault_pass, fault_stop, fault_end, returned}
 use Rattle.beacon_effects.proofs.checks.beacon_modules_fit.Goals as goal
 
 pub returns-in_err-beacon_module_fits : goal.returns-in_err-beacon_module_fits
 unfolding beacon_modules_fit
 returns-in_err-beacon_module_fits c =
     returned c.from_residual.result c.in_err-beacon_module_fits.field-0.0 c.from_residual.ensures ∙ sym (c.loop-good.invariant ∙ fault_stop (λ (m : GoodId × ℕ). beacon_module_fits c.args.game.now c.args.beacon.now c.args.machine.now c.args.activity.now m.0) _ _ _
-    c.in_err-beacon_module_fits.field-0.0 (next_at c.args.modules.now c.loop-good.good-index (record { 0 = 0 }, 0) c.loop-good-test.true) c.in_err-beacon_module_fits.ensures)
+    c.in_err-beacon_module_fits.field-0.0 (drop_more c.args.modules.now c.loop-good.good-index (record { 0 = 0 }, 0) c.loop-good-test.true) c.in_err-beacon_module_fits.ensures)
 
 pub loop-good-preserved : goal.loop-good-preserved
 unfolding beacon_modules_fit
 loop-good-preserved c =
     c.loop-good.invariant ∙ fault_pass (λ (m : GoodId × ℕ). beacon_module_fits c.args.game.now c.args.beacon.now c.args.machine.now c.args.activity.now m.0) _ _ _
-    (next_at c.args.modules.now c.loop-good.good-index (record { 0 = 0 }, 0) c.loop-good-test.true) c.in_ok-beacon_module_fits.ensures
+    (drop_more c.args.modules.now c.loop-good.good-index (record { 0 = 0 }, 0) c.loop-good-test.true) c.in_ok-beacon_module_fits.ensures
 
 pub returns : goal.returns
 unfolding beacon_modules_fit

@@ -1,5 +1,5 @@
 use Rattle.std.proofs.Common.{◌<◌, ◌≤◌, ◌+◌, ◌-◌, List, drop, length, subst, sym, arith}
-use Rattle.game_types.proofs.Walks.{drop_all, next}
+use Rattle.plan_base.proofs.Walks.{drop_all, next}
 use Rattle.fluid_variants.specs.declared.made.Made.{Made}
 use Rattle.fluid_variants.specs.Contents.{contents}
 use Rattle.fluid_variants.proofs.Contents.{PutSoFar, length_contents, put_done, put_next, put_rises}

@@ -1,7 +1,7 @@
 use Rattle.std.proofs.Common.{◌≡◌, ℕ, ◌<◌, ◌≤◌, ◌∙◌, ap, sym, arith}
-use Rattle.fractions.proofs.Printed.{gcd-one}
 use Rattle.fractions.specs.Gcd.{gcd, gcd-mod, gcd-zero, gcd_pos, gcd_comm, gcd-le_right}
 use Rattle.fractions.proofs.whole.small_divisor.Goals as goal
+use Rattle.fractions.proofs.Ceiling.{gcd-one}
 
 pub loop-b-preserved : goal.loop-b-preserved
 loop-b-preserved c = gcd-mod c.loop-b.a c.loop-b.b ∙ c.loop-b.invariant

@@ -4,7 +4,22 @@ use Rattle.json_text.specs.declared.lex.LexGo.TheVariants.{Goes}
 use Rattle.json_text.proofs.Lexed.{push_at, push_unmarked, no_end, from-bad, from-cut, said}
 use Rattle.std.specs.Prelude.{slice_range}
 use Rattle.json_text.proofs.Cuts.{lex_code}
+use Rattle.json_text.proofs.WideChars.{wide_at}
 use Rattle.json_text.proofs.scan.char_end.Goals as goal
+
+pub returns-then-is_wide : goal.returns-then-is_wide
+returns-then-is_wide c =
+    let h = c.is_wide.ensures c.if-is_wide.true in
+    let w = wide_at c.args.bytes.now c.args.at h in
+    record {
+      within = (omega arith, h.within);
+      runs = w.runs;
+      whole = w.whole;
+      unmarked = λ ne. w.unmarked;
+      cut = tt;
+      code = tt;
+      fault = tt;
+    }
 
 pub returns-in-Between-clause-runs : goal.returns-in-Between-clause-runs
 returns-in-Between-clause-runs c = (push_at c.args.bytes.now c.args.at c.bytes.i c.bytes.lex c.in-Goes.next (omega arith) (omega arith) c.bytes.invariant.runs c.bytes.invariant.end (sym c.lex_next.ensures ∙ c.in-Goes.is)).runs

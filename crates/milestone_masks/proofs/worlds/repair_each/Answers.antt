@@ -8,9 +8,9 @@ use Rattle.milestone_masks.proofs.worlds.repair_each.Goals as goal
 pub loop-i-preserved : goal.loop-i-preserved
 loop-i-preserved g c =
     let was : Milestone = get_or c.loop-i.milestones c.loop-i.i c.index-milestones-i.result in
-    let m : Milestone = record { node = was.node; ranks = c.repair.new.self } in
+    let m : Milestone = record { node = was.node; ranks = c.repair_above.new.self } in
     record {
-      heap = c.repair.ensures.heap ∙ c.loop-i.invariant.heap;
+      heap = c.repair_above.ensures.heap ∙ c.loop-i.invariant.heap;
       repaired = repaired-more
           (g.R.Rows.rows c.args.rows.now)
           c.args.barred.now
@@ -22,10 +22,10 @@ loop-i-preserved g c =
           c.loop-i-test.true
           c.loop-i.invariant.repaired
           (λ d. ap (λ (x : Milestone). x.node) (get_or_inside c.loop-i.milestones c.loop-i.i c.index-milestones-i.result d (omega (arith, c.loop-i.auto.milestones, c.loop-i-test.true))))
-          c.repair.ensures.ranks;
+          c.repair_above.ensures.ranks;
       steps = omega (
         arith,
-        c.repair.ensures.steps,
+        c.repair_above.ensures.steps,
         c.loop-i.invariant.steps,
         sizes-more
             (g.R.Rows.rows c.args.rows.now)
@@ -42,7 +42,7 @@ loop-i-preserved g c =
             (c.loop-i.invariant.repaired.left c.loop-i.i c.index-milestones-i.result (omega arith) c.loop-i-test.true
             ∙ get_or_inside c.args.milestones.now c.loop-i.i c.index-milestones-i.result m c.loop-i-test.true)),
       );
-      later = omega (arith, c.repair.ensures.later, c.loop-i.invariant.later);
+      later = omega (arith, c.repair_above.ensures.later, c.loop-i.invariant.later);
     }
 
 pub returns-clause-milestones : goal.returns-clause-milestones

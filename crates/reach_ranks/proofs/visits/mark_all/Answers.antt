@@ -7,6 +7,7 @@ loop-user-preserved c =
     marks-more
     c.args.comes
     c.args.k
+    c.args.floor.now
     c.args.ranks.now
     c.args.users.now
     c.loop-user.user-index

@@ -4,7 +4,7 @@ use Rattle.std.specs.Prelude.{◌==◌, slice_set}
 use Rattle.reach_ranks.specs.Rounds.{world}
 use Rattle.reach_ranks.specs.Given.{given, key_of, is_same_key}
 use Rattle.reach_ranks.proofs.RepairLemmas.{work_left-after}
-use Rattle.reach_ranks.proofs.MarkLemmas.{bounds-after, early-after, early-put, same_key-is}
+use Rattle.reach_ranks.proofs.MarkLemmas.{above-after, bounds-after, early-after, early-put, same_key-is}
 use Rattle.reach_ranks.proofs.visits.visit_least.Goals as goal
 
 right-is : (kept by_row given_is : ℕ) (right : Option ℕ) (key : Option ℕ) → by_row ≡ given_is → right ≡ key_of kept by_row → right ≡ key → key_of kept given_is ≡ key
@@ -58,6 +58,7 @@ returns-else-not-is_key-clause-keys g c =
     bounds-after
     (world (g.R.Rows.rows c.args.rows.now) c.args.barred.now c.args.granted.now c.args.extra)
     4294967295
+    c.args.floor.now
     c.args.ranks.now
     c.args.heap.now
     c.take_least.new.self
@@ -69,6 +70,8 @@ returns-else-not-is_key-clause-keys g c =
     (c.next_kept-next.result == c.in-Some.key)
     c.users-users.result.now
     c.requires.keys
+    c.requires.floor
+    c.requires.above
     c.in-Some.ensures.least
     (right-is (get_or c.args.ranks.now c.in-Some.node.0 0) c.given_rank-by_row.result (given (world (g.R.Rows.rows c.args.rows.now) c.args.barred.now c.args.granted.now c.args.extra) 4294967295 c.args.ranks.now c.in-Some.node.0) c.right_key.result (Some c.in-Some.key) c.given_rank-by_row.ensures.given c.right_key.ensures (same_key-is c.right_key.result c.in-Some.key (sym c.is_key.ensures ∙ c.if-not-is_key.false)))
     c.next_kept-next.ensures
@@ -100,6 +103,7 @@ returns-else-not-is_key-clause-steps g c =
       early-after
           (world (g.R.Rows.rows c.args.rows.now) c.args.barred.now c.args.granted.now c.args.extra)
           4294967295
+          c.args.floor.now
           c.args.ranks.now
           c.args.heap.now
           c.take_least.new.self
@@ -138,6 +142,7 @@ returns-else-not-is_key-clause-nearer g c = λ _.
       early-after
           (world (g.R.Rows.rows c.args.rows.now) c.args.barred.now c.args.granted.now c.args.extra)
           4294967295
+          c.args.floor.now
           c.args.ranks.now
           c.args.heap.now
           c.take_least.new.self
@@ -155,3 +160,20 @@ returns-else-not-is_key-clause-nearer g c = λ _.
           c.users-users.ensures.users
           c.mark_all.ensures.marks,
     )
+
+pub returns-else-not-is_key-clause-above : goal.returns-else-not-is_key-clause-above
+returns-else-not-is_key-clause-above g c =
+    above-after
+    (world (g.R.Rows.rows c.args.rows.now) c.args.barred.now c.args.granted.now c.args.extra)
+    4294967295
+    c.args.floor.now
+    c.args.ranks.now
+    c.in-Some.node.0
+    c.in-Some.key
+    c.next_kept-next.result
+    c.requires.floor
+    c.requires.above
+    (omega (arith, c.requires.keys.heap_long, c.in-Some.ensures.least.inside))
+    c.requires.keys.ranks_long
+    (right-is (get_or c.args.ranks.now c.in-Some.node.0 0) c.given_rank-by_row.result (given (world (g.R.Rows.rows c.args.rows.now) c.args.barred.now c.args.granted.now c.args.extra) 4294967295 c.args.ranks.now c.in-Some.node.0) c.right_key.result (Some c.in-Some.key) c.given_rank-by_row.ensures.given c.right_key.ensures (same_key-is c.right_key.result c.in-Some.key (sym c.is_key.ensures ∙ c.if-not-is_key.false)))
+    c.next_kept-next.ensures

@@ -1,12 +1,12 @@
 use Rattle.std.proofs.Common.{refl}
-use Rattle.script_reader.proofs.Readings.{answers_three, answers_first, answers_next, answers_gives, triples}
+use Rattle.script_reader.proofs.Readings.{answers_of_fault, answers_three, answers_first, answers_next, answers_gives, triples}
 use Rattle.script_reader.proofs.arguments.price_of_good.Goals as goal
 
-pub returns-in-Err : goal.returns-in-Err
-returns-in-Err c = answers_three _ _ _ _ _ _ c.in-Some.ensures (answers_first _ _ _ c.in-Err.ensures)
+pub returns-in_err-good : goal.returns-in_err-good
+returns-in_err-good c = answers_of_fault _ c.in_err-good.field-0.0 _ c.from_residual.ensures (answers_three _ _ _ _ _ _ c.in-Some.ensures (answers_first _ _ _ c.in_err-good.ensures))
 
-pub returns-in-Err-price_at : goal.returns-in-Err-price_at
-returns-in-Err-price_at c = answers_three _ _ _ _ _ _ c.in-Some.ensures (answers_next _ _ c.in-Ok.value _ c.in-Ok.ensures (answers_first _ _ _ c.in-Err-price_at.ensures))
+pub returns-in_err-price : goal.returns-in_err-price
+returns-in_err-price c = answers_of_fault _ c.in_err-price.field-0.0 _ c.from_residual-in_err-price.ensures (answers_three _ _ _ _ _ _ c.in-Some.ensures (answers_next _ _ c.in_ok-good.good _ c.in_ok-good.ensures (answers_first _ _ _ c.in_err-price.ensures)))
 
 pub returns : goal.returns
-returns c = answers_three _ _ _ _ _ _ c.in-Some.ensures (answers_next _ _ c.in-Ok.value _ c.in-Ok.ensures (answers_next _ _ c.in-Ok-price_at.value _ c.in-Ok-price_at.ensures (answers_gives _ _ (triples _ _ _ _ _ _ c.in-Ok-copy_text.ensures refl refl))))
+returns c = answers_three _ _ _ _ _ _ c.in-Some.ensures (answers_next _ _ c.in_ok-good.good _ c.in_ok-good.ensures (answers_next _ _ c.in_ok-price.price _ c.in_ok-price.ensures (answers_gives _ _ (triples _ _ _ _ _ _ c.in-Ok.ensures refl refl))))

@@ -1,9 +1,9 @@
 use Rattle.std.proofs.Common.{refl}
-use Rattle.script_reader.proofs.Readings.{answers_first, answers_next, answers_gives}
+use Rattle.script_reader.proofs.Readings.{answers_of_fault, answers_first, answers_next, answers_gives}
 use Rattle.script_reader.proofs.commands.rate.Goals as goal
 
-pub returns-in-Ok : goal.returns-in-Ok
-returns-in-Ok c = answers_next _ _ (c.in-Ok.table, c.in-Ok.label) _ c.in-Ok.ensures (answers_gives _ _ refl)
+pub returns : goal.returns
+returns c = answers_next _ _ (c.in_ok-table.table, c.in_ok-table.label) _ c.in_ok-table.ensures (answers_gives _ _ refl)
 
-pub returns-in-Err : goal.returns-in-Err
-returns-in-Err c = answers_first _ _ _ c.in-Err.ensures
+pub returns-in_err-table : goal.returns-in_err-table
+returns-in_err-table c = answers_of_fault _ c.in_err-table.field-0.0 _ c.from_residual.ensures (answers_first _ _ _ c.in_err-table.ensures)

@@ -1,0 +1,153 @@
+//! The answer to a wish.
+ghost use Rattle.std.specs.Prelude.{◌≡◌};
+
+use crate::words::push_words;
+use carried_lines::reached_nodes;
+use catalog_text::{ShownFields, shown_of};
+use clap::ArgMatches;
+use fractions::Ratio;
+use plan_base::{Kind, NoMemory, Steps, Text};
+use plan_report::RefusalCode;
+use planner_core::Planner;
+use session_lines::{Wished, Wishes};
+use std::alloc::Global;
+use wish_answers::{Failure, Found, found_lines};
+use wish_words::{Asked, WordFault, question, read_asked};
+
+// What is said of words that ask for nothing.
+fn said_of(alloc: Global, fault: WordFault<'_>) -> Result<Wished, NoMemory> {
+    let mut said = String::new(alloc);
+    fault.say(&mut said)?;
+    Ok(Wished::Unmet(said))
+}
+
+// Items a second of the belt that the words name, where they name one.
+fn belt_of(shown: &ShownFields, asked: &Asked<'_>) -> Option<Ratio> {
+    let name = asked.belt?.strip_prefix("item:")?;
+    shown_of(shown, Kind::Item, name)?.belt
+}
+
+fn lines_of(found: Found) -> String {
+    let Found {
+        text,
+        wish: _,
+        met: _,
+    } = found;
+    text
+}
+
+// The lines for a wish in a state that reaches these nodes.
+fn wished_in(
+    alloc: Global,
+    planner: &Planner,
+    reached: &[bool],
+    asked: &Asked<'_>,
+    belt: Option<Ratio>,
+) -> Result<Wished, NoMemory> {
+    let mut said = String::new(alloc);
+    match found_lines(
+        alloc,
+        planner.game(),
+        reached,
+        planner.tables(),
+        asked,
+        belt,
+        "?wish",
+        &mut said,
+    ) {
+        Ok(found) => Ok(Wished::Lines(lines_of(found))),
+        Err(Failure::NoMemory) => Err(NoMemory),
+        Err(_) => Ok(Wished::Unmet(said)),
+    }
+}
+
+// The answer to what the words ask for.
+fn wished<L>(
+    alloc: Global,
+    planner: &mut Planner,
+    shown: &ShownFields,
+    asked: &Asked<'_>,
+    steps: &mut Steps<L>,
+) -> Result<Wished, NoMemory>
+    ensures stays { planner.new ≡ planner.old }
+{
+    match reached_nodes(alloc, planner, steps)? {
+        Some(reached) => {
+            wished_in(
+                alloc,
+                planner,
+                reached.as_slice(),
+                asked,
+                belt_of(shown, asked),
+            )
+        }
+        None => Ok(Wished::Refused(RefusalCode::H3)),
+    }
+}
+
+fn matched<L>(
+    alloc: Global,
+    planner: &mut Planner,
+    shown: &ShownFields,
+    matches: &ArgMatches<'_>,
+    steps: &mut Steps<L>,
+) -> Result<Wished, NoMemory>
+    ensures stays { planner.new ≡ planner.old }
+{
+    match read_asked(alloc, matches) {
+        Ok(asked) => wished(alloc, planner, shown, &asked, steps),
+        Err(fault) => said_of(alloc, fault),
+    }
+}
+
+fn answer_words<L>(
+    alloc: Global,
+    planner: &mut Planner,
+    shown: &ShownFields,
+    words: &[Text],
+    steps: &mut Steps<L>,
+) -> Result<Wished, NoMemory>
+    ensures stays { planner.new ≡ planner.old }
+{
+    let command = question(alloc)?;
+    match command.try_get_matches_from(words) {
+        Ok(matches) => matched(alloc, planner, shown, &matches, steps),
+        Err(error) => Ok(Wished::Unmet(format!(in alloc; "{error}")?)),
+    }
+}
+
+// The answer to the words behind the first of a question.
+fn answer_line<L>(
+    alloc: Global,
+    planner: &mut Planner,
+    shown: &ShownFields,
+    line: &[u8],
+    steps: &mut Steps<L>,
+) -> Result<Wished, NoMemory>
+    ensures stays { planner.new ≡ planner.old }
+{
+    let mut words = Vec::new(alloc);
+    words.push(Text::copy(alloc, "?wish")?)?;
+    if push_words(alloc, &mut words, line)? {
+        answer_words(alloc, planner, shown, words.as_slice(), steps)
+    } else {
+        Ok(Wished::Refused(RefusalCode::Q4))
+    }
+}
+
+/// Wishes for tables: their words are those of factoplan_table without a dump and a script.
+#[derive(Drop)]
+pub struct TableWishes {}
+
+impl Wishes for TableWishes {
+    fn answer_wish<L>(
+        &self,
+        alloc: Global,
+        planner: &mut Planner,
+        shown: &ShownFields,
+        words: &[u8],
+        steps: &mut Steps<L>,
+    ) -> Result<Wished, NoMemory> {
+        answer_line(alloc, planner, shown, words, steps)
+    }
+}

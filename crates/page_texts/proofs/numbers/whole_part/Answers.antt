@@ -1,5 +1,0 @@
-use Rattle.page_texts.proofs.NumberLemmas.{whole_is}
-use Rattle.page_texts.proofs.numbers.whole_part.Goals as goal
-
-pub returns : goal.returns
-returns c = whole_is c.args.number.now c.rounded.result c.rounded.ensures

@@ -1,4 +1,0 @@
-pub mod Numbers
-pub mod Amounts
-pub mod Labels
-pub mod Pieces

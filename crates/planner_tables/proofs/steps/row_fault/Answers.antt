@@ -1,5 +1,0 @@
-use Rattle.table_words.specs.declared.refusals.TableRefusal.TheVariants.{NoName}
-use Rattle.planner_tables.proofs.steps.row_fault.Goals as goal
-
-pub returns-in_default : goal.returns-in_default
-returns-in_default c = λ refusal e. c.plain_fault.ensures refusal (NoName c.args.label.now) e

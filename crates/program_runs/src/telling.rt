@@ -1,0 +1,82 @@
+//! What is said of a run on standard error, by each program in its own name.
+use crate::files::whole_file;
+use craft_reader::DumpCode;
+use plan_base::Text;
+use plan_io::HostFault;
+use run_hints::{dump_name, hint, unread_hint};
+use run_inputs::{DUMP_LIMIT, Status};
+use std::alloc::Global;
+use std::env;
+use std::rt::{Env, Files};
+
+// The bytes of a dump whose text is no JSON, to tell the line and the column. What isn't kept, as a pipe, isn't read again.
+fn faulty_dump<R: Files>(
+    rt: &R,
+    alloc: Global,
+    status: &Status,
+    words: &[Text],
+) -> Option<Vec<u8>> {
+    let Status::BadDump(fault) = status else {
+        return None;
+    };
+    let DumpCode::Json(_) = fault.code else {
+        return None;
+    };
+    whole_file(rt, alloc, dump_name(words)?, DUMP_LIMIT)
+}
+
+/// What is said of a run with these words, without those of the certificate of this name, that ended so. None where memory could not
+/// be had.
+pub fn said_of<R: Files>(
+    rt: &R,
+    alloc: Global,
+    status: &Status,
+    words: &[Text],
+    cert: Option<&str>,
+) -> Option<Text> {
+    let dump = faulty_dump(rt, alloc, status, words);
+    hint(alloc, status, words, cert, dump.as_deref()).ok()
+}
+
+/// What is said of the first call of a store that failed, where the name of its file is known.
+pub fn said_of_store(alloc: Global, fault: &Option<HostFault>) -> Option<Text> {
+    let fault = fault.as_ref()?;
+    let name = fault.name.as_ref()?;
+    let cause = &fault.cause;
+    let why = format!(in alloc; "{cause}").ok()?;
+    unread_hint(alloc, name.as_str(), why.as_str()).ok()
+}
+
+// The last part of a path.
+fn last_part(path: &str) -> &str {
+    match path.rsplit_once('/') {
+        Some((_, name)) => name,
+        None => path,
+    }
+}
+
+// Says what is said of a run in the name of this program, of which the first word is its path.
+fn say_as<R: Eprint>(rt: &R, path: &str, said: &str) {
+    // Where nothing can be said, the status still tells.
+    match said.strip_prefix("factoplan:") {
+        Some(rest) => {
+            let _ = rt.eprint(last_part(path));
+            let _ = rt.eprint(":");
+            let _ = rt.eprint(rest);
+        }
+        None => {
+            let _ = rt.eprint(said);
+        }
+    }
+}
+
+/// Says a text in the name of the program that runs.
+pub fn say<R: Env + AllocGlobal + Eprint>(rt: &R, said: &str) {
+    match env::args(rt) {
+        Ok(mut arguments) => match arguments.next() {
+            Some(path) => say_as(rt, path.as_str(), said),
+            None => say_as(rt, "factoplan", said),
+        },
+        Err(_) => say_as(rt, "factoplan", said),
+    }
+}

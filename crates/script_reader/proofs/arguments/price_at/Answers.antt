@@ -1,7 +1,0 @@
-use Rattle.std.specs.Prelude.{codes, ◌≢◌}
-use Rattle.std.proofs.Common.{rules}
-use Rattle.script_reader.proofs.Ratios.{ratio_other}
-use Rattle.script_reader.proofs.arguments.price_at.Goals as goal
-
-pub returns-in-Err : goal.returns-in-Err
-returns-in-Err c = let other : c.args.word.now ≢ codes "off" = search rules in ratio_other (codes "off") c.args.word.now c.in-Err.fault other c.in-Err.ensures

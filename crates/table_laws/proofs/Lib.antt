@@ -1,3 +1,0 @@
-pub mod Fits
-pub mod Same
-pub mod Edited
