@@ -341,6 +341,9 @@ fn combined_over(
     requires shift { shift < 64 }
     ensures { IfSome result (λ q. (q *ℤ pos divisor ≡ top *ℤ scale -ℤ other *ℤ factor) × (unsigned_abs q < 2 ^ 62)) }
 {
+    if top == 0 && other == 0 {
+        return Some(0);
+    }
     exact_quotient(
         long_combined(top, scale, other, factor),
         divisor,
