@@ -89,8 +89,10 @@ def read_dump(path: str) -> dict:
     try:
         with open(path, encoding="utf-8-sig") as file:
             text = file.read()
-    except (OSError, UnicodeDecodeError) as fault:
-        give_up(2, "%s: %s" % (path, fault))
+    except OSError as fault:
+        give_up(2, "%s: %s" % (path, fault.strerror))
+    except UnicodeDecodeError:
+        give_up(2, "%s: no text in UTF-8, as the game's data-raw-dump.json is; a packed file has to be unpacked first" % path)
     text = re.sub(r'"(?:[^"\\]|\\.)*"|-?\b(?:inf|nan)\b', lambda m: m[0] if m[0].startswith('"') else "null", text)
     try:
         dump = json.loads(text)

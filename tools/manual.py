@@ -41,6 +41,12 @@ def own_name(word: tree.Word) -> str:
     return f"factoplan_{word.name}" if not word.is_script and word.program != "factoplan" else ""
 
 
+def own_program(word: tree.Word) -> str:
+    """The program of a word that is only a part of one, as factoplan_json: the launcher is called with the word."""
+    does = f"# {own_name(word)} {word.behind}: {word.does}; the word {word.name} of factoplan."
+    return f"""#!/bin/sh\n{does}\nexec "$(dirname "$(readlink -f "$0")")/factoplan" {word.name} "$@"\n"""
+
+
 def roff(text: str) -> str:
     """A text as a line of a man page."""
     text = text.replace("\\", "\\e").replace("-", "\\-").replace("`", "")

@@ -1,31 +1,13 @@
 """The way of a player through the workbench: a wish, a plan, changes, refusals and cures, what if, reload, conflict; and how all of it looks."""
 import json
 import os
-import tempfile
 import time
 
 from selenium.webdriver.common.keys import Keys
 
-from common import DUMP, Bench, check, go_through, until
+from common import Bench, check, go_through, until
 
 SIZES = [(1280, 900), (600, 900), (320, 700)]
-
-
-def stacked_dump(folder):
-    """The example's dump, which has no stacks and no belts, with both as the game has them."""
-    with open(DUMP) as file:
-        dump = json.load(file)
-    for name, item in dump["item"].items():
-        item["stack_size"] = 50 if name.endswith("-ore") or name in ("coal",
-            "stone") else 200 if "circuit" in name or "cable" in name else 100
-    dump["transport-belt"] = {}
-    for name, speed in (("transport-belt", 0.03125), ("fast-transport-belt", 0.0625), ("express-transport-belt", 0.09375)):
-        dump["transport-belt"][name] = {"type": "transport-belt", "name": name, "speed": speed}
-        dump["item"][name]["place_result"] = name
-    path = os.path.join(folder, "data-raw-dump.json")
-    with open(path, "w") as file:
-        json.dump(dump, file)
-    return path
 
 
 def machines(b):
@@ -487,7 +469,7 @@ WAY = [wish, changes, unsolved, cures, from_nothing, unmet, options, in_belts, e
 
 def way(programs, make):
     """All of it in one window, one after another."""
-    with tempfile.TemporaryDirectory() as room, Bench(programs, dump=stacked_dump(room), more=["--seconds", "60"]) as bench:
+    with Bench(programs, more=["--seconds", "60"]) as bench:
         b = make()
         try:
             go_through(WAY, b, bench, failed=lambda part: b.shot("fault-" + part.__name__))
