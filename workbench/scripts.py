@@ -1,5 +1,6 @@
 """The scripts of a folder. Each is saved whole or not at all, and only over the text that whoever saves it has seen."""
 import contextlib
+import ctypes
 import hashlib
 import os
 import re
@@ -75,9 +76,8 @@ class Scripts:
         """A new script. A name that is there already is refused."""
         path = self.path(name)
         with self.lock, alone_in(self.folder):
-            if os.path.lexists(path):
+            if os.path.lexists(path) or not put_in_place(path, data, version_of(b"")):
                 raise Refused(409, "there is a script of this name")
-            put_in_place(path, data, version_of(b""))
         return version_of(data)
 
 
@@ -94,8 +94,8 @@ def alone_in(folder):
 
 
 def put_in_place(path, data, version):
-    """Writes beside, syncs, and puts it in the place of the file. What stood there is held by a second name until it is known to be that
-    of the version: where an editor wrote meanwhile its text comes back, and False is answered."""
+    """Writes beside, syncs, and puts it in the place of the file. What stood there is looked at then: where an editor wrote meanwhile, or put
+    a file of its own there, its text comes back, and False is answered."""
     folder = os.path.dirname(path)
     made, new = tempfile.mkstemp(prefix=PREFIX, dir=folder)
     held = new + "~"
@@ -105,21 +105,65 @@ def put_in_place(path, data, version):
             file.flush()
             os.fsync(file.fileno())
         os.chmod(new, mode_of(path))
-        with contextlib.suppress(OSError):      # (where no file is yet, and on disks that know no second names)
-            os.link(path, held)
-        os.replace(new, path)
-        if os.path.exists(held):
-            with open(held, "rb") as file:
-                theirs = file.read()
-            if version_of(theirs) != version:
-                os.replace(held, path)
-                return False
+        if not (took_place(new, path, held, data, version) if os.path.lexists(path) else stood_alone(new, path)):
+            return False
         sync(folder)
         return True
     finally:
         for path in (new, held):
             with contextlib.suppress(FileNotFoundError):
                 os.unlink(path)
+
+
+def stood_alone(new, path):
+    """Puts a file where none is; False where one is there by then."""
+    try:
+        os.link(new, path)
+    except FileExistsError:
+        return False
+    except OSError:                 # (on disks that know no second names)
+        os.replace(new, path)
+    return True
+
+
+def took_place(new, path, held, data, version):
+    """Puts a file in the place of that of the version; False where another stood there, which is there again then."""
+    if not exchanged(new, path):
+        return replaced(new, path, held, version)
+    put, known = version_of(data), version
+    while True:
+        with open(new, "rb") as file:
+            found = version_of(file.read())
+        if found == known:
+            return known == version
+        # What came out goes back, and what was put in comes out; if it isn't that, an editor was there once more, whose text goes back, too.
+        put, known = found, put
+        if not exchanged(new, path):
+            stood_alone(new, path)
+            return False
+
+
+def replaced(new, path, held, version):
+    """The same where no two files can be exchanged: what stood there is held by a second name until it is known to be that of the version.
+    (So an editor that writes into the file is noticed, but not one that puts another file there at the very moment.)"""
+    with contextlib.suppress(OSError):      # (there are disks that know no second names)
+        os.link(path, held)
+    os.replace(new, path)
+    if os.path.exists(held):
+        with open(held, "rb") as file:
+            theirs = file.read()
+        if version_of(theirs) != version:
+            os.replace(held, path)
+            return False
+    return True
+
+
+def exchanged(one, other):
+    """Whether two files took each other's place in one step; where the system can't do that all is as it was."""
+    try:
+        return ctypes.CDLL(None).renameat2(-100, os.fsencode(one), -100, os.fsencode(other), 2) == 0
+    except (AttributeError, OSError, TypeError):
+        return False
 
 
 def mode_of(path):

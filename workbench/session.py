@@ -18,7 +18,7 @@ from programs import MOST_ANSWER, surroundings, too_much
 MOST_LINES, MOST_BYTES = 100_000, 16 << 20      # of one session; it is started anew before that
 MOST_SCRIPT_LINES = 90_000
 MOST_REPLY = 1_000_000                          # lines of an answer
-CHUNK = 4096                                    # bytes that a pipe takes while nobody reads the answers
+CHUNK = 4096                                    # bytes that a pipe which has room takes at once, also while nobody reads the answers
 END = b"."
 EDITS = {b"grant", b"revoke", b"forbid", b"permit", b"milestone", b"unmilestone", b"ingredient", b"product", b"unlock", b"time", b"enabled",
          b"table", b"untable", b"row", b"unrow", b"price", b"want", b"import", b"surplus", b"power"}
@@ -265,10 +265,7 @@ class Session:
         return out + self.say_at_once(chunk)
 
     def say_at_once(self, lines):
-        try:
-            self.running.stdin.write(b"".join(line + b"\n" for line in lines))
-        except OSError:
-            raise Died(self.last_words())
+        self.put(b"".join(line + b"\n" for line in lines))
         out = []
         for line in lines:
             if not line.startswith(b"?"):
@@ -276,6 +273,18 @@ class Session:
                 self.bytes += len(line) + 1
             out.append((self.numbers, self.reply()))
         return out
+
+    def put(self, data):
+        """Writes to the program, piece by piece and within the time of an answer, since one line may be longer than a pipe has room for."""
+        end, pipe, rest = time.monotonic() + self.limits.seconds, self.running.stdin.fileno(), memoryview(data)
+        while rest:
+            left = end - time.monotonic()
+            if left <= 0 or not select.select([], [pipe], [], left)[1]:
+                raise Died("it took no line within %d seconds" % self.limits.seconds)
+            try:
+                rest = rest[os.write(pipe, rest[:CHUNK]):]
+            except OSError:
+                raise Died(self.last_words())
 
     def reply(self):
         """The lines of the next answer, up to its mark."""

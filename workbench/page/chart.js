@@ -23,10 +23,7 @@ export function graphOf(table, plan) {
   }
   for (const [g, x] of plan.imports) if (!x || x.n) join(add({ kind: 'import', good: g }), g, x, true);
   for (const [g, x] of plan.surpluses) if (!x || x.n) join(add({ kind: 'surplus', good: g }), g, x, false);
-  for (const [g] of table.want) {
-    const made = sum([...(hubs.get(g)?.from || [])].map(f => f.amount)), used = sum([...(hubs.get(g)?.to || [])].map(f => f.amount));
-    if (hubs.has(g)) join(add({ kind: 'want', good: g }), g, made && used ? made.plus(used.times(-1)) : null, false);
-  }
+  for (const [g, x] of plan.wanted) join(add({ kind: 'want', good: g }), g, x, false);
   return { cards, hubs: [...hubs.values()] };
 }
 

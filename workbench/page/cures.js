@@ -4,6 +4,7 @@ import { choicesOf, game, get, isReached, kindOf, modulesFor, newRow, rawOf, rea
 import { Frac } from './exact.js';
 import { nameOf, plain } from './look.js';
 import { MEANS } from './replies.js';
+import { removeRow } from './rows.js';
 import { line, linesOf, rowLine, rowOf, solveWords } from './script.js';
 import { addLines, change, S } from './state.js';
 import { makeHere } from './wish.js';
@@ -17,11 +18,13 @@ const cure = (id, text, act) => ({ id, text, act });
 export function curesOfPlan(table, plan) {
   if (plan.kind === 'infeasible') return curesOfInfeasible(table, plan);
   const [, code, ...more] = plan.words;
-  const rows = table.rows.filter(r => S.rates.has(r.label) && !S.rates.get(r.label));
-  const why = `${MEANS[code] || 'it is refused'}${rows.length ? ` (row ${rows.map(r => plain(r.label)).join(', ')})` : ''}.`;
+  // (of a number that is too wide the reply names the row; of too many goods it names none, so the last rows are offered)
+  const named = table.rows.filter(r => (S.rates.has(r.label) && !S.rates.get(r.label)) || (code === 'K4' && r.label === more[0]));
+  const why = `${MEANS[code] || 'it is refused'}${named.length ? ` (row ${named.map(r => plain(r.label)).join(', ')})` : ''}.`;
+  const rows = named.length ? named : table.rows.slice(-MOST);
   if (code === 'V1' || code === 'V2') return { why, cures: curesOfSolver(table, plan) };
   return { why, cures: rows.flatMap(r => curesOfRow(code, more, r, next => change({ put: { [r.line]: rowLine(table.name, next) } }))
-    .concat(cure(null, `Remove row ${plain(r.label)}`, () => change({ put: { [r.line]: null } })))) };
+    .concat(cure(null, `Remove row ${plain(r.label)}`, () => removeRow(table, r)))) };
 }
 
 // By the prices nothing that may be done gains, and what is wanted is worth something. So a plan needs what breaks them: letting out a good

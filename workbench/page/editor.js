@@ -4,7 +4,7 @@ import { h } from './dom.js';
 import { savePage } from './exports.js';
 import { icon, plain } from './look.js';
 import { field, form } from './pick.js';
-import { linesOf } from './script.js';
+import { linesOf, typedAs } from './script.js';
 import { become, newFile, openFile, S, show, side } from './state.js';
 import { toast } from './toast.js';
 
@@ -17,7 +17,7 @@ export function settleTyping() {
   const area = document.querySelector('.editor textarea');
   clearTimeout(typing);
   typing = null;
-  if (area && area.value !== S.script) become(area.value);
+  if (area && area.value !== typedAs(S.script)) become(S.script.includes('\r\n') ? area.value.replace(/\n/g, '\r\n') : area.value);
 }
 
 /** Whether something is typed that doesn't count yet. */
@@ -82,5 +82,5 @@ function editor() {
       all.map((l, i) => h('div' + (marks[i] ? '.bad' : ''), null, marks[i] ? [h('span', null, plain(l, 500)), h('b', null, marks[i])] : ''))),
     h('textarea', { spellcheck: false, 'aria-label': `The script ${plain(S.file)}`, 'aria-invalid': String(S.refused.size > 0), 'data-key': 'script',
       wrap: 'off', onscroll, oninput, onblur: settleTyping,
-      drawn: it => { if (typing === null && it.value !== S.script) it.value = S.script; } }));
+      drawn: it => { if (typing === null && it.value !== typedAs(S.script)) it.value = S.script; } }));
 }

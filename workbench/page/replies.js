@@ -13,7 +13,7 @@ export function planOf(text) {
   if (!reply) return null;
   const [head, ...rest] = reply;
   const plan = { kind: head[0], words: head, rows: new Map(), imports: new Map(), surpluses: new Map(), prices: new Map(), flows: new Map(),
-    build: [] };
+    wanted: new Map(), build: [] };
   if (plan.kind === 'refused') return { ...plan, trail: rest };
   if (plan.kind === 'plan') plan.cost = Frac.of(head[3]);
   const flowOf = label => {
@@ -25,6 +25,7 @@ export function planOf(text) {
     if (word === 'import') plan.imports.set(a, figure(b));
     else if (word === 'surplus') plan.surpluses.set(a, figure(b));
     else if (word === 'price') plan.prices.set(a, figure(b));
+    else if (word === 'wanted') plan.wanted.set(a, figure(b));
     else if (word === 'takes' || word === 'gives') flowOf(a)[word].set(b, figure(c));
     else if (word === 'build') plan.build.push({ label: a, machine: b, count: figure(c) });
   }

@@ -64,7 +64,8 @@ function rowView(table, r, plan, figures, effects, burns) {
     h('td', null, mark('×', `Remove row ${name}`, () => removeRow(table, r))));
 }
 const setPrice = (table, r, said) => r.priceLine ? change({ put: { [r.priceLine]: said } }) : addLines(table, said);
-function removeRow(table, row) {
+/** Takes a row out of its table, with the price that it has. */
+export function removeRow(table, row) {
   const r = rowNow(table, row);
   if (S.model.hasUndo) return addLines(table, line('unrow', table.name, r.label));
   return change({ put: Object.fromEntries([r.line, r.priceLine].filter(Boolean).map(n => [n, null])) });

@@ -18,6 +18,9 @@ function word(text) {
 }
 export const line = (...words) => words.map(w => word(`${w}`)).join(' ');
 
+/** A text as a field of the browser has it, in which each line ends with a newline alone. */
+export const typedAs = text => text.includes('\r') ? text.replace(/\r\n?/g, '\n') : text;
+
 // (a text is looked at again and again, so what was found of the last one is kept)
 const once = how => { let last, found; return text => { if (text !== last) [last, found] = [text, how(text)]; return found; }; };
 /** The lines of a script, not to be changed. */

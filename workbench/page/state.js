@@ -2,7 +2,7 @@
 import { call } from './calls.js';
 import { derive, game, KINDS } from './game.js';
 import { rateOf, planOf, readReply } from './replies.js';
-import { changed, inForce, inForceOf, line, linesOf, modelOf, solveWords } from './script.js';
+import { changed, inForce, inForceOf, line, linesOf, modelOf, solveWords, typedAs } from './script.js';
 import { toast } from './toast.js';
 
 const MOST_PAST = 200, MOST_KEPT = 2e6, KEPT_AFTER = 300;
@@ -229,6 +229,11 @@ export async function settleBeside() {
   });
 }
 
+// What is half typed isn't the script yet, and is nobody's but the player's all the same.
+function isHalfTyped() {
+  const area = document.querySelector('.editor textarea');
+  return Boolean(area) && area.value !== typedAs(S.script);
+}
 /** Looks whether script and dump are still those that were read. */
 export async function lookAround() {
   if (!S.version || running || S.conflict) return;
@@ -236,7 +241,7 @@ export async function lookAround() {
   if (!now || running || S.conflict) return;
   if (now.version !== S.version) {
     const theirs = await call('read', { file: S.file });
-    if (S.script !== S.saved) return meet(theirs);
+    if (S.script !== S.saved || isHalfTyped()) { meet(theirs); return show(); }
     S.past.push(S.script);
     Object.assign(S, { script: theirs.script, saved: theirs.script, version: theirs.version, files: theirs.files });
     keepHistory();

@@ -83,6 +83,12 @@ def changes(b, bench):
     b.click('[data-key="beacon iron-plate"]')
     check("a form of beacons", b.focus() == "count", b.focus())
     looked_at(b, "form of beacons")
+    fields = "[...document.querySelectorAll('.picker input, .picker select, .picker button')]"
+    count, come_to = b.js("return %s.length" % fields), []
+    for _ in range(count):
+        come_to.append(b.js("return %s.indexOf(document.activeElement)" % fields))
+        b.keys(Keys.TAB)
+    check("the Tab key goes round in a form", count > 3 and sorted(come_to) == list(range(count)) and b.focus() == "count", come_to)
     b.click(".picker .main")
     check("beacons", b"beacon machine:beacon 8 4 in" in bench.saved() and "Beacon" in b.text('[aria-label="To build"]'), bench.saved())
     b.click(".seg button", "/s")
@@ -95,6 +101,7 @@ def cures(b, bench):
     check("no plan is told in words", "Iron ore is needed and comes from nowhere" in b.text(".verdict"), b.text(".verdict"))
     b.shot("workbench-cure")
     looked_at(b, "no plan")
+    reached(b, "no plan")
     folder = b.downloads
     found = lambda: [n for n in os.listdir(folder) if n.endswith(".certificate.json")]
     b.click('[data-key="proof"]')
@@ -251,6 +258,9 @@ def unsolved(b, bench):
             trail + ("  next enter row copper-cable leave unit item:copper-cable\n  total" if code == "V1" else "")))
         check("a plan that is refused says why and what may help: " + code, word in told[0] and "Try the rows in the opposite order" in told
               and "Bring in Iron plate" in told and "Bring in Copper cable" in told, told)
+    for code, details, word in (("K4", " iron-plate 5", "too wide (row iron-plate)"), ("P3", "", "512")):
+        told = b.it.execute_async_script(REFUSED, "? refused %s%s\n" % (code, details))
+        check("and so does one that a row is to blame for: " + code, word in told[0] and "Remove row iron-plate" in told, told)
 
 
 def exploring(b, bench):
@@ -341,6 +351,7 @@ def conflict(b, bench):
     area.send_keys("# more of mine\n")
     b.settle()
     looked_at(b, "conflict")
+    reached(b, "conflict")
     for width, height in SIZES:
         b.size(width, height)
         seen = b.js("return [...document.querySelectorAll('.conflict button')].every(e => { const r = e.getBoundingClientRect();"
@@ -363,6 +374,15 @@ def conflict(b, bench):
     check("what an editor wrote is read when the window is looked at",
         until(lambda: "# the editor again" in b.one("textarea").get_attribute("value")), b.text("#toasts"))
     b.settle()
+    with open(bench.script, "ab") as file:
+        file.write(b"# once more the editor\n")
+    b.js("const a = document.querySelector('textarea'); a.value += '# half typed\\n'; a.dispatchEvent(new Event('input')); window.dispatchEvent(new Event('focus'));")
+    check("where one types meanwhile, too, who comes second is told", until(lambda: b.find(".conflict")), b.text("body"))
+    b.settle()
+    check("and neither is lost", b"# once more the editor" in bench.saved() and b"# half typed" not in bench.saved()
+        and b.one("textarea").get_attribute("value").endswith("# half typed\n"), (bench.saved(), b.one("textarea").get_attribute("value")))
+    b.click("#take-theirs")
+    check("and one can be taken", not b.find(".conflict") and b.one("textarea").get_attribute("value").endswith("# once more the editor\n"))
     # Two tabs.
     first = b.it.current_window_handle
     token = b.js("return sessionStorage.getItem('token')")
@@ -402,6 +422,23 @@ def several(b, bench):
         with open(os.path.join(b.downloads, found()[0])) as file:
             text = file.read()
         check("with the plan, and no request", "electronic-circuit" in text and "default-src" in text, text[:300])
+    with open(os.path.join(bench.folder, "second.txt"), "wb") as file:
+        file.write(b"# a line\r\ntable w\r\n")
+    b.js("const s = document.querySelector('.files'); s.value = 'second.txt'; s.dispatchEvent(new Event('change'))")
+    check("a script whose lines end in another way is opened", until(lambda: b.one("textarea").get_attribute("value") == "# a line\ntable w\n"))
+    b.settle()
+    b.one("textarea").click()
+    b.js("document.activeElement.blur()")
+    b.settle()
+    second = lambda: open(os.path.join(bench.folder, "second.txt"), "rb").read()
+    check("and isn't written where nothing was typed", second() == b"# a line\r\ntable w\r\n", second())
+    b.one("textarea").send_keys(Keys.CONTROL, Keys.END)
+    b.one("textarea").send_keys("table v\n")
+    b.settle()
+    check("what is typed ends its lines as the others do", second() == b"# a line\r\ntable w\r\ntable v\r\n", second())
+    b.js("const s = document.querySelector('.files'); s.value = 'factory.txt'; s.dispatchEvent(new Event('change'))")
+    check("and back again", until(lambda: "electronic-circuit" in b.one("textarea").get_attribute("value")))
+    b.settle()
     b.keys(Keys.ESCAPE)
 
 
@@ -412,6 +449,12 @@ def by_keys(b, bench):
     time.sleep(0.2)
     check("a key leads to the wish", b.focus() == "good", b.focus())
     b.keys(Keys.ENTER)
+    at = lambda: b.one(".picker input").get_attribute("aria-activedescendant")
+    first = at()
+    b.keys(Keys.ARROW_DOWN)
+    second = at()
+    b.keys(Keys.ARROW_UP)
+    check("the arrows go through a list", first and second and first != second and at() == first, (first, second, at()))
     b.keys(*"copper cable")
     b.keys(Keys.ENTER)
     check("the focus comes back from the list", b.focus() == "good", b.focus())

@@ -139,16 +139,26 @@ def time_limit(programs):
         begun = time.time()
         status, reply = bench.run("table t\n")
         check("a planner that falls silent is ended", status == 502 and "1 seconds" in reply["error"] and time.time() - begun < 20, reply)
+        begun = time.time()
+        status, reply = bench.run("# %s\n" % ("x" * 200_000))
+        check("and so is one that takes no line that is longer than a pipe", status == 502 and "1 seconds" in reply["error"] and time.time() - begun < 20, reply)
         check("a program that takes too long is ended", bench.call("page", script="")[0] == 504)
         check("and none of them is left", not bench.children(), bench.children())
 
 
 def size_limit(programs):
     """What is too much is refused, or ended."""
-    with programs_that("exec yes", "exec yes") as endless, Bench(endless) as bench:
-        check("a planner that says too much is ended", bench.run("table t\n")[0] == 502)
+    # (a little more than may be said, and then an end: so nothing but the limit of size ends it)
+    much = "head -c 70000000 /dev/zero | tr '\\0' y"
+    with programs_that(much, much) as endless, Bench(endless, more=["--seconds", "50"]) as bench:
+        status, reply = bench.run("table t\n")
+        check("a planner that says too much is ended", status == 502 and "67108864 bytes" in reply["error"], reply)
         check("a program that writes too much is ended", bench.call("page", script="")[0] == 504)
         check("and none of them is left", not bench.children(), bench.children())
+    with programs_that("exec yes") as endless, Bench(endless, more=["--seconds", "50"]) as bench:
+        status, reply = bench.run("table t\n")
+        check("a planner that says too many lines is ended", status == 502 and "67108864 bytes" in reply["error"], reply)
+        check("and it isn't left", not bench.children(), bench.children())
     with Bench(programs) as bench:
         check("a script of over 16 MB is refused", bench.call("run", file="factory.txt", script="#" * (16 << 20) + "#",
             version=bench.call("version", file="factory.txt")[1]["version"], ask=[])[0] == 413)

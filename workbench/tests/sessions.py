@@ -144,6 +144,10 @@ def death(programs):
         before = bench.run(text, ["solve t", "?state"])[1]
         pids = bench.children()
         check("one planner stays", len(pids) == 1 and bench.run(text, ["summary"])[0] == 200 and bench.children() == pids, pids)
+        other = text.replace("iron-gear-wheel 5", "iron-gear-wheel 6")
+        told = [bench.run(it, ["solve t", "?state"])[1] for it in (other, text)]
+        check("and follows what changes by undo", "want t item:iron-gear-wheel 6" in told[0].get("answers", ["", ""])[1]
+            and told[1].get("answers") == before["answers"] and bench.children() == pids, (told, bench.children()))
         os.kill(pids[0], signal.SIGKILL)
         until(lambda: pids[0] not in [p for p in bench.children() if not is_dead(p)], 5)
         after = bench.run(text, ["solve t", "?state"])[1]
