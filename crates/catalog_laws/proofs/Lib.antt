@@ -1,0 +1,9 @@
+pub mod Plain
+pub mod Members
+pub mod Parts
+pub mod Things
+pub mod Numbers
+pub mod Reading
+pub mod Lists
+pub mod Sections
+pub mod Whole
