@@ -1,5 +1,5 @@
 -- The text of a plain value with no blanks reads back where what it is made of does.
-use Rattle.std.proofs.Common.{◌≡◌, ◌∙◌, ◌≤◌, ◌<◌, ◌+◌, ℕ, zero, suc, List, [], ◌∷◌, Option, Some, option_map, option_and_then, refl, sym, ap, ap₂, arith, append-nil}
+use Rattle.std.proofs.Common.{◌≡◌, ◌∙◌, ◌≤◌, ◌<◌, ◌+◌, ℕ, zero, suc, List, [], ◌∷◌, Option, Some, option_map, option_and_then, refl, sym, ap, ap₂, arith, append-nil, ◌++◌}
 use Rattle.std.specs.Prelude.{max}
 use Rattle.std.specs.List.{range_with_len}
 use Rattle.json.specs.Token.{Token}
@@ -9,12 +9,13 @@ use Rattle.json.specs.Tree as tree
 use Rattle.json.proofs.Printed.Decimals.{IsNumber-decimal}
 use Rattle.json.proofs.Printed.Tokens.{tokens-print}
 use Rattle.json.proofs.Printed.Trees.{ArePrintable-json_tokens, value-json_tokens}
-use Rattle.serde_json.specs.Data.{Num, unsigned, negative, float, Data, null, boolean, number, string, array, object, Items, no_items, item, Members, no_members, member, put, depth, items_depth, members_depth}
-use Rattle.serde_json.specs.Read.{max_depth, of_items, of_json, of_members, read}
+use Rattle.serde_json.specs.Data.{Num, unsigned, negative, float, Data, null, boolean, number, string, array, object, Items, no_items, item, Members, no_members, member, depth, items_depth, members_depth}
+use Rattle.serde_json.specs.Read.{max_depth, of_items, of_json, read}
 use Rattle.serde_json.specs.Written.{compact_text, items_outline, members_outline, outline}
 use Rattle.serde_json.proofs.Texts.{print-outline}
 use Rattle.catalog_members.specs.Members.{items_tree}
 use Rattle.catalog_members.specs.Texts.{IsTextOf}
+use Rattle.catalog_laws.proofs.Line.{same_tokens}
 use Rattle.catalog_laws.proofs.Numbers.{AreSmall, HasSmall, IsSmall, read_small}
 use Rattle.catalog_laws.proofs.Plain.{AllFit, ArePlain, Fits, HasPlain, IsCount, IsPlain, array_fits, no_float}
 
@@ -80,11 +81,14 @@ pub record AllGood (n : ℕ) (ds : Items) : Type 0 where
   pub small : AreSmall ds
   pub reads : of_items (items_outline ds) ≡ Some ds
 
--- the text of a good value reads back
-pub good_reads : (n : ℕ) (d : Data) → n ≤ max_depth → Good n d → read (compact_text d) ≡ Some d
+-- the text of a good value reads back, with a line end and without
+good_reads : (n : ℕ) (d : Data) → n ≤ max_depth → Good n d → read (compact_text d) ≡ Some d
 good_reads n d few good = read_is d good.fits.plain good.small (omega (arith, few, good.fits.shallow)) ∙ good.reads
 
--- a value is good if one text of it is
+pub line_reads : (n : ℕ) (d : Data) → n ≤ max_depth → Good n d → read (compact_text d ++ 10 ∷ []) ≡ Some d
+line_reads n d few good = ap whole (ap (json.value max_depth) (same_tokens d (has_numbers d good.fits.plain good.small))) ∙ good_reads n d few good
+
+-- a value is good if one text of it reads back
 pub text_is : (n : ℕ) (d : Data) (text : List ℕ) → Fits n d → IsTextOf d text → text ≡ compact_text d
 text_is n d text fits is = is.compact (no_float d fits.plain)
 
@@ -126,7 +130,3 @@ range_good n of from (suc count) each =
 pub names_good : {A : Type 0} (n : ℕ) (name : A → List ℕ) (xs : List A) → AllGood n (items_tree (λ x. string (name x)) xs)
 names_good n name [] = none_good n
 names_good n name (x ∷ xs) = item_good n (string (name x)) (items_tree (λ y. string (name y)) xs) (string_good n (name x)) (names_good n name xs)
-
--- one more member is read
-pub member_read : (k : List ℕ) (d : Data) (ms found : Members) → of_json (outline d) ≡ Some d → of_members (members_outline (member k d ms)) found ≡ of_members (members_outline ms) (put k d found)
-member_read k d ms found reads = ap (option_and_then (λ e. of_members (members_outline ms) (put k e found))) reads

@@ -44,10 +44,10 @@ catalog_value s index shown = object
     (member (codes "version") (number (unsigned 1)) no_members))))))))))
 
 -- ---- its text
--- a text is a line that is a value with no blanks, and reads back as the value
+-- a text is a value with no blanks and a line end, and reads back as the value
 pub record IsLineOf (value : Data) (text : List ℕ) : Type 0 where
   pub compact : text ≡ compact_text value ++ 10 ∷ []
-  pub reads_back : read (compact_text value) ≡ Some value
+  pub reads_back : read text ≡ Some value
 
 -- A text is the catalog of a state as one line of JSON that reads back, with something shown of its things.
 pub record ReadsBack (s : State) (text : List ℕ) : Type 0 where
