@@ -7,6 +7,7 @@ pub mod Line
 pub mod Reading
 pub mod Lists
 pub mod Sections
+pub mod OneLine
 pub mod Rising
 pub mod Object
 pub mod Whole

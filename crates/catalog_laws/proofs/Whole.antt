@@ -11,6 +11,7 @@ use Rattle.catalog_text.specs.declared.fields.Shown.{Shown}
 use Rattle.catalog_text.specs.Catalog.{IsCatalog}
 use Rattle.catalog_laws.specs.Value.{ReadsBack, catalog_value, milestones_value, things_value}
 use Rattle.catalog_laws.proofs.Object.{object_good, object_is_shallow, object_text}
+use Rattle.catalog_laws.proofs.OneLine.{value_inner}
 use Rattle.catalog_laws.proofs.Plain.{Fits}
 use Rattle.catalog_laws.proofs.Reading.{Good, line_reads}
 use Rattle.catalog_laws.proofs.Sections.{Section, milestones_good, milestones_text, section, things_fit}
@@ -62,5 +63,5 @@ catalog_reads s text is =
       index = index;
       is_index = is.is_index;
       shown = shown;
-      is_line = record { compact = compact; reads_back = ap read compact ∙ line_reads 6 (catalog_value s index shown) (omega arith) good };
+      is_line = record { compact = compact; one_line = value_inner (catalog_value s index shown) good.fits.plain good.small; reads_back = ap read compact ∙ line_reads 6 (catalog_value s index shown) (omega arith) good };
     }

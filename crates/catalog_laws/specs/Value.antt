@@ -1,6 +1,6 @@
 -- The catalog of a state as one value of JSON, and what it is for a text to be it.
-use Rattle.std.specs.Prelude.{◌≡◌, ℕ, List, [], ◌∷◌, ◌++◌, Option, Some, codes}
-use Rattle.std.specs.List.{range_with_len}
+use Rattle.std.specs.Prelude.{◌≡◌, ◌==◌, ℕ, Bool, true, not, List, [], ◌∷◌, ◌++◌, Option, Some, codes}
+use Rattle.std.specs.List.{list_all, range_with_len}
 use Rattle.plan_base.specs.Shape.{count_of}
 use Rattle.plan_base.specs.declared.shape.Kind.{Kind}
 use Rattle.plan_base.specs.declared.shape.Kind.TheVariants.{Special, Item, Fluid, Recipe, Source, Machine, Tech}
@@ -44,12 +44,20 @@ catalog_value s index shown = object
     (member (codes "version") (number (unsigned 1)) no_members))))))))))
 
 -- ---- its text
--- a text is a value with no blanks and a line end, and reads back as the value
+-- a byte that ends no line
+abbrev pub is_inner : ℕ → Bool
+is_inner byte = not (byte == 10)
+
+abbrev pub is_one_line : List ℕ → Bool
+is_one_line bytes = list_all is_inner bytes
+
+-- a text is a value with no blanks, on one line with its end, and reads back as the value
 pub record IsLineOf (value : Data) (text : List ℕ) : Type 0 where
   pub compact : text ≡ compact_text value ++ 10 ∷ []
+  pub one_line : is_one_line (compact_text value) ≡ true
   pub reads_back : read text ≡ Some value
 
--- A text is the catalog of a state as one line of JSON that reads back, with something shown of its things.
+-- A text is the catalog of a state, with something shown of its things, and reads back.
 pub record ReadsBack (s : State) (text : List ℕ) : Type 0 where
   pub index : Index
   pub is_index : IsIndex s.book.game index

@@ -33,8 +33,7 @@ pub fn catalogs_are_shallow()
     ensures depth { (s : State) (index : Index) (shown : Kind → ℕ → Option Shown) → depth (catalog_value s index shown) ≤ 6 }
 {}
 
-/// Law: the whole text of a catalog is a line, which is the text of the stated object with no blanks and reads back as that
-/// object.
+/// Law: the whole text of a catalog is the stated object with no blanks, on one line with its end, and reads back as that object.
 pub fn catalogs_read_back()
     ensures { (s : State) (text : List ℕ) → IsCatalog s text → ReadsBack s text }
 {}
