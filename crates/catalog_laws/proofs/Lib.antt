@@ -1,0 +1,13 @@
+pub mod Plain
+pub mod Members
+pub mod Parts
+pub mod Things
+pub mod Numbers
+pub mod Line
+pub mod Reading
+pub mod Lists
+pub mod Sections
+pub mod OneLine
+pub mod Rising
+pub mod Object
+pub mod Whole
