@@ -3,12 +3,12 @@ use Rattle.std.proofs.Common.{◌≡◌, ◌≤◌, ◌+◌, ◌++◌, ◌∷◌
 use Rattle.std.specs.Prelude.{◌||◌}
 use Rattle.std.proofs.lemmas.List.{append_assoc, length-append}
 use Rattle.planner_core.specs.Lines.{IsSessionOf, Planned}
-use Rattle.plan_report.specs.declared.reply.Reply.{Reply}
+use Rattle.plan_lines.specs.declared.reply.Reply.{Reply}
 use Rattle.script_lines.specs.Lines.{lines_of}
 use Rattle.script_reader.specs.Lines.{command_of_line}
-use Rattle.script_runner.specs.Answers.{Answered, IsReply, Reading, is_refusal, is_refusal_reply, solved_in}
-use Rattle.script_runner.specs.Sessions.{IsSession}
-use Rattle.script_runner.proofs.SessionLemmas.{refused_more, session_first, session_more}
+use Rattle.line_answers.specs.Answers.{Answered, IsReply, Reading, is_refusal, is_refusal_reply, solved_in}
+use Rattle.line_answers.specs.Sessions.{IsSession}
+use Rattle.line_answers.proofs.SessionLemmas.{refused_more, session_first, session_more}
 use Rattle.state_changes.specs.States.{State}
 use Rattle.carried_lines.specs.Leading.{Accepted, AnswersSo, Continues, TellsReply, ends_planned, is_plan}
 use Rattle.carried_lines.specs.declared.stepping.Progress.{Progress}

@@ -12,9 +12,9 @@ use Rattle.data_edit.specs.declared.books.Book.{Book}
 use Rattle.planning_state.specs.Worlds.{is_reached, rank_of}
 use Rattle.planner_core.specs.Replies.{reached_from}
 use Rattle.plan_base.specs.declared.shape.Kind.{Kind}
-use Rattle.plan_report.specs.declared.reply.Reply.{Reply}
-use Rattle.plan_report.specs.declared.reply.Reply.TheVariants as replies
-use Rattle.script_reader.specs.declared.command.Command.TheVariants as command
+use Rattle.plan_lines.specs.declared.reply.Reply.{Reply}
+use Rattle.plan_lines.specs.declared.reply.Reply.TheVariants as replies
+use Rattle.plan_lines.specs.declared.command.Command.TheVariants as command
 use Rattle.planner_core.specs.Lines.{Held, IsStep, IsStepIn, Planned}
 use Rattle.carried_lines.specs.Marks.{ListsOnly, MarksOnly}
 

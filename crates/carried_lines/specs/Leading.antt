@@ -2,11 +2,11 @@
 use Rattle.std.specs.Prelude.{◌≡◌, ◌≤◌, ℕ, Bool, true, false, List, [], ◌∷◌, ◌++◌, Option, Some, None, length, not, ◌==◌, if◌then◌else◌}
 use Rattle.linear_table.specs.declared.SolveAnswer.{SolveAnswer}
 use Rattle.linear_table.specs.declared.SolveAnswer.TheVariants.{Planned as Plan}
-use Rattle.plan_report.specs.declared.reply.Reply.{Reply}
+use Rattle.plan_lines.specs.declared.reply.Reply.{Reply}
 use Rattle.planner_core.specs.Lines.{Planned}
 use Rattle.script_lines.specs.Lines.{lines_of}
-use Rattle.script_runner.specs.Answers.{Answered, IsAnswered, is_refusal, solved_in}
-use Rattle.script_runner.specs.Sessions.{IsSession, some_refused}
+use Rattle.line_answers.specs.Answers.{Answered, IsAnswered, is_refusal, solved_in}
+use Rattle.line_answers.specs.Sessions.{IsSession, some_refused}
 use Rattle.carried_lines.specs.declared.stepping.Progress.{Progress}
 
 -- whether the solver's answer is a plan

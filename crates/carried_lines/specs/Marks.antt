@@ -1,7 +1,7 @@
 -- What marks and lists say of nodes.
 use Rattle.std.specs.Prelude.{◌≡◌, ℕ, Bool, true, false, List, All, slice_index_or}
-use Rattle.plan_report.specs.declared.reply.Reply.{Reply}
-use Rattle.plan_report.specs.declared.reply.Reply.TheVariants as reply
+use Rattle.plan_lines.specs.declared.reply.Reply.{Reply}
+use Rattle.plan_lines.specs.declared.reply.Reply.TheVariants as reply
 
 -- each marked node passes a test
 abbrev pub MarksOnly : (ℕ → Bool) → List Bool → Type 0

@@ -4,9 +4,8 @@ ghost use Rattle.planning_state.specs.Worlds.{is_reached};
 ghost use Rattle.carried_lines.specs.Marks.{ListsOnly, MarksOnly};
 
 use plan_base::{Kind, NoMemory, NodeId, Steps};
-use plan_report::Reply;
+use plan_lines::{Command, Reply};
 use planner_core::Planner;
-use script_reader::Command;
 use std::alloc::Global;
 
 static KINDS: [Kind; 7] = [

@@ -1,7 +1,7 @@
 //! What is said of the lines of a script.
 use line_causes::{Cause, Short, Slot};
 use plan_base::{Kind, NoMemory, Text};
-use plan_report::RefusalCode;
+use plan_lines::RefusalCode;
 use run_hints::{empty_hint, more_hint, refused_hint, short_hint};
 use script_reader::CommandWord;
 use std::alloc::Global;

@@ -4,12 +4,11 @@
 mod telling;
 
 use crate::telling::said;
-use linear_table::SolveAnswer;
 use plan_base::{NoMemory, Steps, Text};
 use plan_io::{HostSink, HostStore};
 use planner_cli::{Outcome, Status, run};
 use program_runs::{VERSION, Watch, WatchedSink, WatchedStore, program_words, said_of_store};
-use script_hints::{Ended, KeptStore, is_script_to_keep, said_of_lines};
+use script_hints::LineHints;
 use std::alloc::Global;
 use std::io::IsTerminal;
 use std::process::ExitCode;
@@ -45,13 +44,12 @@ Exit status: 0 done, 1 a line was refused or a table is not proved, 2 wrong word
 9 bad certificate
 ";
 
-// How a run ended, what is to be said of a file that could not be read, and what a second look at its lines takes.
+// How a run ended, what is to be said of a file that could not be read, and what of its lines.
 #[derive(Drop)]
 struct Run {
     status: Status,
     unread: Option<Text>,
-    answers: Vec<SolveAnswer>,
-    script: Option<Vec<u8>>,
+    lines: Option<Text>,
 }
 
 // The run that the words ask for. Its progress is told on standard error where that is shown.
@@ -61,23 +59,21 @@ fn ran<R: Files + Print + Eprint + Clock>(
     words: &[Text],
     is_shown: bool,
 ) -> Run {
-    let store = WatchedStore::make(HostStore::make(alloc, rt), Watch::start(rt, is_shown));
-    let mut store = KeptStore::make(alloc, store, is_script_to_keep(rt, alloc, words));
+    let mut store = WatchedStore::make(HostStore::make(alloc, rt), Watch::start(rt, is_shown));
     let mut out = WatchedSink::make(HostSink::make(rt), Watch::start(rt, is_shown));
     let mut steps = Steps::new(Program);
-    let Outcome {
-        status,
-        answers,
-        ..
-    } = run(alloc, words, &mut store, &mut out, &mut steps);
-    let (store, script) = store.into_parts();
+    let mut hints = LineHints::make(alloc, words);
+    let Outcome { status, .. } = run(alloc, words, &mut store, &mut out, &mut hints, &mut steps);
     store.clear();
     out.clear();
+    let lines = match status {
+        Status::Done | Status::SomeRefused => hints.said(),
+        _ => None,
+    };
     Run {
         status,
         unread: said_of_store(alloc, store.store().fault()),
-        answers,
-        script,
+        lines,
     }
 }
 
@@ -86,19 +82,12 @@ fn tell<R: Files + Eprint + AllocGlobal>(rt: &R, alloc: Global, words: &[Text], 
     let Run {
         status,
         unread,
-        answers,
-        script,
+        lines,
     } = ended;
     if let Some(said) = said(rt, alloc, &status, words, unread) {
         let _ = rt.eprint(said.as_str());
     }
-    let script = script.as_deref();
-    let lines = Ended {
-        status: &status,
-        answers: &answers,
-        script,
-    };
-    if let Some(said) = said_of_lines(rt, alloc, words, &lines) {
+    if let Some(said) = lines {
         let _ = rt.eprint(said.as_str());
     }
 }
@@ -152,8 +141,7 @@ fn no_memory<R: Files + Eprint + AllocGlobal>(rt: &R, alloc: Global) -> ExitCode
     let ended = Run {
         status: Status::NoMemory,
         unread: None,
-        answers: Vec::new(alloc),
-        script: None,
+        lines: None,
     };
     tell(rt, alloc, &[], ended);
     ExitCode::from(Status::NoMemory.exit())

@@ -1,13 +1,13 @@
 //! From the files of a run to the catalog.
 
 use catalog_text::{ShownFields, catalog_text, read_shown};
+use line_answers::is_refusal;
 use plan_base::{NoMemory, Steps};
+use plan_lines::Command;
 use planner_core::Planner;
 use program_runs::{End, Names, answered, end_by, end_of_run, loaded, whole_file, written};
 use run_inputs::{DUMP_LIMIT, Long, Ready, Status};
 use script_lines::{Lines, has_many_lines};
-use script_reader::Command;
-use script_runner::is_refusal;
 use std::alloc::Global;
 use std::rt::Files;
 

@@ -1,8 +1,8 @@
 -- A line that is told.
 use Rattle.std.proofs.Common.{◌≡◌, ℕ, List, Option, refl}
 use Rattle.planner_core.specs.Lines.{Planned}
-use Rattle.plan_report.specs.declared.reply.Reply.{Reply}
-use Rattle.plan_report.specs.declared.reply.Reply.TheVariants as replies
+use Rattle.plan_lines.specs.declared.reply.Reply.{Reply}
+use Rattle.plan_lines.specs.declared.reply.Reply.TheVariants as replies
 use Rattle.report_json.specs.Lines.{IsJsonLine, line_value}
 use Rattle.factoplan_data.specs.Told.{IsToldAs}
 

@@ -1,12 +1,12 @@
 //! The lines of a script, carried out with nothing told of them.
 
 use crate::fault::PlanFault;
+use line_answers::is_refusal;
 use plan_base::{NoMemory, Steps};
+use plan_lines::Command;
 use planner_core::Planner;
 use program_runs::answered;
 use script_lines::{Lines, has_many_lines};
-use script_reader::Command;
-use script_runner::is_refusal;
 use std::alloc::Global;
 
 // Carries out a line. Answers whether it is refused.

@@ -7,13 +7,12 @@ use crate::lines::{carry_out, close_batch};
 use game_types::Game;
 use linear_table::{Column, SolveAnswer};
 use plan_base::{GoodId, NoMemory, Steps, Text};
+use plan_lines::{Command, Figures, RefusalCode, Reply};
 use plan_records::{Solved, plan_text};
-use plan_report::{Figures, RefusalCode, Reply};
 use planner_core::Planner;
 use production_table::Table;
 use program_runs::{End, Names, written};
 use run_inputs::Ready;
-use script_reader::Command;
 use std::alloc::Global;
 use std::rt::Files;
 

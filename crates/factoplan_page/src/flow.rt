@@ -8,13 +8,12 @@ use game_types::Game;
 use linear_table::{Plan, SolveAnswer};
 use plan_base::{NoMemory, Steps, Text};
 use plan_charts::{Shown, chart_of, dot_text};
-use plan_report::{Figures, RefusalCode, Reply};
+use plan_lines::{Command, Figures, RefusalCode, Reply};
 use planner_core::Planner;
 use production_table::Table;
 use program_runs::{LINES, answered};
 use run_inputs::Ready;
 use script_lines::{split_line, trim_return};
-use script_reader::Command;
 use std::alloc::Global;
 
 // The most exchanges of columns.

@@ -7,7 +7,7 @@ use catalog_text::{ShownFields, shown_of};
 use clap::ArgMatches;
 use fractions::Ratio;
 use plan_base::{Kind, NoMemory, Steps, Text};
-use plan_report::RefusalCode;
+use plan_lines::RefusalCode;
 use planner_core::Planner;
 use session_lines::{Wished, Wishes};
 use std::alloc::Global;

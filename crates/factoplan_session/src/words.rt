@@ -1,9 +1,9 @@
 //! The words of a question.
 ghost use Rattle.std.specs.Prelude.{◌≤◌, length};
 
+use line_answers::reading_of;
 use plan_base::{NoMemory, Text};
-use script_reader::Command;
-use script_runner::reading_of;
+use plan_lines::Command;
 use std::alloc::Global;
 
 fn is_separator(byte: u8) -> bool {

@@ -1,5 +1,6 @@
 //! Single words of a line.
-use script_reader::{Object, Place, ScriptFault, count_at, kind_of, object_at};
+use plan_lines::Object;
+use script_reader::{Place, ScriptFault, count_at, kind_of, object_at};
 use std::alloc::Global;
 
 // Each line has a word, and the kind and the name of the object that it names, or a dash.

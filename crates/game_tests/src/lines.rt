@@ -1,7 +1,8 @@
 //! Lines of the script beside what another reader says of them.
 use fractions::Ratio;
 use plan_base::{Items, Kind, NoMemory, Text};
-use script_reader::{Change, Command, Object, RowPart, ScriptFault, read_line};
+use plan_lines::{Change, Command, Object, RowPart};
+use script_reader::{ScriptFault, read_line};
 use std::alloc::Global;
 use std::test::Fail;
 

@@ -2,7 +2,7 @@
 use fractions::read_ratio;
 use line_causes::{LineWord, Slot, form_of, slot_code};
 use plan_base::NoMemory;
-use plan_report::RefusalCode;
+use plan_lines::RefusalCode;
 use script_reader::{CommandWord, Place, count_at, kind_of, object_at};
 use std::alloc::Global;
 

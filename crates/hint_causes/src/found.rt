@@ -10,7 +10,7 @@ use crate::{
 use game_types::Game;
 use line_causes::{Cause, LineWord, Unread, code_of, words_of};
 use plan_base::{Kind, NoMemory, NodeId, Text};
-use plan_report::{Detail, RefusalCode};
+use plan_lines::{Detail, RefusalCode};
 use production_table::Table;
 use script_reader::{CommandWord, Place, command_of, object_at};
 use std::alloc::Global;

@@ -3,8 +3,8 @@ use Rattle.std.specs.Prelude.{ℕ, List, ◌++◌, codes, take}
 use Rattle.std.specs.List.{slice_get}
 use Rattle.plan_base.specs.declared.shape.Kind.{Kind}
 use Rattle.plan_base.specs.declared.shape.Kind.TheVariants as kind
-use Rattle.plan_report.specs.declared.reply.RefusalCode.{RefusalCode}
-use Rattle.plan_report.specs.declared.reply.RefusalCode.TheVariants as r
+use Rattle.plan_lines.specs.declared.reply.RefusalCode.{RefusalCode}
+use Rattle.plan_lines.specs.declared.reply.RefusalCode.TheVariants as r
 use Rattle.script_reader.specs.declared.command_words.CommandWord.{CommandWord}
 use Rattle.plan_report.specs.Words.{printed_word}
 use Rattle.line_causes.specs.declared.causes.Cause.{Cause}

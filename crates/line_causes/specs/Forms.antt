@@ -2,8 +2,8 @@
 -- scripts, whose grammar is in `script_reader/specs/Arguments`.
 use Rattle.std.specs.Prelude.{ℕ, List, [], ◌∷◌, Option, None, Some, codes, map}
 use Rattle.plan_report.specs.Layout.{spaced}
-use Rattle.plan_report.specs.declared.reply.RefusalCode.{RefusalCode}
-use Rattle.plan_report.specs.declared.reply.RefusalCode.TheVariants.{Q2, Q3, Q5}
+use Rattle.plan_lines.specs.declared.reply.RefusalCode.{RefusalCode}
+use Rattle.plan_lines.specs.declared.reply.RefusalCode.TheVariants.{Q2, Q3, Q5}
 use Rattle.script_reader.specs.declared.command_words.CommandWord.{CommandWord}
 use Rattle.script_reader.specs.declared.command_words.CommandWord.TheVariants as word
 use Rattle.line_causes.specs.declared.forms.Slot.{Slot}

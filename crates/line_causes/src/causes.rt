@@ -7,7 +7,8 @@ ghost use Rattle.line_causes.specs.Forms.{slot_words};
 use crate::QuoteFault;
 use crate::forms::{Slot, form_of, front_words, next_words, slot_code, slot_words};
 use plan_base::{Kind, Text};
-use plan_report::{RefusalCode, printed_word};
+use plan_lines::RefusalCode;
+use plan_report::printed_word;
 use script_reader::CommandWord;
 use std::alloc::{AllocError, Global};
 

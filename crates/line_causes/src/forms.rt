@@ -3,7 +3,7 @@ ghost use Rattle.std.specs.Prelude.{◌≡◌, IfOk, string_bytes};
 ghost use Rattle.std.specs.List.{slice_get};
 ghost use Rattle.line_causes.specs.Forms.{form, front_words, next_words, slot_code, slot_name, slot_words};
 
-use plan_report::RefusalCode;
+use plan_lines::RefusalCode;
 use script_reader::CommandWord;
 use std::alloc::{AllocError, Global};
 

@@ -1,4 +1,8 @@
 pub mod WorldLemmas
+pub mod SlotLemmas
+pub mod OwnedLemmas
+pub mod BlockLemmas
+pub mod MaskLemmas
 pub mod RepairedLemmas
 pub mod LawLemmas
 pub mod ChangeLemmas

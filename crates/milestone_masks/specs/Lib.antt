@@ -1,5 +1,6 @@
 pub mod Worlds
 pub mod Kept
+pub mod Held
 pub mod Laws
 pub mod Why
 pub mod Found

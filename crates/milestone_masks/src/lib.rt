@@ -4,6 +4,7 @@
 mod laws;
 mod missing;
 mod ranks;
+mod slots;
 mod why;
 mod worlds;
 

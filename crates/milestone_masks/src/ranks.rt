@@ -8,7 +8,7 @@ ghost use Rattle.reach_ranks.specs.Given.{size_of};
 use graph_store::Rows;
 use index_heap::Heap;
 use plan_base::{NodeId, Steps};
-use reach_incremental::{repair, repair_above};
+use reach_incremental::repair;
 use reach_ranks::Ranks;
 use std::alloc::{AllocError, Global};
 use std::marker::Model;
@@ -50,6 +50,13 @@ impl WorldRanks {
         self.ranks.of[node.0 as usize]
     }
 
+    /// The rank of each node, by its number.
+    pub fn as_slice(&self) -> &[u32]
+        ensures { result.now ≡ self.now }
+    {
+        &self.ranks.of
+    }
+
     /// The same ranks again.
     pub fn copy(&self, alloc: Global) -> Result<WorldRanks, AllocError>
         ensures { IfOk result (λ copy. copy ≡ self.now) }
@@ -84,43 +91,6 @@ impl WorldRanks {
     {
         repair(
             &mut self.ranks,
-            rows,
-            barred,
-            granted,
-            extra,
-            heap,
-            changed,
-            steps,
-        );
-    }
-
-    /// What `repair` does, where the ranks of the world without the extra bar are known, so that less is looked at.
-    pub fn repair_above<R: Rows<L>, L>(
-        &mut self,
-        floor: &WorldRanks,
-        rows: &R,
-        barred: &[bool],
-        granted: &[bool],
-        extra: Option<NodeId>,
-        heap: &mut Heap,
-        changed: &[NodeId],
-        steps: &mut Steps<L>,
-    )
-        requires marks { IsWhole (world (R.rows rows.now) barred.now granted.now extra) }
-        requires ranks { length self.old ≡ length (R.rows rows.now) }
-        requires floor { AreRanks (world (R.rows rows.now) barred.now granted.now None) floor.now }
-        requires heap { heap.old ≡ replicate (length (R.rows rows.now)) None }
-        requires changed { All (λ n. n.0 < length (R.rows rows.now)) changed.now }
-        requires agree { let w = world (R.rows rows.now) barred.now granted.now extra in
-            (n : ℕ) → n < length w.rows → has_node changed.now n ≡ false → Agrees w self.old n }
-        ensures ranks { AreRanks (world (R.rows rows.now) barred.now granted.now extra) self.new }
-        ensures heap { heap.new ≡ heap.old }
-        ensures steps { steps.new ≤ steps.old + 6 * size_of (R.rows rows.now) changed.now self.old self.new }
-        ensures later { steps.old ≤ steps.new }
-    {
-        repair_above(
-            &mut self.ranks,
-            &floor.ranks.of,
             rows,
             barred,
             granted,

@@ -1,5 +1,6 @@
 //! The worlds of all milestones.
-ghost use Rattle.std.specs.Prelude.{◌≡◌, ◌≢◌, ℕ, ◌+◌, ◌*◌, ◌-◌, ◌^◌, ◌<◌, ◌≤◌, ◌↔◌, ◌∷◌, List, None, Some, [], not, All, filter, insert, length, map, min, remove, replicate, slice_get, slice_index, IfErr, IfOk, IsTrue, OnErr, OnOk};
+ghost use Rattle.std.specs.Bool.{OnTrue};
+ghost use Rattle.std.specs.Prelude.{◌≡◌, ◌≢◌, ℕ, ◌+◌, ◌*◌, ◌-◌, ◌^◌, ◌<◌, ◌≤◌, ◌↔◌, ◌∷◌, ◌++◌, if◌then◌else◌, List, None, Some, [], not, All, filter, insert, length, map, min, remove, replicate, slice_get, slice_index, IfErr, IfOk, IsTrue, OnErr, OnOk};
 ghost use Rattle.reach_ranks.specs.Rounds.{world, IsWhole};
 ghost use Rattle.reach_ranks.specs.Ranks.{AreRanks};
 ghost use Rattle.reach_ranks.specs.Given.{size_of, sum_below};
@@ -9,6 +10,7 @@ ghost use Rattle.milestone_masks.specs.Why.{IsWhy};
 
 use crate::missing::missing_of;
 use crate::ranks::WorldRanks;
+use crate::slots::Milestones;
 use crate::why::why_of;
 use graph_store::{Group, Rows};
 use index_heap::Heap;
@@ -45,7 +47,7 @@ pub enum MilestoneFault {
 pub struct Worlds {
     heap: Heap,
     base: WorldRanks,
-    milestones: Vec<Milestone>,
+    milestones: Milestones,
 }
 
 impl Model for Worlds {
@@ -58,7 +60,7 @@ impl Model for Worlds {
 
     ghost view = { λ w. record { base = w.base; milestones = w.milestones.items } };
 
-    ghost invariant = { λ w. IsKept w.heap w.base w.milestones.items };
+    ghost invariant = { λ w. IsKept w.heap w.base w.milestones.nodes w.milestones.items };
 }
 
 impl Worlds {
@@ -73,12 +75,38 @@ impl Worlds {
         ensures none { IfOk result (λ worlds. worlds.milestones ≡ []) }
     {
         let base = WorldRanks::from_ranks(base);
-        let heap = Heap::make(alloc, base.len() as u32)?;
+        let nodes = base.len();
+        let heap = Heap::make(alloc, nodes as u32)?;
         Ok(Worlds {
             heap,
             base,
-            milestones: Vec::new(alloc),
+            milestones: Milestones::new(alloc, nodes),
         })
+    }
+
+    /// The same ranks of the same milestones again.
+    ///
+    /// # Errors
+    ///
+    /// `NoMemory` where memory could not be had.
+    pub fn copy(&self, alloc: Global) -> Result<Worlds, NoMemory>
+        ensures { IfOk result (λ copy. copy ≡ self.now) }
+    {
+        let base = self.base.copy(alloc)?;
+        let heap = Heap::make(alloc, base.len() as u32)?;
+        let milestones = self.milestones.copy(alloc)?;
+        Ok(Worlds {
+            heap,
+            base,
+            milestones,
+        })
+    }
+
+    /// Whether the same nodes are milestones in the same order.
+    pub fn has_milestones_of(&self, other: &Worlds) -> bool
+        ensures { OnTrue result (milestones_of self.now ≡ milestones_of other.now) }
+    {
+        self.milestones.has_nodes_of(&other.milestones)
     }
 
     /// The rank of a node in the base world.
@@ -102,8 +130,7 @@ impl Worlds {
         requires { k < length self.now.milestones }
         ensures { slice_get (milestones_of self.now) k ≡ Some result }
     {
-        let milestone = &self.milestones[k as usize];
-        milestone.node
+        self.milestones.node(k as usize)
     }
 
     /// Whether the node isn't reached in the world of the milestone at a place.
@@ -112,8 +139,7 @@ impl Worlds {
         requires place { k < length self.now.milestones }
         ensures { (m : Milestone) → slice_get self.now.milestones k ≡ Some m → (IsTrue result ↔ (slice_index m.ranks node.0 ≡ 0)) }
     {
-        let milestone = &self.milestones[k as usize];
-        milestone.ranks.rank(node) == 0
+        self.milestones.rank(k as usize, node) == 0
     }
 
     /// The milestones in whose world the node isn't reached, in order.
@@ -199,7 +225,7 @@ impl Worlds {
         ensures none { OnErr result (place_of self.old.milestones node.0 ≡ None) }
         ensures err { OnErr result (self.new ≡ self.old) }
     {
-        match place_of(&self.milestones, node) {
+        match self.milestones.place_of(node) {
             None => Err(MilestoneFault::NotOne),
             Some(place) => {
                 self.milestones.remove(place);
@@ -227,8 +253,7 @@ impl Worlds {
     {
         let _count = rows.len();
         self.base.repair(rows, barred, granted, None, &mut self.heap, changed, steps);
-        repair_each(
-            &mut self.milestones,
+        self.milestones.repair_each(
             &self.base,
             rows,
             barred,
@@ -291,39 +316,56 @@ impl Worlds {
     }
 }
 
-/// The place of a milestone.
-fn place_of(milestones: &[Milestone], node: NodeId) -> Option<usize>
-    ensures { result ≡ place_of milestones.now node.0 }
+/// Adds the milestone at a place in the order where the node has no rank in its world.
+fn push_masked(
+    nodes: &mut Vec<NodeId>,
+    milestones: &Milestones,
+    k: usize,
+    node: NodeId,
+) -> Result<(), AllocError>
+    requires place { k < length milestones.now.items }
+    requires node { node.0 < milestones.now.nodes }
+    ensures { (m : Milestone) → slice_get milestones.now.items k ≡ Some m → OnOk result (nodes.new.items ≡ nodes.old.items ++ (if ranked m.ranks node.0 then [] else m.node ∷ [])) }
 {
-    milestones.iter().position(|m| m.node.0 == node.0)
+    if milestones.rank(k, node) != 0 {
+        return Ok(());
+    }
+    nodes.push(milestones.node(k))?;
+    Ok(())
+}
+
+/// 1 where the node has no rank in the world of the milestone at a place in the order, and else 0.
+fn mask_bit(milestones: &Milestones, k: usize, node: NodeId) -> u32
+    requires place { k < length milestones.now.items }
+    requires node { node.0 < milestones.now.nodes }
+    ensures bit { (m : Milestone) → slice_get milestones.now.items k ≡ Some m → result ≡ (if ranked m.ranks node.0 then 0 else 1) }
+    ensures few { result ≤ 1 }
+{
+    if milestones.rank(k, node) == 0 { 1 } else { 0 }
 }
 
 /// The milestones in whose world the node has no rank.
-fn mask_in(alloc: Global, milestones: &[Milestone], node: NodeId) -> Result<Vec<NodeId>, AllocError>
-    requires { All (λ m. node.0 < length m.ranks) milestones.now }
-    ensures { IfOk result (λ nodes. nodes.items ≡ map (λ m. m.node) (filter (λ m. not (ranked m.ranks node.0)) milestones.now)) }
+fn mask_in(alloc: Global, milestones: &Milestones, node: NodeId) -> Result<Vec<NodeId>, AllocError>
+    requires { node.0 < milestones.now.nodes }
+    ensures { IfOk result (λ nodes. nodes.items ≡ map (λ m. m.node) (filter (λ m. not (ranked m.ranks node.0)) milestones.now.items)) }
 {
     let mut nodes = Vec::new(alloc);
-    for m in milestones {
-        if m.ranks.rank(node) == 0 {
-            nodes.push(m.node)?;
-        }
+    for k in 0..milestones.len() {
+        push_masked(&mut nodes, milestones, k, node)?;
     }
     Ok(nodes)
 }
 
 /// How many milestones there are in whose world the node has no rank.
-fn mask_len_in(milestones: &[Milestone], node: NodeId) -> u32
-    requires ranks { All (λ m. node.0 < length m.ranks) milestones.now }
-    requires few { length milestones.now ≤ 256 }
-    ensures count { result ≡ length (map (λ m. m.node) (filter (λ m. not (ranked m.ranks node.0)) milestones.now)) }
+fn mask_len_in(milestones: &Milestones, node: NodeId) -> u32
+    requires node { node.0 < milestones.now.nodes }
+    requires few { length milestones.now.items ≤ 256 }
+    ensures count { result ≡ length (map (λ m. m.node) (filter (λ m. not (ranked m.ranks node.0)) milestones.now.items)) }
     ensures few { result ≤ 256 }
 {
     let mut count = 0;
-    for m in milestones {
-        if m.ranks.rank(node) == 0 {
-            count += 1;
-        }
+    for k in 0..milestones.len() {
+        count += mask_bit(milestones, k, node);
     }
     count
 }
@@ -332,7 +374,7 @@ fn mask_len_in(milestones: &[Milestone], node: NodeId) -> u32
 fn add<R: Rows<L>, L>(
     heap: &mut Heap,
     base: &WorldRanks,
-    milestones: &mut Vec<Milestone>,
+    milestones: &mut Milestones,
     alloc: Global,
     rows: &R,
     barred: &[bool],
@@ -341,7 +383,7 @@ fn add<R: Rows<L>, L>(
     place: usize,
     steps: &mut Steps<L>,
 ) -> Result<(), MilestoneFault>
-    requires kept { IsKept heap.old base.now milestones.old.items }
+    requires kept { IsKept heap.old base.now milestones.old.nodes milestones.old.items }
     requires marks { IsWhole (world (R.rows rows.now) barred.now granted.now None) }
     requires base { AreRanks (world (R.rows rows.now) barred.now granted.now None) base.now }
     requires node { node.0 < length (R.rows rows.now) }
@@ -349,13 +391,14 @@ fn add<R: Rows<L>, L>(
     ensures answer { AddAnswer result milestones.old.items node.0 }
     ensures added { OnOk result (AddsWorld (world (R.rows rows.now) barred.now granted.now (Some node)) node place milestones.old.items milestones.new.items) }
     ensures heap { heap.new ≡ heap.old }
+    ensures nodes { milestones.new.nodes ≡ milestones.old.nodes }
     ensures err { OnErr result (milestones.new.items ≡ milestones.old.items) }
     ensures no_step { IfErr result (λ fault. fault ≢ MilestoneFault.NoMemory → steps.new ≡ steps.old) }
     ensures steps { (ranks : List ℕ) → AreRanks (world (R.rows rows.now) barred.now granted.now (Some node)) ranks
         → steps.new ≤ steps.old + 6 * size_of (R.rows rows.now) (node ∷ []) base.now ranks }
     ensures later { steps.old ≤ steps.new }
 {
-    if place_of(milestones, node).is_some() {
+    if milestones.place_of(node).is_some() {
         return Err(MilestoneFault::Already);
     }
     if milestones.len() >= MILESTONE_LIMIT {
@@ -365,39 +408,8 @@ fn add<R: Rows<L>, L>(
         return Err(MilestoneFault::NoMemory);
     };
     ranks.repair(rows, barred, granted, Some(node), heap, &[node], steps);
-    let Ok(()) = milestones.insert(place, Milestone { node, ranks }) else {
+    let Ok(()) = milestones.insert(alloc, place, Milestone { node, ranks }) else {
         return Err(MilestoneFault::NoMemory);
     };
     Ok(())
-}
-
-/// Repairs the ranks of each milestone's world, where those of the base world are right.
-fn repair_each<R: Rows<L>, L>(
-    milestones: &mut [Milestone],
-    base: &WorldRanks,
-    rows: &R,
-    barred: &[bool],
-    granted: &[bool],
-    heap: &mut Heap,
-    changed: &[NodeId],
-    steps: &mut Steps<L>,
-)
-    requires marks { IsWhole (world (R.rows rows.now) barred.now granted.now None) }
-    requires base { AreRanks (world (R.rows rows.now) barred.now granted.now None) base.now }
-    requires heap { heap.old ≡ replicate (length (R.rows rows.now)) None }
-    requires changed { All (λ n. n.0 < length (R.rows rows.now)) changed.now }
-    requires agree { All (λ m. AgreeBut (world (R.rows rows.now) barred.now granted.now (Some m.node)) changed.now m.ranks) milestones.old }
-    ensures ranks { All (λ m. AreRanks (world (R.rows rows.now) barred.now granted.now (Some m.node)) m.ranks) milestones.new }
-    ensures milestones { map (λ m. m.node) milestones.new ≡ map (λ m. m.node) milestones.old }
-    ensures heap { heap.new ≡ heap.old }
-    ensures steps { steps.new ≤ steps.old
-        + 6 * sum_below (size_in_world (R.rows rows.now) changed.now milestones.old milestones.new) (length milestones.old) }
-    ensures later { steps.old ≤ steps.new }
-{
-    for i in 0..milestones.len() {
-        let m = &mut milestones[i];
-        let extra = Some(m.node);
-        m.ranks
-            .repair_above(base, rows, barred, granted, extra, heap, changed, steps);
-    }
 }

@@ -5,7 +5,8 @@ use crate::decimals::decimal;
 use crate::escape::{cut, escaped, label};
 use fractions::Ratio;
 use plan_base::{Kind, NoMemory};
-use plan_report::{RefusalCode, kind_word};
+use plan_lines::RefusalCode;
+use plan_report::kind_word;
 use std::alloc::Global;
 
 /// A piece of a page, a drawing or a graph.

@@ -6,7 +6,7 @@ use Rattle.game_types.specs.declared.games.Game.{Game}
 use Rattle.game_types.specs.declared.setups.Activity.{Activity}
 use Rattle.game_types.specs.declared.setups.Activity.TheVariants.{Craft, Mine, Pump, Generate, Boil, Research}
 use Rattle.page_parts.specs.Escape.{escaped}
-use Rattle.plan_report.specs.declared.reply.Figures.{Figures}
+use Rattle.plan_lines.specs.declared.reply.Figures.{Figures}
 use Rattle.production_table.specs.declared.tables.TableRow.{TableRow}
 use Rattle.page_rows.specs.Cells.{amount_cell, figure_cell, power_cell}
 use Rattle.page_rows.specs.Setups.{setup_text}

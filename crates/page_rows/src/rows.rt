@@ -11,7 +11,7 @@ use fractions::{Ratio, is_zero};
 use game_types::{Activity, Game};
 use page_parts::escaped;
 use plan_base::NoMemory;
-use plan_report::Figures;
+use plan_lines::Figures;
 use production_table::TableRow;
 use std::alloc::Global;
 

@@ -7,7 +7,7 @@ use linear_table::{Column, Linear, LinearColumn, Plan};
 use page_parts::{Amount, Done, Flow, column_flows, machine_name};
 use page_rows::{Thing, good_thing, thing_name};
 use plan_base::{NoMemory, Text};
-use plan_report::Figures;
+use plan_lines::Figures;
 use production_table::Table;
 use std::alloc::Global;
 

@@ -6,7 +6,8 @@ use game_types::Game;
 use page_parts::Done;
 use page_rows::{Piece, Thing, put, thing_text};
 use plan_base::{Items, Kind, NoMemory, NodeId};
-use plan_report::{RefusalCode, Reply, print_reply};
+use plan_lines::{RefusalCode, Reply};
+use plan_report::print_reply;
 use std::alloc::Global;
 
 /// A line of the script, and the game that its names are of.

@@ -6,7 +6,7 @@ use game_types::{BeaconGroup, Game};
 use page_parts::Done;
 use page_rows::{Piece, Thing, figure_cell, good_thing, put, thing_text};
 use plan_base::{EntityId, GoodId, Kind};
-use plan_report::Figures;
+use plan_lines::Figures;
 use production_table::TableRow;
 use std::alloc::Global;
 

@@ -1,5 +1,5 @@
 //! What refusals mean.
-use plan_report::RefusalCode;
+use plan_lines::RefusalCode;
 
 /// The cause of a refusal in words.
 pub fn meaning(code: RefusalCode) -> &'static str {

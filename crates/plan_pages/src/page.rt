@@ -11,7 +11,7 @@ use page_parts::{Done, cut};
 use page_rows::{Piece, Thing, put};
 use plan_base::NoMemory;
 use plan_charts::Shown;
-use plan_report::{RefusalCode, Reply};
+use plan_lines::{RefusalCode, Reply};
 use production_table::Table;
 use std::alloc::Global;
 use std::mem;

@@ -3,7 +3,7 @@ use Rattle.std.specs.Prelude.{ℕ, List, [], ◌∷◌, ◌++◌, Option, None, 
 use Rattle.fractions.specs.Fraction.{Fraction}
 use Rattle.fractions.specs.Print.{printed}
 use Rattle.plan_report.specs.Plans.{figure_word}
-use Rattle.plan_report.specs.declared.reply.Figures.{Figures}
+use Rattle.plan_lines.specs.declared.reply.Figures.{Figures}
 use Rattle.report_json.specs.Numbers.{decimal_of}
 
 abbrev pub Fields : Type 0

@@ -7,7 +7,7 @@ use Rattle.game_types.specs.declared.games.Game.{Game}
 use Rattle.linear_table.specs.declared.Column.{Column}
 use Rattle.linear_table.specs.declared.Column.TheVariants.{Line as TableRow, Import, Surplus, Unit as Single}
 use Rattle.linear_table.specs.declared.Plan.{Plan}
-use Rattle.plan_report.specs.declared.reply.Figures.{Figures}
+use Rattle.plan_lines.specs.declared.reply.Figures.{Figures}
 use Rattle.production_table.specs.declared.tables.Table.{Table}
 use Rattle.production_table.specs.declared.tables.TableRow.{TableRow as Row}
 use Rattle.plan_records.specs.Fields.{Fields, with_field, with_machines, with_no_machines, with_no_number, with_no_uses, with_number, with_uses}

@@ -6,7 +6,7 @@ use Rattle.plan_base.specs.declared.ids.GoodId.{GoodId}
 use Rattle.game_types.specs.declared.games.Game.{Game}
 use Rattle.linear_table.specs.declared.Column.{Column}
 use Rattle.linear_table.specs.declared.Plan.{Plan}
-use Rattle.plan_report.specs.declared.reply.Figures.{Figures}
+use Rattle.plan_lines.specs.declared.reply.Figures.{Figures}
 use Rattle.production_table.specs.declared.tables.Table.{Table}
 use Rattle.plan_records.specs.Fields.{Fields}
 use Rattle.plan_records.specs.Records.{head_text, price_of, row_of, streams_of, total_record, want_of}

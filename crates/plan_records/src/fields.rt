@@ -7,7 +7,7 @@ ghost use Rattle.plan_records.specs.Fields.{with_blank, with_field, with_figure,
 use csv::StringRecord;
 use fractions::Ratio;
 use plan_base::NoMemory;
-use plan_report::Figures;
+use plan_lines::Figures;
 use report_json::decimal_of;
 use std::alloc::Global;
 

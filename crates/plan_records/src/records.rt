@@ -13,7 +13,7 @@ use csv::StringRecord;
 use fractions::Ratio;
 use game_types::Game;
 use plan_base::{GoodId, NoMemory};
-use plan_report::Figures;
+use plan_lines::Figures;
 use production_table::TableRow;
 use report_json::good_id;
 use std::alloc::Global;

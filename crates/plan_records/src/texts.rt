@@ -12,7 +12,7 @@ use fractions::Ratio;
 use game_types::Game;
 use linear_table::{Column, Plan};
 use plan_base::{GoodId, NoMemory};
-use plan_report::Figures;
+use plan_lines::Figures;
 use production_table::{Table, TableRow};
 use std::alloc::Global;
 

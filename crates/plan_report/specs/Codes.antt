@@ -2,8 +2,8 @@
 use Rattle.std.specs.Prelude.{ℕ, List, codes}
 use Rattle.game_types.specs.declared.effects.EffectKind.{EffectKind}
 use Rattle.game_types.specs.declared.effects.EffectKind.TheVariants.{Speed, Productivity, Consumption, Pollution}
-use Rattle.plan_report.specs.declared.reply.RefusalCode.{RefusalCode}
-use Rattle.plan_report.specs.declared.reply.RefusalCode.TheVariants.{Q1, Q2, Q3, Q4, Q5, X1, X2, X3, X4, M1, M2, M3, H1, H2, H3, H4, H5, P1, P2, P3, P4, P5, K1, K2, K3, K4, K5, L1, L2, L3, L4, U1, U2, U3, B1, V1, V2}
+use Rattle.plan_lines.specs.declared.reply.RefusalCode.{RefusalCode}
+use Rattle.plan_lines.specs.declared.reply.RefusalCode.TheVariants.{Q1, Q2, Q3, Q4, Q5, X1, X2, X3, X4, M1, M2, M3, H1, H2, H3, H4, H5, P1, P2, P3, P4, P5, K1, K2, K3, K4, K5, L1, L2, L3, L4, U1, U2, U3, B1, V1, V2}
 
 abbrev pub code_word : RefusalCode → List ℕ
 code_word Q1 = codes "Q1"

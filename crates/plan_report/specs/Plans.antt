@@ -16,7 +16,7 @@ use Rattle.linear_table.specs.declared.SolveAnswer.TheVariants.{Planned, Infeasi
 use Rattle.plan_report.specs.Layout.{Line}
 use Rattle.plan_report.specs.Nodes.{good_word}
 use Rattle.plan_report.specs.Words.{printed_word}
-use Rattle.plan_report.specs.declared.reply.Figures.{Figures}
+use Rattle.plan_lines.specs.declared.reply.Figures.{Figures}
 
 -- ---- a plan
 -- a figure that is past the limits of fractions is wide

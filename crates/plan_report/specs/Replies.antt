@@ -10,10 +10,10 @@ use Rattle.plan_report.specs.Layout.{Line, reply_text}
 use Rattle.plan_report.specs.Nodes.{node_word}
 use Rattle.plan_report.specs.Questions.{list_lines, mask_line, milestones_lines, missing_lines, reach_line, summary_line, why_lines}
 use Rattle.plan_report.specs.Words.{object_word, printed_word}
-use Rattle.plan_report.specs.declared.reply.Detail.{Detail}
-use Rattle.plan_report.specs.declared.reply.Detail.TheVariants.{Bare, Word, Node, Effect, Row}
-use Rattle.plan_report.specs.declared.reply.Reply.{Reply}
-use Rattle.plan_report.specs.declared.reply.Reply.TheVariants.{Ok, Nothing, Held, Reach, List as Listed, Why, Missing, Mask, Milestones, Summary, Rate, Solved, Refused}
+use Rattle.plan_lines.specs.declared.reply.Detail.{Detail}
+use Rattle.plan_lines.specs.declared.reply.Detail.TheVariants.{Bare, Word, Node, Effect, Row}
+use Rattle.plan_lines.specs.declared.reply.Reply.{Reply}
+use Rattle.plan_lines.specs.declared.reply.Reply.TheVariants.{Ok, Nothing, Held, Reach, List as Listed, Why, Missing, Mask, Milestones, Summary, Rate, Solved, Refused}
 use Rattle.plan_report.specs.Codes.{code_word, effect_word}
 use Rattle.plan_report.specs.Plans.{solved_lines}
 

@@ -2,8 +2,8 @@
 ghost use Rattle.std.specs.Prelude.{◌≡◌};
 ghost use Rattle.plan_report.specs.Codes.{code_word, effect_word};
 
-use crate::reply::RefusalCode;
 use game_types::EffectKind;
+use plan_lines::RefusalCode;
 
 pub fn code_word(code: RefusalCode) -> &'static str
     ensures { result.now ≡ code_word code }

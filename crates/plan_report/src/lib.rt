@@ -13,7 +13,6 @@ mod plans;
 mod printing;
 mod questions;
 mod rates;
-mod reply;
 mod solved;
 mod words;
 
@@ -22,5 +21,4 @@ pub use answers::{
 };
 pub use nodes::{good_word, node_word};
 pub use printing::print_reply;
-pub use reply::{Detail, Figures, RefusalCode, Reply};
 pub use words::{kind_word, object_word, printed_word};

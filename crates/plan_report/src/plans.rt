@@ -8,12 +8,12 @@ ghost use Rattle.plan_report.specs.Layout.{further_line, further_text, line_then
 ghost use Rattle.plan_report.specs.Plans.{column_kind, column_name, exchange_line, figure_word, place_line, price_line, price_lines, row_line, stream_lines, total_line, use_words};
 
 use crate::numbers::number_end;
-use crate::reply::Figures;
 use crate::{good_word, printed_word};
 use fractions::Ratio;
 use game_types::Game;
 use linear_table::{Column, Exchange, Place};
 use plan_base::{GoodId, NoMemory, Text};
+use plan_lines::Figures;
 use std::alloc::Global;
 
 // A figure, or that it is past the limits of fractions.

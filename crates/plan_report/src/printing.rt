@@ -6,7 +6,6 @@ ghost use Rattle.plan_report.specs.Replies.{at_words, detail_words, named_word, 
 
 use crate::codes::{code_word, effect_word};
 use crate::rates::rate_text;
-use crate::reply::{Detail, RefusalCode, Reply};
 use crate::solved::solved_text;
 use crate::{
     list_text, mask_text, milestones_text, missing_text, node_word, object_word, printed_word,
@@ -14,6 +13,7 @@ use crate::{
 };
 use game_types::Game;
 use plan_base::{Kind, NoMemory, Text};
+use plan_lines::{Detail, RefusalCode, Reply};
 use std::alloc::Global;
 
 // The word at which a refusal comes.

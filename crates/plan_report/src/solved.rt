@@ -8,11 +8,11 @@ use crate::plans::{
     exchange_lines, exchange_words, place_line, price_lines, row_lines, stream_lines, total_line,
 };
 use crate::printed_word;
-use crate::reply::Figures;
 use fractions::Ratio;
 use game_types::Game;
 use linear_table::{Column, Exchange, Place, Plan, SolveAnswer};
 use plan_base::{GoodId, NoMemory, Text};
+use plan_lines::Figures;
 use std::alloc::Global;
 
 // The further lines of a plan.

@@ -12,12 +12,12 @@ use Rattle.linear_table.proofs.Duality.{no_plan, no_plan_costs_less}
 use Rattle.certificate_file.specs.declared.CertEntry.{CertEntry}
 use Rattle.certificate_file.specs.declared.Claim.{Claim}
 use Rattle.certificate_file.specs.declared.Claim.TheVariants as claims
-use Rattle.script_reader.specs.declared.change.Change.{Change}
-use Rattle.script_reader.specs.declared.command.Command.{Command}
-use Rattle.script_reader.specs.declared.command.Command.TheVariants as command
-use Rattle.plan_report.specs.declared.reply.RefusalCode.{RefusalCode}
-use Rattle.plan_report.specs.declared.reply.RefusalCode.TheVariants as code
-use Rattle.plan_report.specs.declared.reply.Reply.{Reply}
+use Rattle.plan_lines.specs.declared.change.Change.{Change}
+use Rattle.plan_lines.specs.declared.command.Command.{Command}
+use Rattle.plan_lines.specs.declared.command.Command.TheVariants as command
+use Rattle.plan_lines.specs.declared.reply.RefusalCode.{RefusalCode}
+use Rattle.plan_lines.specs.declared.reply.RefusalCode.TheVariants as code
+use Rattle.plan_lines.specs.declared.reply.Reply.{Reply}
 use Rattle.table_words.specs.Refusals.{Outcome, refused}
 use Rattle.table_words.specs.declared.refusals.TableRefusal.{TableRefusal}
 use Rattle.production_table.specs.declared.tables.Table.{Table}
@@ -34,13 +34,13 @@ use Rattle.planner_core.specs.declared.posing.Posed.TheVariants as posed
 use Rattle.script_runner.specs.Verdicts.{IsPlanVerdict, IsVerdict, claim_at}
 use Rattle.script_runner.specs.declared.verdict.Verdict.{Verdict}
 use Rattle.script_runner.specs.declared.verdict.Verdict.TheVariants.{ProvedPlan, ProvedInfeasible, Open, Rejected}
-use Rattle.script_runner.specs.Answers.{Answered, IsAnswered, IsReply, Reading}
+use Rattle.line_answers.specs.Answers.{Answered, IsAnswered, IsReply, Reading}
 use Rattle.planner_cli.specs.Facts.{Asks, CheckHeadline, Headline, IsAfresh, IsShown, ProvesTruly, SolvesOrTellsWhy, TakesBack, TellsByRounds, TellsWhyNot}
 use Rattle.script_runner.specs.Plans.{TellsOfTable}
-use Rattle.script_runner.specs.Sessions.{IsSession}
+use Rattle.line_answers.specs.Sessions.{IsSession}
 use Rattle.script_runner.specs.Trials.{IsJudged, IsJudgedBy, IsSaid, IsTrial, Judged}
 use Rattle.script_runner.proofs.PlanLemmas.{solves_rightly}
-use Rattle.script_runner.proofs.SessionLemmas.{afresh, grown}
+use Rattle.line_answers.proofs.SessionLemmas.{afresh, grown}
 
 -- ---- one line
 -- what the line does where no batch is open

@@ -23,7 +23,7 @@ use Rattle.run_inputs.specs.Early.{is_cut}
 use Rattle.run_inputs.specs.Inputs.{IsBase, IsCert, IsScript}
 use Rattle.run_inputs.specs.Told.{is_answered, steps_line}
 use Rattle.cli_words.specs.Words.{Asked, Check, FileNames, Files, Prove, Run, Sample}
-use Rattle.planner_cli.specs.Ending.{Answers, EndsChecked, EndsRun}
+use Rattle.planner_cli.specs.Ending.{Answers, EndsChecked, EndsRun, in_answers, in_line, in_sample_answers, in_sample_line, in_steps, lines_told, no_sample_told, no_steps, nothing_told, sample_lines_told}
 use Rattle.planner_cli.specs.Headline.{AreToldLines, ChecksOfGame, IsHeadline, IsTold, TellsNothing, TellsOfGame, TellsOfRun}
 use Rattle.planner_cli.proofs.FactLemmas.{check_headline, headline}
 use Rattle.planner_cli.proofs.RecheckLemmas.{first_grown}
@@ -101,19 +101,17 @@ cut_run shelf names taken solved text game bytes steps base given (inr long) = i
 of_run : (shelf : Shelf) (names : FileNames) (taken : ℕ) (solved : List SolveAnswer) (status : Status) (text : List ℕ) (work : ℕ) → EndsRun shelf (Some (Files Run names)) taken solved status text work → IsHeadline shelf (Some (Files Run names)) taken solved status text
 unfolding EndsRun EndsScript
 of_run shelf names taken solved Done text work ends =
-    let a = ends.answers in
-    tells_game shelf (Some (Files Run names)) taken solved Done text a.game a.script (lines_of a.script) ends.told a.line_work a.base a.script_is refl a.ends.tells (ends.whole ∙ a.ends.tells.told)
+    let a = ends in
+    tells_game shelf (Some (Files Run names)) taken solved Done text a.game a.script (lines_of a.script) text a.line_work a.base a.script_is refl a.ends.tells a.ends.tells.told
 of_run shelf names taken solved SomeRefused text work ends =
-    let a = ends.answers in
-    tells_game shelf (Some (Files Run names)) taken solved SomeRefused text a.game a.script (lines_of a.script) ends.told a.line_work a.base a.script_is refl a.ends.tells (ends.whole ∙ a.ends.tells.told)
-of_run shelf names taken solved NoMemory text work (inl none) = inl (NoMemory, none.told)
-of_run shelf names taken solved NoMemory text work (inr (inl a)) =
+    let a = ends in
+    tells_game shelf (Some (Files Run names)) taken solved SomeRefused text a.game a.script (lines_of a.script) text a.line_work a.base a.script_is refl a.ends.tells a.ends.tells.told
+of_run shelf names taken solved NoMemory text work (nothing_told none) = inl (NoMemory, none.told)
+of_run shelf names taken solved NoMemory text work (lines_told a) =
     let some = a.ends.1 in
     inr (tells_game shelf (Some (Files Run names)) taken solved NoMemory text a.game a.script (take some.count (lines_of a.script)) text a.ends.0 a.base a.script_is (some.count, refl) some.tells some.tells.told)
-of_run shelf names taken solved NoMemory text work (inr (inr sample)) = let never : ⊥ = cc (sample.is_sample) in absurd never
-of_run shelf names taken solved WriteFault text work (inl cut) = inl (cut.early, cut.stopped.told)
-of_run shelf names taken solved WriteFault text work (inr (inl a)) = cut_run shelf names taken solved text a.game a.script a.line_work a.base a.script_is a.ends
-of_run shelf names taken solved WriteFault text work (inr (inr sample)) = let never : ⊥ = cc (sample.is_sample) in absurd never
+of_run shelf names taken solved WriteFault text work (in_line cut) = inl (cut.early, cut.stopped.told)
+of_run shelf names taken solved WriteFault text work (in_answers a) = cut_run shelf names taken solved text a.game a.script a.line_work a.base a.script_is a.ends
 of_run shelf names taken solved (TooLong ScriptLines) text work ends = inl (TooLong ScriptLines, ends.ends.told)
 of_run shelf names taken solved ReadFault text work ends = inl (ReadFault, ends.told)
 of_run shelf names taken solved BadWords text work ends = inl (BadWords, ends.told)
@@ -145,15 +143,15 @@ of_sample : (shelf : Shelf) (number size taken : ℕ) (solved : List SolveAnswer
 unfolding EndsRun EndsScript
 of_sample shelf number size taken solved Done text work ends = sample_all shelf number size taken solved Done text script.Done ends.told work (λ bytes. refl) refl ends.answers (inr ends.whole)
 of_sample shelf number size taken solved SomeRefused text work ends = sample_all shelf number size taken solved SomeRefused text script.SomeRefused ends.told work (λ bytes. refl) refl ends.answers (inr ends.whole)
-of_sample shelf number size taken solved NoMemory text work (inl none) = inl (NoMemory, none.told)
-of_sample shelf number size taken solved NoMemory text work (inr (inl a)) =
+of_sample shelf number size taken solved NoMemory text work (no_sample_told none) = inl (NoMemory, none.told)
+of_sample shelf number size taken solved NoMemory text work (sample_lines_told a) =
     let some = a.ends.1 in
     inr (tells_game shelf (Some (Sample number size)) taken solved NoMemory text a.game a.script (take some.count (lines_of a.script)) text a.ends.0 a.base a.script_is (some.count, refl) some.tells (inl some.tells.told))
-of_sample shelf number size taken solved NoMemory text work (inr (inr lacks)) = inr (sample_all shelf number size taken solved NoMemory text lacks.end text work (λ bytes. all_first (lines_of bytes)) lacks.answered lacks.answers (inl refl))
-of_sample shelf number size taken solved WriteFault text work (inl cut) = inl (cut.early, cut.stopped.told)
-of_sample shelf number size taken solved WriteFault text work (inr (inl a)) = cut_sample shelf number size taken solved text a.game a.script a.line_work a.base a.script_is a.ends
-of_sample shelf number size taken solved WriteFault text work (inr (inr cut)) =
-    inr (sample_all shelf number size taken solved WriteFault text cut.end cut.all.told work (λ bytes. all_first (lines_of bytes)) cut.answered cut.all.answers (inr cut.all.whole))
+of_sample shelf number size taken solved NoMemory text work (no_steps end answered a) = inr (sample_all shelf number size taken solved NoMemory text end text work (λ bytes. all_first (lines_of bytes)) answered a (inl refl))
+of_sample shelf number size taken solved WriteFault text work (in_sample_line cut) = inl (cut.early, cut.stopped.told)
+of_sample shelf number size taken solved WriteFault text work (in_sample_answers a) = cut_sample shelf number size taken solved text a.game a.script a.line_work a.base a.script_is a.ends
+of_sample shelf number size taken solved WriteFault text work (in_steps end answered all) =
+    inr (sample_all shelf number size taken solved WriteFault text end all.told work (λ bytes. all_first (lines_of bytes)) answered all.answers (inr all.whole))
 of_sample shelf number size taken solved (TooLong ScriptLines) text work ends = inl (TooLong ScriptLines, ends.ends.told)
 of_sample shelf number size taken solved ReadFault text work ends = inl (ReadFault, ends.told)
 of_sample shelf number size taken solved BadWords text work ends = inl (BadWords, ends.told)
@@ -173,17 +171,15 @@ cut_proof shelf names taken solved text game bytes steps base given (inr long) =
 of_proof : (shelf : Shelf) (names : FileNames) (taken : ℕ) (solved : List SolveAnswer) (status : Status) (text : List ℕ) (work : ℕ) → EndsRun shelf (Some (Files Prove names)) taken solved status text work → IsHeadline shelf (Some (Files Prove names)) taken solved status text
 unfolding EndsRun EndsProof
 of_proof shelf names taken solved Done text work ends =
-    let a = ends.answers in
-    tells_game shelf (Some (Files Prove names)) taken solved Done text a.game a.script (lines_of a.script) a.ends.replies a.line_work a.base a.script_is refl a.ends.tells.tells (ends.whole ∙ a.ends.told)
+    let a = ends in
+    tells_game shelf (Some (Files Prove names)) taken solved Done text a.game a.script (lines_of a.script) a.ends.replies a.line_work a.base a.script_is refl a.ends.tells.tells a.ends.told
 of_proof shelf names taken solved SomeRefused text work ends =
-    let a = ends.answers in
-    tells_game shelf (Some (Files Prove names)) taken solved SomeRefused text a.game a.script (lines_of a.script) a.ends.replies a.line_work a.base a.script_is refl a.ends.tells.tells (ends.whole ∙ a.ends.told)
-of_proof shelf names taken solved NoMemory text work (inl none) = inl (NoMemory, none.told)
-of_proof shelf names taken solved NoMemory text work (inr (inl a)) = inl (NoMemory, a.ends.told)
-of_proof shelf names taken solved NoMemory text work (inr (inr sample)) = let never : ⊥ = cc (sample.is_sample) in absurd never
-of_proof shelf names taken solved WriteFault text work (inl cut) = inl (cut.early, cut.stopped.told)
-of_proof shelf names taken solved WriteFault text work (inr (inl a)) = cut_proof shelf names taken solved text a.game a.script a.line_work a.base a.script_is a.ends
-of_proof shelf names taken solved WriteFault text work (inr (inr sample)) = let never : ⊥ = cc (sample.is_sample) in absurd never
+    let a = ends in
+    tells_game shelf (Some (Files Prove names)) taken solved SomeRefused text a.game a.script (lines_of a.script) a.ends.replies a.line_work a.base a.script_is refl a.ends.tells.tells a.ends.told
+of_proof shelf names taken solved NoMemory text work (nothing_told none) = inl (NoMemory, none.told)
+of_proof shelf names taken solved NoMemory text work (lines_told a) = inl (NoMemory, a.ends.told)
+of_proof shelf names taken solved WriteFault text work (in_line cut) = inl (cut.early, cut.stopped.told)
+of_proof shelf names taken solved WriteFault text work (in_answers a) = cut_proof shelf names taken solved text a.game a.script a.line_work a.base a.script_is a.ends
 of_proof shelf names taken solved (TooLong ScriptLines) text work ends = inl (TooLong ScriptLines, ends.ends.told)
 of_proof shelf names taken solved ReadFault text work ends = inl (ReadFault, ends.told)
 of_proof shelf names taken solved BadWords text work ends = inl (BadWords, ends.told)
@@ -209,19 +205,17 @@ of_check : (shelf : Shelf) (cert : List ℕ) (names : FileNames) (taken : ℕ) (
     → IsHeadline shelf (Some (Files (Check cert) names)) taken solved status text
 unfolding EndsRun EndsCheck
 of_check shelf cert names taken solved Done text work ends =
-    let a = ends.answers in
-    rw ends.whole (checks_game shelf cert names Done ends.told a.game a.script a.ends.entries a.line_work a.base a.script_is a.ends.given refl true a.ends.ends)
+    let a = ends in
+    checks_game shelf cert names Done text a.game a.script a.ends.entries a.line_work a.base a.script_is a.ends.given refl true a.ends.ends
 of_check shelf cert names taken solved SomeRefused text work ends =
-    let a = ends.answers in
-    rw ends.whole (checks_game shelf cert names SomeRefused ends.told a.game a.script a.ends.entries a.line_work a.base a.script_is a.ends.given refl false a.ends.ends)
-of_check shelf cert names taken solved NoMemory text work (inl none) = inl (NoMemory, none.told)
-of_check shelf cert names taken solved NoMemory text work (inr (inl a)) =
+    let a = ends in
+    checks_game shelf cert names SomeRefused text a.game a.script a.ends.entries a.line_work a.base a.script_is a.ends.given refl false a.ends.ends
+of_check shelf cert names taken solved NoMemory text work (nothing_told none) = inl (NoMemory, none.told)
+of_check shelf cert names taken solved NoMemory text work (lines_told a) =
     let some = a.ends.ends.1 in
     inr (checks_some shelf cert names NoMemory text a.game a.script a.ends.entries a.ends.ends.0 a.base a.script_is a.ends.given some (some.count, refl))
-of_check shelf cert names taken solved NoMemory text work (inr (inr sample)) = let never : ⊥ = cc (sample.is_sample) in absurd never
-of_check shelf cert names taken solved WriteFault text work (inl cut) = inl (cut.early, cut.stopped.told)
-of_check shelf cert names taken solved WriteFault text work (inr (inl a)) = cut_check shelf cert names taken solved text a.game a.script a.line_work a.base a.script_is a.ends
-of_check shelf cert names taken solved WriteFault text work (inr (inr sample)) = let never : ⊥ = cc (sample.is_sample) in absurd never
+of_check shelf cert names taken solved WriteFault text work (in_line cut) = inl (cut.early, cut.stopped.told)
+of_check shelf cert names taken solved WriteFault text work (in_answers a) = cut_check shelf cert names taken solved text a.game a.script a.line_work a.base a.script_is a.ends
 of_check shelf cert names taken solved (TooLong ScriptLines) text work ends = inl (TooLong ScriptLines, ends.ends.told)
 of_check shelf cert names taken solved ReadFault text work ends = inl (ReadFault, ends.told)
 of_check shelf cert names taken solved BadWords text work ends = inl (BadWords, ends.told)
@@ -234,14 +228,12 @@ of_check shelf cert names taken solved (TooLong CertBytes) text work ends = inl 
 -- ---- words that ask for nothing
 of_none : (shelf : Shelf) (taken : ℕ) (solved : List SolveAnswer) (status : Status) (text : List ℕ) (work : ℕ) → EndsRun shelf None taken solved status text work → IsHeadline shelf None taken solved status text
 unfolding EndsRun
-of_none shelf taken solved Done text work ends = absurd ends.answers.script_is
-of_none shelf taken solved SomeRefused text work ends = absurd ends.answers.script_is
-of_none shelf taken solved NoMemory text work (inl none) = inl (NoMemory, none.told)
-of_none shelf taken solved NoMemory text work (inr (inl a)) = absurd a.script_is
-of_none shelf taken solved NoMemory text work (inr (inr sample)) = let never : ⊥ = cc (sample.is_sample) in absurd never
-of_none shelf taken solved WriteFault text work (inl cut) = inl (cut.early, cut.stopped.told)
-of_none shelf taken solved WriteFault text work (inr (inl a)) = absurd a.script_is
-of_none shelf taken solved WriteFault text work (inr (inr sample)) = let never : ⊥ = cc (sample.is_sample) in absurd never
+of_none shelf taken solved Done text work ends = absurd ends.script_is
+of_none shelf taken solved SomeRefused text work ends = absurd ends.script_is
+of_none shelf taken solved NoMemory text work (nothing_told none) = inl (NoMemory, none.told)
+of_none shelf taken solved NoMemory text work (lines_told a) = absurd a.script_is
+of_none shelf taken solved WriteFault text work (in_line cut) = inl (cut.early, cut.stopped.told)
+of_none shelf taken solved WriteFault text work (in_answers a) = absurd a.script_is
 of_none shelf taken solved (TooLong ScriptLines) text work ends = absurd ends.script_is
 of_none shelf taken solved ReadFault text work ends = inl (ReadFault, ends.told)
 of_none shelf taken solved BadWords text work ends = inl (BadWords, ends.told)

@@ -51,7 +51,7 @@ pub record Proves (side : Side) (certificate : List ℕ) : Type 0 where
 proves : (side : Side) (certificate : List ℕ) → IsProved side certificate → Proves side certificate
 unfolding EndsRun
 proves side certificate is =
-    let all = is.ends.answers in
+    let all = is.ends in
     record {
       game = all.game;
       dump = all.base.dump;
@@ -61,7 +61,7 @@ proves side certificate is =
       script_is = all.script_is;
       solved = is.solved;
       steps = all.line_work;
-      ends = subst (λ (t : List ℕ). EndsProof (first_planned all.game) all.script is.solved script_end.Done t all.line_work) (sym is.ends.whole) all.ends;
+      ends = all.ends;
     }
 
 pub first_grown : (game : Game) → IsSessionOf (first_state game) (first_planned game)
@@ -176,7 +176,7 @@ ends_as : OneGame → (first second : Side) (cert certificate : List ℕ) (taken
 unfolding EndsRun
 ends_as games first second cert certificate taken solved Done text work is files narrow ends reads writes memory = refl
 ends_as games first second cert certificate taken solved SomeRefused text work is files narrow ends reads writes memory =
-    absurd (none_refused games first second cert certificate ends.answers.game ends.answers.script solved ends.told ends.answers.line_work is files narrow ends.answers.base ends.answers.script_is ends.answers.ends)
+    absurd (none_refused games first second cert certificate ends.game ends.script solved text ends.line_work is files narrow ends.base ends.script_is ends.ends)
 ends_as games first second cert certificate taken solved (TooLong ScriptLines) text work is files narrow ends reads writes memory =
     absurd (not_many first second cert certificate ends.script solved text ends.line_work is files ends.script_is ends.ends)
 ends_as games first second cert certificate taken solved ReadFault text work is files narrow ends reads writes memory = absurd (reads refl)

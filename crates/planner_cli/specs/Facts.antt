@@ -8,12 +8,12 @@ use Rattle.linear_table.specs.declared.Plan.{Plan}
 use Rattle.edit_undo.specs.Edits.{apply_edits}
 use Rattle.edit_undo.specs.Kept.{session_of}
 use Rattle.edit_undo.specs.Session.{active_edits, undo_of}
-use Rattle.script_reader.specs.declared.change.Object.{Object}
-use Rattle.script_reader.specs.declared.command.Command.{Command}
-use Rattle.script_reader.specs.declared.command.Command.TheVariants as command
-use Rattle.plan_report.specs.declared.reply.RefusalCode.TheVariants as code
-use Rattle.plan_report.specs.declared.reply.Reply.{Reply}
-use Rattle.plan_report.specs.declared.reply.Reply.TheVariants as reply
+use Rattle.plan_lines.specs.declared.change.Object.{Object}
+use Rattle.plan_lines.specs.declared.command.Command.{Command}
+use Rattle.plan_lines.specs.declared.command.Command.TheVariants as command
+use Rattle.plan_lines.specs.declared.reply.RefusalCode.TheVariants as code
+use Rattle.plan_lines.specs.declared.reply.Reply.{Reply}
+use Rattle.plan_lines.specs.declared.reply.Reply.TheVariants as reply
 use Rattle.table_words.specs.Refusals.{refused}
 use Rattle.table_words.specs.declared.refusals.TableRefusal.{TableRefusal}
 use Rattle.planner_tables.specs.Questions.{linear_named}
@@ -27,7 +27,7 @@ use Rattle.planner_core.specs.Posing.{form_asked}
 use Rattle.planner_core.specs.declared.posing.Posed.TheVariants as posed
 use Rattle.script_runner.specs.declared.verdict.Verdict.{Verdict}
 use Rattle.script_runner.specs.declared.verdict.Verdict.TheVariants.{ProvedPlan, ProvedInfeasible}
-use Rattle.script_runner.specs.Answers.{Answered}
+use Rattle.line_answers.specs.Answers.{Answered}
 use Rattle.script_runner.specs.Plans.{HasNoPlanBy, IsLeastCostPlan, TellsOfTable}
 use Rattle.script_runner.specs.Trials.{Judged}
 

@@ -5,6 +5,7 @@ ghost use Rattle.script_runner.specs.Scripts.{is_cut};
 ghost use Rattle.planner_cli.specs.Ending.{EndsAnswered};
 ghost use Rattle.run_inputs.specs.Keeping.{KeepsSink};
 
+use line_answers::Listener;
 use linear_table::SolveAnswer;
 use plan_base::Steps;
 use plan_io::Sink;
@@ -15,12 +16,13 @@ use script_runner::{prove_script, run_script};
 use std::alloc::Global;
 
 // Answers the script with a planner that is lent.
-fn answer_lent<K: Sink, L>(
+fn answer_lent<K: Sink, W: Listener, L>(
     alloc: Global,
     planner: &mut Planner,
     script: &[u8],
     prove: bool,
     out: &mut K,
+    listener: &mut W,
     solved: &mut Vec<SolveAnswer>,
     steps: &mut Steps<L>,
 ) -> ScriptEnd
@@ -28,19 +30,21 @@ fn answer_lent<K: Sink, L>(
     ensures leaves { Leaves (EndsAnswered prove planner.old script.now solved.new.items) is_cut (K.written out.old) (K.written out.new) steps.old steps.new result }
     ensures sink { KeepsSink (K.limit out.old) (K.limit out.new) (K.faults out.old) (K.faults out.new) (result ≡ ScriptEnd.WriteFault) }
 {
+    listener.begins(planner);
     if prove {
-        prove_script(alloc, planner, script, out, solved, steps)
+        prove_script(alloc, planner, script, out, listener, solved, steps)
     } else {
-        run_script(alloc, planner, script, out, solved, steps)
+        run_script(alloc, planner, script, out, listener, solved, steps)
     }
 }
 
 /// Answers each line of the script before the next, writes each reply or behind the last line their certificate, and keeps what the solver answers.
-pub fn answer<K: Sink, L>(
+pub fn answer<K: Sink, W: Listener, L>(
     alloc: Global,
     ready: Ready,
     prove: bool,
     out: &mut K,
+    listener: &mut W,
     solved: &mut Vec<SolveAnswer>,
     steps: &mut Steps<L>,
 ) -> ScriptEnd
@@ -52,5 +56,14 @@ pub fn answer<K: Sink, L>(
         mut planner,
         script,
     } = ready;
-    answer_lent(alloc, &mut planner, &script, prove, out, solved, steps)
+    answer_lent(
+        alloc,
+        &mut planner,
+        &script,
+        prove,
+        out,
+        listener,
+        solved,
+        steps,
+    )
 }

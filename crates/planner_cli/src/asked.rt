@@ -11,6 +11,7 @@ ghost use Rattle.cli_words.specs.Words.{asked_of};
 
 use crate::modes::{check_files, run_files, run_sample};
 use cli_words::{Asked, FileMode, WordsFault, plain_words, read_words};
+use line_answers::Listener;
 use linear_table::SolveAnswer;
 use plan_base::{Steps, Text};
 use plan_io::{Sink, Store};
@@ -18,11 +19,12 @@ use run_inputs::{Status, tell};
 use std::alloc::Global;
 
 // Does what the words ask for. What the solver answers is kept in `solved`.
-fn run_asked<S: Store, K: Sink, L>(
+fn run_asked<S: Store, K: Sink, W: Listener, L>(
     alloc: Global,
     asked: Asked<'_>,
     store: &mut S,
     out: &mut K,
+    listener: &mut W,
     solved: &mut Vec<SolveAnswer>,
     steps: &mut Steps<L>,
 ) -> Status
@@ -37,20 +39,29 @@ fn run_asked<S: Store, K: Sink, L>(
 {
     match asked {
         Asked::Files { mode, dump, script } => match mode {
-            FileMode::Run => run_files(alloc, dump, script, false, store, out, solved, steps),
-            FileMode::Prove => run_files(alloc, dump, script, true, store, out, solved, steps),
-            FileMode::Check(cert) => check_files(alloc, dump, script, cert, store, out, steps),
+            FileMode::Run => run_files(
+                alloc, dump, script, false, store, out, listener, solved, steps,
+            ),
+            FileMode::Prove => run_files(
+                alloc, dump, script, true, store, out, listener, solved, steps,
+            ),
+            FileMode::Check(cert) => {
+                check_files(alloc, dump, script, cert, store, out, listener, steps)
+            }
         },
-        Asked::Sample { number, size } => run_sample(alloc, number, size, out, solved, steps),
+        Asked::Sample { number, size } => run_sample(
+            alloc, number, size, out, listener, solved, steps,
+        ),
     }
 }
 
 // The status of a run. What the solver answers is kept in `solved`.
-fn status_of_run<S: Store, K: Sink, L>(
+fn status_of_run<S: Store, K: Sink, W: Listener, L>(
     alloc: Global,
     words: &[Text],
     store: &mut S,
     out: &mut K,
+    listener: &mut W,
     solved: &mut Vec<SolveAnswer>,
     steps: &mut Steps<L>,
 ) -> Status
@@ -66,18 +77,19 @@ fn status_of_run<S: Store, K: Sink, L>(
         return tell(alloc, Status::NoMemory, out);
     };
     match read_words(alloc, &plain) {
-        Ok(asked) => run_asked(alloc, asked, store, out, solved, steps),
+        Ok(asked) => run_asked(alloc, asked, store, out, listener, solved, steps),
         Err(WordsFault::Undefined) => tell(alloc, Status::BadWords, out),
         Err(WordsFault::NoMemory) => tell(alloc, Status::NoMemory, out),
     }
 }
 
 /// The status of a run, which tells the truth. What the solver answers is kept in `solved`.
-pub fn run_words<S: Store, K: Sink, L>(
+pub fn run_words<S: Store, K: Sink, W: Listener, L>(
     alloc: Global,
     words: &[Text],
     store: &mut S,
     out: &mut K,
+    listener: &mut W,
     solved: &mut Vec<SolveAnswer>,
     steps: &mut Steps<L>,
 ) -> Status
@@ -89,5 +101,5 @@ pub fn run_words<S: Store, K: Sink, L>(
     ensures store { KeepsStore (S.shelf store.old) (S.shelf store.new) (S.faults store.old) (S.faults store.new) (result ≡ Status.ReadFault) }
     ensures sink { KeepsSink (K.limit out.old) (K.limit out.new) (K.faults out.old) (K.faults out.new) (result ≡ Status.WriteFault) }
 {
-    status_of_run(alloc, words, store, out, solved, steps)
+    status_of_run(alloc, words, store, out, listener, solved, steps)
 }

@@ -12,6 +12,7 @@ ghost use Rattle.run_inputs.specs.Keeping.{KeepsSink, KeepsSlots, KeepsStore};
 ghost use Rattle.cli_words.specs.Words.{Check, FileNames, Files, Run, Sample};
 
 use crate::answer::answer;
+use line_answers::Listener;
 use linear_table::SolveAnswer;
 use plan_base::Steps;
 use plan_io::{Sink, Store};
@@ -24,13 +25,14 @@ use script_runner::{check_lines, tell_many_lines};
 use std::alloc::Global;
 
 /// Answers the script of a file over the dump of another, and writes the replies or their certificate.
-pub fn run_files<S: Store, K: Sink, L>(
+pub fn run_files<S: Store, K: Sink, W: Listener, L>(
     alloc: Global,
     dump: &str,
     script: &str,
     prove: bool,
     store: &mut S,
     out: &mut K,
+    listener: &mut W,
     solved: &mut Vec<SolveAnswer>,
     steps: &mut Steps<L>,
 ) -> Status
@@ -43,19 +45,20 @@ pub fn run_files<S: Store, K: Sink, L>(
     ensures sink { KeepsSink (K.limit out.old) (K.limit out.new) (K.faults out.old) (K.faults out.new) (result ≡ Status.WriteFault) }
 {
     match read_files(alloc, dump, script, store, steps) {
-        Ok(ready) => status_of(answer(alloc, ready, prove, out, solved, steps)),
+        Ok(ready) => status_of(answer(alloc, ready, prove, out, listener, solved, steps)),
         Err(early) => tell(alloc, early, out),
     }
 }
 
 // Checks the lines of a script against the certificate of a file, with a planner that is lent.
-fn check_lent<S: Store, K: Sink, L>(
+fn check_lent<S: Store, K: Sink, W: Listener, L>(
     alloc: Global,
     planner: &mut Planner,
     script: &[u8],
     cert: &str,
     store: &mut S,
     out: &mut K,
+    listener: &mut W,
     steps: &mut Steps<L>,
 ) -> Status
     requires calls { (S.begun store.old).calls < 4 }
@@ -71,6 +74,7 @@ fn check_lent<S: Store, K: Sink, L>(
     if has_many_lines(script) {
         return status_of(tell_many_lines(out));
     }
+    listener.begins(planner);
     match read_entries(alloc, cert, store) {
         Ok(entries) => status_of(check_lines(
             alloc,
@@ -78,6 +82,7 @@ fn check_lent<S: Store, K: Sink, L>(
             script,
             entries.as_slice(),
             out,
+            listener,
             steps,
         )),
         Err(early) => tell(alloc, early, out),
@@ -85,12 +90,13 @@ fn check_lent<S: Store, K: Sink, L>(
 }
 
 // Checks the lines of a script against the certificate of a file.
-fn check_ready<S: Store, K: Sink, L>(
+fn check_ready<S: Store, K: Sink, W: Listener, L>(
     alloc: Global,
     ready: Ready,
     cert: &str,
     store: &mut S,
     out: &mut K,
+    listener: &mut W,
     steps: &mut Steps<L>,
 ) -> Status
     requires calls { (S.begun store.old).calls < 4 }
@@ -107,17 +113,27 @@ fn check_ready<S: Store, K: Sink, L>(
         mut planner,
         script,
     } = ready;
-    check_lent(alloc, &mut planner, &script, cert, store, out, steps)
+    check_lent(
+        alloc,
+        &mut planner,
+        &script,
+        cert,
+        store,
+        out,
+        listener,
+        steps,
+    )
 }
 
 /// Checks the script of a file over the dump of another against the certificate of a third.
-pub fn check_files<S: Store, K: Sink, L>(
+pub fn check_files<S: Store, K: Sink, W: Listener, L>(
     alloc: Global,
     dump: &str,
     script: &str,
     cert: &str,
     store: &mut S,
     out: &mut K,
+    listener: &mut W,
     steps: &mut Steps<L>,
 ) -> Status
     requires calls { (S.begun store.old).calls ≤ 1 }
@@ -128,17 +144,18 @@ pub fn check_files<S: Store, K: Sink, L>(
     ensures sink { KeepsSink (K.limit out.old) (K.limit out.new) (K.faults out.old) (K.faults out.new) (result ≡ Status.WriteFault) }
 {
     match read_files(alloc, dump, script, store, steps) {
-        Ok(ready) => check_ready(alloc, ready, cert, store, out, steps),
+        Ok(ready) => check_ready(alloc, ready, cert, store, out, listener, steps),
         Err(early) => tell(alloc, early, out),
     }
 }
 
 /// Answers the script of a sample over its dump, and tells the steps that this took.
-pub fn run_sample<K: Sink, L>(
+pub fn run_sample<K: Sink, W: Listener, L>(
     alloc: Global,
     number: u32,
     size: u32,
     out: &mut K,
+    listener: &mut W,
     solved: &mut Vec<SolveAnswer>,
     steps: &mut Steps<L>,
 ) -> Status
@@ -154,7 +171,7 @@ pub fn run_sample<K: Sink, L>(
         Ok(ready) => ready,
         Err(early) => return tell(alloc, early, out),
     };
-    let end = answer(alloc, ready, false, out, solved, steps);
+    let end = answer(alloc, ready, false, out, listener, solved, steps);
     if is_answered(end) {
         tell_steps(alloc, end, steps.taken() - before, out)
     } else {

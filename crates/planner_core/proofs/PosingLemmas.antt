@@ -3,9 +3,9 @@ use Rattle.std.proofs.Common.{◌≡◌, ◌∙◌, ℕ, false, List, Option, No
 use Rattle.std.proofs.lemmas.Result.{IfOk-weaker}
 use Rattle.game_types.specs.declared.games.Game.{Game}
 use Rattle.linear_table.specs.declared.Linear.{Linear}
-use Rattle.script_reader.specs.declared.command.Command.{Command}
-use Rattle.script_reader.specs.declared.command.Command.TheVariants as command
-use Rattle.plan_report.specs.declared.reply.Reply.{Reply as AnyReply}
+use Rattle.plan_lines.specs.declared.command.Command.{Command}
+use Rattle.plan_lines.specs.declared.command.Command.TheVariants as command
+use Rattle.plan_lines.specs.declared.reply.Reply.{Reply as AnyReply}
 use Rattle.planner_tables.specs.Effects.{table_at, table_named}
 use Rattle.planner_tables.specs.Questions.{IsSolveReply, IsSolveReplyAt, IsSolvedWhere, linear_outcome}
 use Rattle.table_words.specs.Refusals.{Outcome, refused}

@@ -1,9 +1,9 @@
 -- Steps of a planner, with a batch and without.
 use Rattle.std.proofs.Common.{◌≡◌, ℕ, false, true, List, [], ◌∷◌, Option, None, Some, Result, IfOk, refl, sym, subst}
 use Rattle.std.specs.List.{list_all}
-use Rattle.script_reader.specs.declared.change.Change.{Change}
-use Rattle.script_reader.specs.declared.command.Command.{Command}
-use Rattle.plan_report.specs.declared.reply.Reply.{Reply}
+use Rattle.plan_lines.specs.declared.change.Change.{Change}
+use Rattle.plan_lines.specs.declared.command.Command.{Command}
+use Rattle.plan_lines.specs.declared.reply.Reply.{Reply}
 use Rattle.state_changes.specs.Actions.{can_be_held}
 use Rattle.state_changes.specs.Effects.{is_entry}
 use Rattle.state_changes.specs.States.{State}

@@ -5,14 +5,14 @@ use Rattle.game_types.specs.declared.games.Game.{Game}
 use Rattle.edit_undo.specs.Edits.{apply_edits}
 use Rattle.edit_undo.specs.Session.{Session, last_of, redo_of, undo_of, with_entry}
 use Rattle.edit_undo.specs.Kept.{Kept, nothing, session_of, IsHistoryOf}
-use Rattle.script_reader.specs.declared.change.Change.{Change}
-use Rattle.script_reader.specs.declared.command.Command.{Command}
-use Rattle.script_reader.specs.declared.command.Command.TheVariants as command
+use Rattle.plan_lines.specs.declared.change.Change.{Change}
+use Rattle.plan_lines.specs.declared.command.Command.{Command}
+use Rattle.plan_lines.specs.declared.command.Command.TheVariants as command
 use Rattle.state_changes.specs.declared.refusals.Refusal.{Refusal}
-use Rattle.plan_report.specs.declared.reply.RefusalCode.{RefusalCode}
-use Rattle.plan_report.specs.declared.reply.RefusalCode.TheVariants as code
-use Rattle.plan_report.specs.declared.reply.Reply.{Reply}
-use Rattle.plan_report.specs.declared.reply.Reply.TheVariants as reply
+use Rattle.plan_lines.specs.declared.reply.RefusalCode.{RefusalCode}
+use Rattle.plan_lines.specs.declared.reply.RefusalCode.TheVariants as code
+use Rattle.plan_lines.specs.declared.reply.Reply.{Reply}
+use Rattle.plan_lines.specs.declared.reply.Reply.TheVariants as reply
 use Rattle.planner_tables.specs.Questions.{rate_reply, IsSolveReply}
 use Rattle.state_changes.specs.declared.undos.Undo.{Undo}
 use Rattle.state_changes.specs.Actions.{Outcome, can_be_held, node_named}

@@ -3,9 +3,9 @@ use Rattle.std.specs.Prelude.{◌≡◌, ℕ, List, Option, None, Some, Ok, Err,
 use Rattle.game_types.specs.declared.games.Game.{Game}
 use Rattle.linear_table.specs.declared.Linear.{Linear}
 use Rattle.linear_table.specs.Plans.{IsWellFormed}
-use Rattle.script_reader.specs.declared.command.Command.{Command}
-use Rattle.script_reader.specs.declared.command.Command.TheVariants as command
-use Rattle.plan_report.specs.declared.reply.Reply.{Reply as AnyReply}
+use Rattle.plan_lines.specs.declared.command.Command.{Command}
+use Rattle.plan_lines.specs.declared.command.Command.TheVariants as command
+use Rattle.plan_lines.specs.declared.reply.Reply.{Reply as AnyReply}
 use Rattle.planner_tables.specs.Questions.{linear_named}
 use Rattle.table_words.specs.Refusals.{Outcome, refused}
 use Rattle.planner_core.specs.Lines.{Held, IsStep, Planned, line_work}

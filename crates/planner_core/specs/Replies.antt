@@ -18,12 +18,12 @@ use Rattle.milestone_masks.specs.Worlds.{missing_in}
 use Rattle.state_changes.specs.declared.refusals.Refusal.{Refusal}
 use Rattle.state_changes.specs.declared.refusals.Refusal.TheVariants.{Unknown, OfEdit, OfMilestone, OfTables}
 use Rattle.table_words.specs.Refusals.{code_of as table_code, detail_of as table_detail}
-use Rattle.plan_report.specs.declared.reply.Detail.{Detail}
-use Rattle.plan_report.specs.declared.reply.Detail.TheVariants.{Bare, Word}
-use Rattle.plan_report.specs.declared.reply.RefusalCode.{RefusalCode}
-use Rattle.plan_report.specs.declared.reply.RefusalCode.TheVariants as code
-use Rattle.plan_report.specs.declared.reply.Reply.{Reply}
-use Rattle.plan_report.specs.declared.reply.Reply.TheVariants as reply
+use Rattle.plan_lines.specs.declared.reply.Detail.{Detail}
+use Rattle.plan_lines.specs.declared.reply.Detail.TheVariants.{Bare, Word}
+use Rattle.plan_lines.specs.declared.reply.RefusalCode.{RefusalCode}
+use Rattle.plan_lines.specs.declared.reply.RefusalCode.TheVariants as code
+use Rattle.plan_lines.specs.declared.reply.Reply.{Reply}
+use Rattle.plan_lines.specs.declared.reply.Reply.TheVariants as reply
 use Rattle.state_changes.specs.Actions.{Outcome}
 use Rattle.state_changes.specs.States.{State}
 use Rattle.planning_state.specs.Worlds.{is_reached, mask_in, rank_of, ranks_in, world_of}
@@ -109,7 +109,7 @@ bits_at s n = if is_reached s.book n then length (mask_in s n) else 0
 
 -- how many lie in the masks of the reached nodes, in all
 abbrev pub bits_of : State → ℕ
-bits_of s = sum_by (bits_at s) (range_with_len 0 (node_count (shape_of s.book.game)))
+bits_of s = sum_by (λ n. if is_reached s.book n then length (mask_in s n) else 0) (range_with_len 0 (node_count (shape_of s.book.game)))
 
 abbrev pub summary_reply : State → ℕ → ℕ → Reply
 summary_reply s done undone = reply.Summary (reached_count s.book) (node_count (shape_of s.book.game)) (length s.milestones) (bits_of s) (length s.tables) done undone

@@ -7,8 +7,7 @@ ghost use Rattle.planner_core.specs.Lines.{changes_of, line_at};
 
 use crate::refusals::refused_as;
 use plan_base::NoMemory;
-use plan_report::{RefusalCode, Reply};
-use script_reader::Change;
+use plan_lines::{Change, RefusalCode, Reply};
 use state_changes::put;
 use std::alloc::Global;
 

@@ -1,6 +1,6 @@
 //! Lines that are answered with nothing solved.
 ghost use Rattle.std.specs.Prelude.{◌≡◌, ◌+◌, ◌≤◌, IfOk, OnErr};
-ghost use Rattle.plan_report.specs.declared.reply.Reply.{Reply as ReplyTo};
+ghost use Rattle.plan_lines.specs.declared.reply.Reply.{Reply as ReplyTo};
 ghost use Rattle.state_changes.specs.States.{State};
 ghost use Rattle.planner_core.specs.Lines.{IsSessionOf, IsStep};
 ghost use Rattle.planner_core.specs.Posing.{IsFormed, IsPosed, posed_work};
@@ -9,8 +9,7 @@ ghost use Rattle.planner_core.specs.declared.posing.Posed.TheVariants.{Reply as 
 use crate::Planner;
 use linear_table::Linear;
 use plan_base::{NoMemory, Steps};
-use plan_report::Reply;
-use script_reader::Command;
+use plan_lines::{Command, Reply};
 
 /// What a line is answered where nothing is solved.
 #[derive(Drop)]

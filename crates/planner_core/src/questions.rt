@@ -2,7 +2,7 @@
 ghost use Rattle.std.specs.Prelude.{◌≡◌, ◌+◌, ◌<◌, ◌≤◌, All, IfOk, map};
 ghost use Rattle.plan_base.specs.Shape.{node_count};
 ghost use Rattle.game_types.specs.Nodes.{shape_of};
-ghost use Rattle.plan_report.specs.declared.reply.Reply.TheVariants as reply;
+ghost use Rattle.plan_lines.specs.declared.reply.Reply.TheVariants as reply;
 ghost use Rattle.state_changes.specs.Actions.{node_named};
 ghost use Rattle.planner_core.specs.Replies.{mask_reply, missing_lines, missing_reply, why_line, AboutNode, IsWhyReply, reply_work};
 ghost use Rattle.planning_state.specs.Worlds.{is_reached, rank_of};
@@ -10,9 +10,8 @@ ghost use Rattle.planning_state.specs.Worlds.{is_reached, rank_of};
 use crate::refusals::not_found;
 use graph_store::Group;
 use plan_base::{Items, NoMemory, NodeId, Steps};
-use plan_report::Reply;
+use plan_lines::{Object, Reply};
 use planning_state::Planning;
-use script_reader::Object;
 use std::alloc::Global;
 
 /// The round that reaches a node.

@@ -6,7 +6,7 @@ ghost use Rattle.planner_core.specs.Replies.{list_reply, reached_count, reached_
 ghost use Rattle.planning_state.specs.Worlds.{is_reached, rank_of};
 
 use plan_base::{Items, Kind, NoMemory, NodeId};
-use plan_report::Reply;
+use plan_lines::Reply;
 use planning_state::Planning;
 use std::alloc::Global;
 

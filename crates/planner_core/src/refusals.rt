@@ -1,7 +1,7 @@
 //! Refusals as replies.
 ghost use Rattle.std.specs.Prelude.{◌≡◌, None, IfOk};
-ghost use Rattle.plan_report.specs.declared.reply.Reply.TheVariants as reply;
-ghost use Rattle.plan_report.specs.declared.reply.Detail.TheVariants.{Bare};
+ghost use Rattle.plan_lines.specs.declared.reply.Reply.TheVariants as reply;
+ghost use Rattle.plan_lines.specs.declared.reply.Detail.TheVariants.{Bare};
 ghost use Rattle.state_changes.specs.declared.refusals.Refusal.{Refusal as RefusalOf};
 ghost use Rattle.planner_core.specs.Replies.{edit_code, milestone_code, refused, refused_as};
 ghost use Rattle.game_types.specs.Sound.{IsSound};
@@ -10,9 +10,8 @@ use data_edit::EditFault;
 use game_types::Game;
 use milestone_masks::MilestoneFault;
 use plan_base::NoMemory;
-use plan_report::{Detail, RefusalCode, Reply};
+use plan_lines::{Detail, Object, RefusalCode, Reply};
 use planning_state::{ChangeFault, Refusal};
-use script_reader::Object;
 
 fn edit_code(fault: EditFault) -> RefusalCode
     ensures { result ≡ edit_code fault }

@@ -1,9 +1,9 @@
 -- Questions leave the planner, whether a batch is open or not.
 use Rattle.std.proofs.Common.{◌≡◌, ℕ, List}
 use Rattle.std.specs.Prelude.{Option, None, Some}
-use Rattle.script_reader.specs.declared.change.Object.{Object}
-use Rattle.script_reader.specs.declared.command.Command.TheVariants as command
-use Rattle.plan_report.specs.declared.reply.Reply.{Reply}
+use Rattle.plan_lines.specs.declared.change.Object.{Object}
+use Rattle.plan_lines.specs.declared.command.Command.TheVariants as command
+use Rattle.plan_lines.specs.declared.reply.Reply.{Reply}
 use Rattle.planner_core.specs.Lines.{Held, IsStep, IsStepIn, Planned}
 
 rank_in : (line : ℕ) (batch : Option (List Held)) (p r : Planned) (object : Object) (answer : Reply) → IsStepIn line batch p (command.Reach object) r answer → r ≡ p

@@ -8,10 +8,10 @@ use Rattle.plan_base.specs.declared.shape.Shape.{Shape}
 use Rattle.plan_base.specs.declared.ids.NodeId.{NodeId}
 use Rattle.game_types.specs.Nodes.{find_node, node_at, shape_of}
 use Rattle.game_types.specs.declared.games.Game.{Game}
-use Rattle.script_reader.specs.declared.change.Object.{Object}
-use Rattle.script_reader.specs.declared.command.Command.TheVariants as command
-use Rattle.plan_report.specs.declared.reply.Reply.{Reply}
-use Rattle.plan_report.specs.declared.reply.Reply.TheVariants as reply
+use Rattle.plan_lines.specs.declared.change.Object.{Object}
+use Rattle.plan_lines.specs.declared.command.Command.TheVariants as command
+use Rattle.plan_lines.specs.declared.reply.Reply.{Reply}
+use Rattle.plan_lines.specs.declared.reply.Reply.TheVariants as reply
 use Rattle.state_changes.specs.Actions.{known, node_named}
 use Rattle.state_changes.specs.States.{State}
 use Rattle.planning_state.specs.Worlds.{is_reached, mask_in, rank_of}

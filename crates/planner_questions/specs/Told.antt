@@ -2,8 +2,8 @@
 use Rattle.std.specs.Prelude.{ℕ, ◌==◌, Bool, true, false, List, [], Option, None, Some, position}
 use Rattle.std.specs.List.{filter_map}
 use Rattle.plan_base.specs.declared.ids.NodeId.{NodeId}
-use Rattle.plan_report.specs.declared.reply.Reply.{Reply}
-use Rattle.plan_report.specs.declared.reply.Reply.TheVariants as reply
+use Rattle.plan_lines.specs.declared.reply.Reply.{Reply}
+use Rattle.plan_lines.specs.declared.reply.Reply.TheVariants as reply
 use Rattle.state_changes.specs.States.{State}
 use Rattle.planning_state.specs.Worlds.{is_reached, mask_in}
 

@@ -1,12 +1,11 @@
 //! The commands that are questions.
 ghost use Rattle.std.specs.Prelude.{◌≡◌, IfOk};
-ghost use Rattle.script_reader.specs.declared.command.Command.TheVariants as CommandLine;
+ghost use Rattle.plan_lines.specs.declared.command.Command.TheVariants as CommandLine;
 ghost use Rattle.planner_core.specs.Lines.{IsStep};
 
 use plan_base::{NoMemory, Steps, Text};
-use plan_report::Reply;
+use plan_lines::{Command, Object, Reply};
 use planner_core::Planner;
-use script_reader::{Command, Object};
 
 /// At which rank a node is reached.
 ///

@@ -10,9 +10,8 @@ ghost use Rattle.planner_questions.specs.Told.{mask_of, place_of, places_of, tol
 use crate::asking::{ask_mask, ask_milestones, ask_rank};
 use game_types::Game;
 use plan_base::{Kind, NoMemory, NodeId, Steps, Text};
-use plan_report::Reply;
+use plan_lines::{Object, Reply};
 use planner_core::Planner;
-use script_reader::Object;
 use std::alloc::Global;
 
 // A node that is there, as a script names it.

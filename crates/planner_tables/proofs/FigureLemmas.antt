@@ -12,7 +12,7 @@ use Rattle.game_types.specs.Steps.{do_fit, is_narrow}
 use Rattle.game_types.proofs.StepLemmas.{fit_decided, narrow_decided}
 use Rattle.game_types.proofs.Walks.{next as next_of, drop_all}
 use Rattle.production_table.specs.declared.tables.TableRow.{TableRow}
-use Rattle.plan_report.specs.declared.reply.Figures.{Figures}
+use Rattle.plan_lines.specs.declared.reply.Figures.{Figures}
 use Rattle.planner_tables.specs.Figures.{ceiling, product, quotient_up, row_figures, rows_figures, summed, total, with_figures}
 
 -- ---- products and sums

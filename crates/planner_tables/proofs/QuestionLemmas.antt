@@ -10,7 +10,7 @@ use Rattle.game_types.proofs.Walks.{next as next_of, drop_all}
 use Rattle.production_table.specs.declared.tables.Table.{Table}
 use Rattle.production_table.specs.declared.tables.TableRow.{TableRow}
 use Rattle.production_table.specs.Tables.{labels_of}
-use Rattle.plan_report.specs.declared.reply.Reply.{Reply}
+use Rattle.plan_lines.specs.declared.reply.Reply.{Reply}
 use Rattle.table_words.specs.declared.refusals.TableRefusal.{TableRefusal}
 use Rattle.table_words.specs.declared.refusals.ChangeFault.{ChangeFault}
 use Rattle.planner_tables.specs.Effects.{table_at, table_named}

@@ -12,7 +12,7 @@ use Rattle.linear_table.specs.declared.SolveAnswer.{SolveAnswer}
 use Rattle.linear_table.specs.declared.SolveAnswer.TheVariants.{Planned, Infeasible, TooWide, OutOfBudget}
 use Rattle.production_table.specs.declared.tables.TableRow.{TableRow}
 use Rattle.table_rows.specs.Columns.{figures_of}
-use Rattle.plan_report.specs.declared.reply.Figures.{Figures}
+use Rattle.plan_lines.specs.declared.reply.Figures.{Figures}
 
 -- ---- figures of figures
 abbrev pub Figure : Type 0

@@ -18,8 +18,8 @@ use Rattle.production_table.specs.declared.tables.TableRow.{TableRow}
 use Rattle.table_rows.specs.Columns.{figures_of}
 use Rattle.production_table.specs.Linear.{linear_of}
 use Rattle.production_table.specs.Tables.{is_label, labels_of}
-use Rattle.plan_report.specs.declared.reply.Reply.{Reply}
-use Rattle.plan_report.specs.declared.reply.Reply.TheVariants as reply
+use Rattle.plan_lines.specs.declared.reply.Reply.{Reply}
+use Rattle.plan_lines.specs.declared.reply.Reply.TheVariants as reply
 use Rattle.table_words.specs.declared.refusals.TableRefusal.TheVariants.{NoName, Wide as WideRow}
 use Rattle.planner_tables.specs.Effects.{named, table_at, table_named}
 use Rattle.planner_tables.specs.Figures.{answer_figures, nothing, summed}

@@ -4,8 +4,8 @@ use Rattle.game_types.specs.declared.games.Game.{Game}
 use Rattle.game_types.specs.Goods.{good_count}
 use Rattle.game_types.specs.Sound.{IsSoundSetup}
 use Rattle.game_types.specs.Steps.{◌▸◌}
-use Rattle.script_reader.specs.declared.change.Change.{Change}
-use Rattle.script_reader.specs.declared.change.Change.TheVariants as change
+use Rattle.plan_lines.specs.declared.change.Change.{Change}
+use Rattle.plan_lines.specs.declared.change.Change.TheVariants as change
 use Rattle.production_table.specs.declared.tables.Table.{Table}
 use Rattle.production_table.specs.Changes.{with_balance, with_import, with_price, with_row, with_surplus, with_want, without_row}
 use Rattle.table_words.specs.declared.refusals.ChangeFault.{ChangeFault}

@@ -15,8 +15,8 @@ use crate::{ChangeFault, Splice, TableRefusal, TableUndo};
 use fractions::Ratio;
 use game_types::Game;
 use plan_base::Text;
+use plan_lines::Change;
 use production_table::Table;
-use script_reader::Change;
 use std::alloc::Global;
 use table_words::{good_named, setup_named};
 

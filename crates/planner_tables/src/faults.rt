@@ -5,8 +5,8 @@ ghost use Rattle.planner_tables.specs.Causes.{cause};
 
 use crate::{ChangeFault, TableRefusal};
 use plan_base::Text;
+use plan_lines::Object;
 use production_table::TableFault;
-use script_reader::Object;
 use std::alloc::Global;
 
 /// A name of which there is no table, or no row.

@@ -8,7 +8,7 @@ use fractions::Ratio;
 use game_types::{Effects, Game, Rates};
 use linear_table::SolveAnswer;
 use plan_base::{Items, NoMemory};
-use plan_report::Figures;
+use plan_lines::Figures;
 use production_table::TableRow;
 use std::alloc::Global;
 use table_rows::row_rates;

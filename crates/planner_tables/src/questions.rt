@@ -16,7 +16,7 @@ use game_types::Game;
 use linear_table::{Column, Linear, LinearColumn, SolveAnswer};
 use pivot_solver::solve;
 use plan_base::{Items, NoMemory, Text};
-use plan_report::{Figures, Reply};
+use plan_lines::{Figures, Reply};
 use production_table::{Table, TableRow};
 use std::alloc::Global;
 

@@ -14,7 +14,7 @@ use crate::{ChangeFault, TableRefusal, refused};
 use fractions::Ratio;
 use game_types::{Effects, Game, Rates};
 use plan_base::{NoMemory, Text};
-use plan_report::Reply;
+use plan_lines::Reply;
 use production_table::{Table, TableRow};
 use std::alloc::Global;
 use table_rows::row_rates;

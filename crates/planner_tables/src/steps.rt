@@ -15,8 +15,8 @@ use crate::{ChangeFault, Numbers, Splice, TablePart, TableRefusal};
 use fractions::Ratio;
 use game_types::{Game, Setup};
 use plan_base::{GoodId, Text};
+use plan_lines::Object;
 use production_table::Table;
-use script_reader::Object;
 use std::alloc::Global;
 
 /// A change of one table, with things in place of their names.

@@ -10,9 +10,9 @@ use Rattle.game_types.specs.Nodes.{shape_of}
 use Rattle.reach_ranks.specs.Given.{size_of}
 use Rattle.data_edit.specs.declared.books.Book.{Book}
 use Rattle.depend_rows.specs.Rows.{rows_of}
-use Rattle.script_reader.specs.declared.change.Object.{Object}
-use Rattle.script_reader.specs.declared.change.Change.{Change}
-use Rattle.script_reader.specs.declared.change.Change.TheVariants.{Grant, Revoke, Forbid, Permit, Milestone, Unmilestone, Ingredient, Product, Unlock, Time, Enabled, Table, Untable, Row, Unrow, Price, Want, Import, Surplus, Power}
+use Rattle.plan_lines.specs.declared.change.Object.{Object}
+use Rattle.plan_lines.specs.declared.change.Change.{Change}
+use Rattle.plan_lines.specs.declared.change.Change.TheVariants.{Grant, Revoke, Forbid, Permit, Milestone, Unmilestone, Ingredient, Product, Unlock, Time, Enabled, Table, Untable, Row, Unrow, Price, Want, Import, Surplus, Power}
 use Rattle.state_changes.specs.declared.undos.Undo.{Undo}
 use Rattle.state_changes.specs.declared.undos.Undo.TheVariants.{Taken}
 use Rattle.state_changes.specs.Actions.{Outcome, can_be_held, node_named}

@@ -21,7 +21,7 @@ use Rattle.depend_index.proofs.AlikeLemmas.{alike_back, alike_more, alike_same}
 use Rattle.depend_rows.proofs.TouchLemmas.{touches_all}
 use Rattle.milestone_masks.specs.Worlds.{AreWorlds, Kept, milestones_of, size_of_all}
 use Rattle.edit_undo.specs.Edits.{apply_from, then_apply, IsEntry, Leads}
-use Rattle.script_reader.specs.declared.change.Change.{Change}
+use Rattle.plan_lines.specs.declared.change.Change.{Change}
 use Rattle.state_changes.specs.declared.refusals.Refusal.{Refusal}
 use Rattle.state_changes.specs.declared.undos.Undo.{Undo}
 use Rattle.state_changes.specs.declared.undos.Undo.TheVariants.{Part, OfTables, Added, Taken}

@@ -1,6 +1,6 @@
 -- The rows and the ranks that are kept are determined by the state.
 use Rattle.std.proofs.Common.{◌≡◌, ◌∙◌, ℕ, ◌<◌, ◌≤◌, Bool, false, true, List, [], ◌∷◌, Option, None, Some, Result, Ok, Err, OnOk, length, map, get_or, refl, sym, ap, subst, arith}
-use Rattle.std.specs.Prelude.{All, AllPairs, ◌≢◌, if◌then◌else◌, nat_lt, slice_get, unwrap_or}
+use Rattle.std.specs.Prelude.{All, AllPairs, IfSome, ◌≢◌, if◌then◌else◌, nat_lt, slice_get, unwrap_or}
 use Rattle.std.specs.List.{list_all, list_any, range_with_len}
 use Rattle.std.proofs.lemmas.Grind.{same_number_lists}
 use Rattle.std.proofs.lemmas.Bool.Decides.{nat_tests}
@@ -33,6 +33,8 @@ use Rattle.state_changes.specs.States.{state_of, AreSoundMilestones}
 use Rattle.planning_state.specs.Worlds.{milestone_in, ranks_in, world_of, worlds_of, IsKept}
 use Rattle.state_changes.specs.Books.{is_of_mark, is_touched}
 use Rattle.planning_state.specs.Books.{AreRowsBut, ComesFrom, with_rows}
+use Rattle.planning_state.specs.declared.remembered.Marks.{Marks}
+use Rattle.planning_state.specs.Remembered.{AreMarksBut, AreMarksOf}
 
 -- ---- the list of ranks
 pub ranks_in-are : (w : World) → AreRanks w (ranks_in w)
@@ -161,6 +163,30 @@ agree-but before after edits kept sound after_sound are comes =
         cases : (b : Bool) → nat_lt n (node_count (shape_of after.game)) ≡ b → SameAt (rows_of before.game) (rows_of after.game) before.barred after.barred before.granted after.granted n
         cases true is = inside n (grind (arith, nat_tests, is)) outside
         cases false is = past n (grind (arith, nat_tests, is))
+
+-- the marks of the book before are those of the book behind it, but at the nodes that the edits touch
+pub marks-but : (before after : Book) (edits : List Edit) (marks : Option Marks) → IsSoundBook before → IsSoundBook after → ComesFrom before edits after → IfSome marks (AreMarksOf before) → IfSome marks (AreMarksBut (touched_by_all (shape_of after.game) edits) after)
+marks-but before after edits None sound after_sound comes of = tt
+marks-but before after edits (Some marks) sound after_sound comes of = record {
+  barred_long = ap length of.barred ∙ (sound.barred ∙ (sym count ∙ sym after_sound.barred));
+  granted_long = ap length of.granted ∙ (sound.granted ∙ (sym count ∙ sym after_sound.barred));
+  as_long = after_sound.granted ∙ sym after_sound.barred;
+  barred = λ n outside. ap (λ xs. slice_get xs n) of.barred ∙ by_place n outside before.barred after.barred sound.barred after_sound.barred (λ stays. stays.barred);
+  granted = λ n outside. ap (λ xs. slice_get xs n) of.granted ∙ by_place n outside before.granted after.granted sound.granted after_sound.granted (λ stays. stays.granted);
+}
+  where
+    count : node_count (shape_of after.game) ≡ node_count (shape_of before.game)
+    count = same_count before after comes.names
+
+    by_place : (n : ℕ) → has_node (touched_by_all (shape_of after.game) edits) n ≡ false → (old new : List Bool) → length old ≡ node_count (shape_of before.game) → length new ≡ node_count (shape_of after.game)
+        → (StaysAs before after n → slice_get new n ≡ slice_get old n) → slice_get old n ≡ slice_get new n
+    by_place n outside old new long new_long same = cases (nat_lt n (node_count (shape_of after.game))) refl
+      where
+        cases : (b : Bool) → nat_lt n (node_count (shape_of after.game)) ≡ b → slice_get old n ≡ slice_get new n
+        cases true is = sym (same (comes.stays n (untouched before after edits n comes.names (grind (arith, nat_tests, is)) outside)))
+        cases false is =
+            let high : node_count (shape_of after.game) ≤ n = grind (arith, nat_tests, is) in
+            slice_get_past old n (omega (arith, high, count, long)) ∙ sym (slice_get_past new n (omega (arith, high, new_long)))
 
 pub long-before : (before after : Book) (rows : List Row) → rows ≡ rows_of before.game → KeepsNames before.game after.game → length rows ≡ node_count (shape_of after.game)
 long-before before after rows e names = ap length e ∙ (length-rows_of before.game ∙ sym (same_count before after names))

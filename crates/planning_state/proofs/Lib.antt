@@ -7,3 +7,4 @@ pub mod Kept
 pub mod MilestoneLemmas
 pub mod SettleLemmas
 pub mod HeldLemmas
+mod RememberedLemmas

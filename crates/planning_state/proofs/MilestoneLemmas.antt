@@ -31,9 +31,9 @@ use Rattle.planner_tables.specs.Effects.{AreSoundTables}
 use Rattle.state_changes.specs.States.{State, milestone_place, state_of, AreSoundMilestones}
 use Rattle.edit_undo.specs.Edits.{apply_edits, then_apply, IsEntry, Leads}
 use Rattle.milestone_masks.specs.declared.worlds.MilestoneFault.TheVariants as of_milestone
-use Rattle.script_reader.specs.declared.change.Object.{Object}
-use Rattle.script_reader.specs.declared.change.Change.{Change}
-use Rattle.script_reader.specs.declared.change.Change.TheVariants.{Milestone as MilestoneLine, Unmilestone as UnmilestoneLine}
+use Rattle.plan_lines.specs.declared.change.Object.{Object}
+use Rattle.plan_lines.specs.declared.change.Change.{Change}
+use Rattle.plan_lines.specs.declared.change.Change.TheVariants.{Milestone as MilestoneLine, Unmilestone as UnmilestoneLine}
 use Rattle.state_changes.specs.declared.refusals.Refusal.{Refusal}
 use Rattle.state_changes.specs.declared.refusals.Refusal.TheVariants.{OfMilestone}
 use Rattle.state_changes.specs.declared.refusals.ChangeFault.TheVariants.{Refused}

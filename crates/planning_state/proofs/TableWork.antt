@@ -19,8 +19,8 @@ use Rattle.depend_rows.specs.Touched.{touched_by_all}
 use Rattle.depend_rows.proofs.TouchedNodes.{touched_are, touched_below}
 use Rattle.milestone_masks.specs.Worlds.{Kept, ranks_of, size_in_world, size_of_all}
 use Rattle.edit_undo.specs.Edits.{apply_from}
-use Rattle.script_reader.specs.declared.change.Change.{Change}
-use Rattle.script_reader.specs.declared.change.Change.TheVariants.{Grant, Revoke, Forbid, Permit, Milestone, Unmilestone, Ingredient, Product, Unlock, Time, Enabled, Table, Untable, Row as RowLine, Unrow, Price, Want, Import, Surplus, Power}
+use Rattle.plan_lines.specs.declared.change.Change.{Change}
+use Rattle.plan_lines.specs.declared.change.Change.TheVariants.{Grant, Revoke, Forbid, Permit, Milestone, Unmilestone, Ingredient, Product, Unlock, Time, Enabled, Table, Untable, Row as RowLine, Unrow, Price, Want, Import, Surplus, Power}
 use Rattle.production_table.specs.declared.tables.Table.{Table as ProductionTable}
 use Rattle.table_words.specs.declared.refusals.TableRefusal.{TableRefusal}
 use Rattle.planner_tables.specs.Effects.{is_of_tables, tables_effect}

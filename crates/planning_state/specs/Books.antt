@@ -11,7 +11,7 @@ use Rattle.data_edit.specs.Names.{KeepsNames}
 use Rattle.depend_index.specs.Alike.{AlikeBut}
 use Rattle.depend_rows.specs.Rows.{row_of}
 use Rattle.depend_rows.specs.Touched.{StaysAs}
-use Rattle.script_reader.specs.declared.change.Change.{Change}
+use Rattle.plan_lines.specs.declared.change.Change.{Change}
 use Rattle.production_table.specs.declared.tables.Table.{Table}
 use Rattle.planner_tables.specs.Effects.{AreSoundTables}
 use Rattle.state_changes.specs.declared.undos.Undo.{Undo}

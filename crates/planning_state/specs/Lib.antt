@@ -1,3 +1,4 @@
 pub mod Worlds
 pub mod Work
 pub mod Books
+pub mod Remembered

@@ -7,9 +7,9 @@ use Rattle.depend_rows.specs.Rows.{rows_of}
 use Rattle.depend_rows.specs.Touched.{touched_by_all}
 use Rattle.reach_ranks.specs.Given.{size_of}
 use Rattle.milestone_masks.specs.Worlds.{size_of_all}
-use Rattle.script_reader.specs.declared.change.Object.{Object}
-use Rattle.script_reader.specs.declared.change.Change.{Change}
-use Rattle.script_reader.specs.declared.change.Change.TheVariants.{Milestone, Unmilestone}
+use Rattle.plan_lines.specs.declared.change.Object.{Object}
+use Rattle.plan_lines.specs.declared.change.Change.{Change}
+use Rattle.plan_lines.specs.declared.change.Change.TheVariants.{Milestone, Unmilestone}
 use Rattle.state_changes.specs.Actions.{Outcome, edits_named, node_named}
 use Rattle.state_changes.specs.States.{State}
 use Rattle.planning_state.specs.Worlds.{ranks_in, world_of, worlds_of}

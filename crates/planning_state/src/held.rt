@@ -20,7 +20,9 @@ ghost use Rattle.planning_state.specs.Work.{work_of_book};
 ghost use Rattle.planning_state.specs.Worlds.{IsKept};
 ghost use Rattle.state_changes.specs.Books.{is_of_mark};
 ghost use Rattle.planning_state.specs.Books.{with_rows, ComesFrom, TakesBack};
+ghost use Rattle.planning_state.specs.Remembered.{Remembers};
 
+use crate::remembered::Remembered;
 use crate::settling::settle;
 use data_edit::{Book, Edit};
 use depend_index::Index;
@@ -29,8 +31,8 @@ use edit_undo::EntryFault;
 use graph_store::ReplaceRows;
 use milestone_masks::Worlds;
 use plan_base::{NoMemory, NodeId, Steps};
+use plan_lines::Change;
 use production_table::Table as ProductionTable;
-use script_reader::Change;
 use state_changes::{Refusal, Undo, apply_changes, edits_named, restore_parts, take_all_back};
 use std::alloc::Global;
 
@@ -70,16 +72,18 @@ fn settle_edits<R: ReplaceRows<L>, L>(
     index: &mut Index,
     graph: &mut R,
     worlds: &mut Worlds,
+    remembered: &mut Remembered,
     edits: &[Edit],
     steps: &mut Steps<L>,
 ) -> Result<(), NoMemory>
     requires sound { IsSoundBook book.now }
-    requires before { (before : BookOf) × IsKept before (R.rows graph.old) worlds.old × ComesFrom before edits.now book.now × IsIndex before.game index.old }
+    requires before { (before : BookOf) × IsKept before (R.rows graph.old) worlds.old × ComesFrom before edits.now book.now × IsIndex before.game index.old × Remembers before (R.rows graph.old) remembered.old }
     ensures index { OnOk result (IsIndex book.now.game index.new) }
     ensures still { (game : GameOf) → shape_of game ≡ shape_of book.now.game → IsIndex game index.old → IsIndex game index.new }
     ensures kept { OnOk result (IsKept book.now (R.rows graph.new) worlds.new) }
+    ensures remembers { OnOk result (Remembers book.now (R.rows graph.new) remembered.new) }
     ensures milestones { milestones_of worlds.new ≡ milestones_of worlds.old }
-    ensures err { OnErr result ((R.rows graph.new ≡ R.rows graph.old) × (worlds.new ≡ worlds.old)) }
+    ensures err { OnErr result ((R.rows graph.new ≡ R.rows graph.old) × (worlds.new ≡ worlds.old) × (remembered.new ≡ remembered.old)) }
     ensures work { OnOk result (steps.new ≤ steps.old + 8 * size_of_all (rows_of book.now.game) (touched_by_all (shape_of book.now.game) edits.now) worlds.old worlds.new) }
     ensures later { steps.old ≤ steps.new }
 {
@@ -88,7 +92,9 @@ fn settle_edits<R: ReplaceRows<L>, L>(
     index.note(&shape, edits)?;
     let touched = nodes.as_slice();
     let others = with_rows(edits, touched);
-    settle(alloc, book, index, graph, worlds, others, touched, steps)
+    settle(
+        alloc, book, index, graph, worlds, remembered, others, touched, steps,
+    )
 }
 
 /// Applies changes of the book and the tables in order, all of them or none, and answers what takes them back.
@@ -103,15 +109,18 @@ pub fn apply_held<R: ReplaceRows<L>, L>(
     index: &mut Index,
     graph: &mut R,
     worlds: &mut Worlds,
+    remembered: &mut Remembered,
     changes: &[Change],
     steps: &mut Steps<L>,
 ) -> Result<Vec<Undo>, EntryFault<Refusal>>
     requires kept { IsKept book.old (R.rows graph.old) worlds.old }
+    requires remembers { Remembers book.old (R.rows graph.old) remembered.old }
     requires tables { AreSoundTables book.old.game tables.old.items }
     requires index { IsIndex book.old.game index.old }
     requires entry { IsEntry is_entry changes.now }
     requires held { list_all can_be_held changes.now ≡ true }
     ensures kept { IsKept book.new (R.rows graph.new) worlds.new }
+    ensures remembers { Remembers book.new (R.rows graph.new) remembered.new }
     ensures tables { AreSoundTables book.new.game tables.new.items }
     ensures index { IsIndex book.new.game index.new }
     ensures milestones { milestones_of worlds.new ≡ milestones_of worlds.old }
@@ -124,7 +133,16 @@ pub fn apply_held<R: ReplaceRows<L>, L>(
 {
     match apply_changes(alloc, book, tables, changes) {
         Ok((edits, undos)) => {
-            match settle_edits(alloc, book, index, graph, worlds, edits.as_slice(), steps) {
+            match settle_edits(
+                alloc,
+                book,
+                index,
+                graph,
+                worlds,
+                remembered,
+                edits.as_slice(),
+                steps,
+            ) {
                 Ok(()) => Ok(undos),
                 Err(_) => {
                     take_all_back(alloc, book, tables, undos);
@@ -148,15 +166,18 @@ pub fn restore_held<R: ReplaceRows<L>, L>(
     index: &mut Index,
     graph: &mut R,
     worlds: &mut Worlds,
+    remembered: &mut Remembered,
     changes: &[Change],
     undos: &[Undo],
     steps: &mut Steps<L>,
 ) -> Result<(), NoMemory>
     requires kept { IsKept book.old (R.rows graph.old) worlds.old }
+    requires remembers { Remembers book.old (R.rows graph.old) remembered.old }
     requires tables { AreSoundTables book.old.game tables.old.items }
     requires index { IsIndex book.old.game index.old }
     requires leads { (before : BookOf) × (stood : List Table) × TakesBack book.old tables.old.items changes.now undos.now before stood }
     ensures kept { IsKept book.new (R.rows graph.new) worlds.new }
+    ensures remembers { Remembers book.new (R.rows graph.new) remembered.new }
     ensures tables { AreSoundTables book.new.game tables.new.items }
     ensures index { IsIndex book.new.game index.new }
     ensures milestones { milestones_of worlds.new ≡ milestones_of worlds.old }
@@ -167,7 +188,16 @@ pub fn restore_held<R: ReplaceRows<L>, L>(
 {
     let edits = edits_named(alloc, &book.game, changes)?;
     let forward = restore_parts(alloc, book, tables, undos)?;
-    match settle_edits(alloc, book, index, graph, worlds, edits.as_slice(), steps) {
+    match settle_edits(
+        alloc,
+        book,
+        index,
+        graph,
+        worlds,
+        remembered,
+        edits.as_slice(),
+        steps,
+    ) {
         Ok(()) => Ok(()),
         Err(fault) => {
             take_all_back(alloc, book, tables, forward);

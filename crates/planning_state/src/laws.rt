@@ -2,7 +2,7 @@
 ghost use Rattle.std.specs.Prelude.{◌≡◌, true, List, Ok};
 ghost use Rattle.std.specs.List.{list_all};
 ghost use Rattle.edit_undo.specs.Edits.{apply_edits};
-ghost use Rattle.script_reader.specs.declared.change.Change.{Change};
+ghost use Rattle.plan_lines.specs.declared.change.Change.{Change};
 ghost use Rattle.planner_tables.specs.Effects.{is_of_tables};
 ghost use Rattle.state_changes.specs.States.{State};
 ghost use Rattle.state_changes.specs.Effects.{effect_of};

@@ -7,6 +7,7 @@ mod laws;
 mod loading;
 mod milestones;
 mod planning;
+mod remembered;
 mod settling;
 
 pub use held::{apply_held, restore_held};

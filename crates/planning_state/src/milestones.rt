@@ -7,7 +7,7 @@ ghost use Rattle.data_edit.specs.declared.books.Book.{Book as BookOf};
 ghost use Rattle.depend_rows.specs.Rows.{rows_of};
 ghost use Rattle.reach_ranks.specs.Given.{size_of};
 ghost use Rattle.milestone_masks.specs.Worlds.{milestones_of, AddAnswer};
-ghost use Rattle.script_reader.specs.declared.change.Change.TheVariants.{Milestone as MilestoneLine, Unmilestone as UnmilestoneLine};
+ghost use Rattle.plan_lines.specs.declared.change.Change.TheVariants.{Milestone as MilestoneLine, Unmilestone as UnmilestoneLine};
 ghost use Rattle.edit_undo.specs.Edits.{apply_edits, IsFaultOf, Leads};
 ghost use Rattle.production_table.specs.declared.tables.Table.{Table};
 ghost use Rattle.planner_tables.specs.Effects.{AreSoundTables};
@@ -23,7 +23,7 @@ use edit_undo::EntryFault;
 use graph_store::Rows;
 use milestone_masks::{MilestoneFault, Worlds};
 use plan_base::{NoMemory, NodeId, Steps};
-use script_reader::Object;
+use plan_lines::Object;
 use state_changes::{Refusal, Undo, entry_fault, milestone_fault, node_named, put};
 use std::alloc::Global;
 

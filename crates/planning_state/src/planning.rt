@@ -18,6 +18,7 @@ ghost use Rattle.state_changes.specs.Undoing.{LeadsBack};
 ghost use Rattle.planning_state.specs.Work.{work_of};
 
 use crate::loading::{Kept, kept_beside};
+use crate::remembered::Remembered;
 use crate::{
     add_milestone, apply_held, drop_milestone, put_milestone, restore_held, take_milestone,
 };
@@ -28,8 +29,8 @@ use game_types::Game;
 use graph_store::{Graph, Group};
 use milestone_masks::Worlds;
 use plan_base::{Kind, NoMemory, NodeId, Steps};
+use plan_lines::{Change, Object};
 use production_table::Table;
-use script_reader::{Change, Object};
 use state_changes::{
     Back, ChangeFault, Entry, Refusal, Undo, back_of, entry_of, node_named, nodes_of,
 };
@@ -46,7 +47,7 @@ pub enum LoadFault {
 }
 
 /// A planning state. It is seen as its book, its milestones and its tables; the rows of the game, the index that they are
-/// put together from and the ranks of every world, which these determine, are kept beside them.
+/// put together from and the ranks of every world, which these determine, are kept beside them, and the ranks before the last change.
 #[derive(Drop)]
 pub struct Planning {
     alloc: Global,
@@ -55,6 +56,7 @@ pub struct Planning {
     index: Index,
     graph: Graph,
     worlds: Worlds,
+    remembered: Remembered,
 }
 
 impl Model for Planning {
@@ -68,7 +70,9 @@ impl Model for Planning {
 
     ghost view = { λ p. state_of p.book (milestones_of p.worlds) p.tables.items };
 
-    ghost invariant = { λ p. IsKept p.book p.graph p.worlds × AreSoundTables p.book.game p.tables.items × IsIndex p.book.game p.index };
+    ghost use Rattle.planning_state.specs.Remembered.{Remembers};
+
+    ghost invariant = { λ p. IsKept p.book p.graph p.worlds × AreSoundTables p.book.game p.tables.items × IsIndex p.book.game p.index × Remembers p.book p.graph p.remembered };
 }
 
 // A planning state with no milestones and no tables.
@@ -92,6 +96,7 @@ fn assemble(alloc: Global, book: Book, kept: Kept) -> Planning
         index,
         graph,
         worlds,
+        remembered: Remembered::none(),
     }
 }
 
@@ -320,6 +325,7 @@ impl<L> Editable<L> for Planning {
                 &mut self.index,
                 &mut self.graph,
                 &mut self.worlds,
+                &mut self.remembered,
                 edits,
                 steps,
             ),
@@ -353,6 +359,7 @@ impl<L> Editable<L> for Planning {
                 &mut self.index,
                 &mut self.graph,
                 &mut self.worlds,
+                &mut self.remembered,
                 edits,
                 inverses,
                 steps,

@@ -2,12 +2,12 @@
 
 use crate::ends::{Names, RunEnd};
 use crate::telling::said_of_store;
+use line_answers::{reading_of, reply_to};
 use plan_base::{NoMemory, Steps};
 use plan_io::HostStore;
-use plan_report::Reply;
+use plan_lines::Reply;
 use planner_core::Planner;
 use run_inputs::{Ready, read_files};
-use script_runner::{reading_of, reply_to};
 use std::alloc::Global;
 use std::rt::Files;
 

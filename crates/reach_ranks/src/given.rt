@@ -41,7 +41,7 @@ pub fn earlier(a: u32, b: u32) -> u32
     }
 }
 
-/// One more than the rank of the last of the members.
+/// One more than the rank of the last of the members. Where a member has none the others aren't looked at.
 fn all_rank(ranks: &[u32], members: &[NodeId]) -> u32
     requires { All (λ m. m.0 < length ranks.now) members.now }
     ensures { (k : ℕ) → k < 2 ^ 32 - 1 → is_one_to (k + 1) result ≡ list_all (λ m. within ranks.now k m.0) members.now }
@@ -49,6 +49,9 @@ fn all_rank(ranks: &[u32], members: &[NodeId]) -> u32
     let mut rank = 1;
     for m in members {
         rank = later(rank, next_rank(ranks[m.0 as usize]));
+        if rank == 0 {
+            return 0;
+        }
     }
     rank
 }
@@ -77,7 +80,7 @@ fn group_rank(ranks: &[u32], group: &Group) -> u32
     }
 }
 
-/// One more than the least rank by which each group of the row is satisfied.
+/// One more than the least rank by which each group of the row is satisfied. Where none does for a group the others aren't looked at.
 fn row_rank(ranks: &[u32], row: &Row) -> u32
     requires { All (λ group. All (λ m. m.0 < length ranks.now) group.members) row.now.groups }
     ensures { (k : ℕ) → k < 2 ^ 32 - 1 → is_one_to (k + 1) result ≡ has_groups (within ranks.now k) (Some row.now) }
@@ -85,6 +88,9 @@ fn row_rank(ranks: &[u32], row: &Row) -> u32
     let mut rank = 1;
     for group in row.groups.as_slice() {
         rank = later(rank, group_rank(ranks, group));
+        if rank == 0 {
+            return 0;
+        }
     }
     rank
 }

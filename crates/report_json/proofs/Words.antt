@@ -29,12 +29,12 @@ use Rattle.linear_table.specs.declared.Plan.{Plan}
 use Rattle.plan_report.specs.Codes.{code_word, effect_word}
 use Rattle.plan_report.specs.Plans.{column_kind, column_name, exchange_line, figure_word, place_line, price_line, price_lines, row_line, stream_lines, use_words}
 use Rattle.plan_report.specs.Replies.{detail_words, reply_lines}
-use Rattle.plan_report.specs.declared.reply.Detail.{Detail}
-use Rattle.plan_report.specs.declared.reply.Detail.TheVariants.{Bare, Word, Node, Effect, Row}
-use Rattle.plan_report.specs.declared.reply.Figures.{Figures}
-use Rattle.plan_report.specs.declared.reply.RefusalCode.{RefusalCode}
-use Rattle.plan_report.specs.declared.reply.Reply.{Reply}
-use Rattle.plan_report.specs.declared.reply.Reply.TheVariants.{Ok, Nothing, Held, Reach, List as Listed, Why, Missing, Mask, Milestones, Summary, Rate, Solved, Refused}
+use Rattle.plan_lines.specs.declared.reply.Detail.{Detail}
+use Rattle.plan_lines.specs.declared.reply.Detail.TheVariants.{Bare, Word, Node, Effect, Row}
+use Rattle.plan_lines.specs.declared.reply.Figures.{Figures}
+use Rattle.plan_lines.specs.declared.reply.RefusalCode.{RefusalCode}
+use Rattle.plan_lines.specs.declared.reply.Reply.{Reply}
+use Rattle.plan_lines.specs.declared.reply.Reply.TheVariants.{Ok, Nothing, Held, Reach, List as Listed, Why, Missing, Mask, Milestones, Summary, Rate, Solved, Refused}
 use Rattle.serde_json.specs.Data.{Data, no_members, object}
 use Rattle.serde_json.specs.View.{items_of}
 use Rattle.catalog_members.specs.Members.{id_text, id_value, with_amount, with_id, with_object, with_text}

@@ -1,7 +1,7 @@
 -- A line of a script with its reply, as a line of JSON Lines.
 use Rattle.std.specs.Prelude.{◌≡◌, ℕ, List, [], ◌∷◌, ◌++◌, Option, Some, None, codes}
 use Rattle.game_types.specs.declared.games.Game.{Game}
-use Rattle.plan_report.specs.declared.reply.Reply.{Reply}
+use Rattle.plan_lines.specs.declared.reply.Reply.{Reply}
 use Rattle.serde_json.specs.Data.{Data, Members, no_members, object}
 use Rattle.catalog_members.specs.Members.{with_object, with_text}
 use Rattle.catalog_members.specs.Texts.{IsTextOf}

@@ -19,13 +19,13 @@ use Rattle.linear_table.specs.declared.SolveAnswer.{SolveAnswer}
 use Rattle.linear_table.specs.declared.SolveAnswer.TheVariants.{Planned, Infeasible, TooWide, OutOfBudget}
 use Rattle.plan_report.specs.Codes.{code_word, effect_word}
 use Rattle.plan_report.specs.Plans.{column_kind}
-use Rattle.plan_report.specs.declared.reply.Detail.{Detail}
-use Rattle.plan_report.specs.declared.reply.Detail.TheVariants.{Bare, Word, Node, Effect, Row}
-use Rattle.plan_report.specs.declared.reply.Figures.{Figures}
-use Rattle.plan_report.specs.declared.reply.RefusalCode.{RefusalCode}
-use Rattle.plan_report.specs.declared.reply.RefusalCode.TheVariants.{V1, V2}
-use Rattle.plan_report.specs.declared.reply.Reply.{Reply}
-use Rattle.plan_report.specs.declared.reply.Reply.TheVariants.{Ok, Nothing, Held, Reach, List as Listed, Why, Missing, Mask, Milestones, Summary, Rate, Solved, Refused}
+use Rattle.plan_lines.specs.declared.reply.Detail.{Detail}
+use Rattle.plan_lines.specs.declared.reply.Detail.TheVariants.{Bare, Word, Node, Effect, Row}
+use Rattle.plan_lines.specs.declared.reply.Figures.{Figures}
+use Rattle.plan_lines.specs.declared.reply.RefusalCode.{RefusalCode}
+use Rattle.plan_lines.specs.declared.reply.RefusalCode.TheVariants.{V1, V2}
+use Rattle.plan_lines.specs.declared.reply.Reply.{Reply}
+use Rattle.plan_lines.specs.declared.reply.Reply.TheVariants.{Ok, Nothing, Held, Reach, List as Listed, Why, Missing, Mask, Milestones, Summary, Rate, Solved, Refused}
 use Rattle.serde_json.specs.Data.{Data, item, Items, Members, no_items, no_members, number, object, string, unsigned}
 use Rattle.serde_json.specs.View.{items_of}
 use Rattle.catalog_members.specs.Members.{id_text, with_object, with_text}

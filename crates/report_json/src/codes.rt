@@ -2,7 +2,7 @@
 ghost use Rattle.std.specs.Prelude.{◌≡◌};
 ghost use Rattle.plan_report.specs.Codes.{code_word};
 
-use plan_report::RefusalCode;
+use plan_lines::RefusalCode;
 
 /// The code as it is printed.
 pub fn code_word(code: RefusalCode) -> &'static str

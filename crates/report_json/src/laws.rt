@@ -2,7 +2,7 @@
 ghost use Rattle.std.specs.Prelude.{◌≡◌};
 ghost use Rattle.game_types.specs.declared.games.Game.{Game};
 ghost use Rattle.plan_report.specs.Replies.{reply_lines};
-ghost use Rattle.plan_report.specs.declared.reply.Reply.{Reply};
+ghost use Rattle.plan_lines.specs.declared.reply.Reply.{Reply};
 ghost use Rattle.report_json.specs.Reading.{lines_of};
 ghost use Rattle.report_json.specs.Replies.{reply_value};
 

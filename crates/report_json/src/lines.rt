@@ -13,7 +13,7 @@ use crate::values::put_whole;
 use catalog_members::{Members, put_object, put_text, text_of};
 use game_types::Game;
 use plan_base::NoMemory;
-use plan_report::Reply;
+use plan_lines::Reply;
 use serde_json::Map;
 use std::alloc::Global;
 

@@ -3,7 +3,7 @@ ghost use Rattle.std.specs.Prelude.{◌≡◌, ◌++◌, ◌∷◌, [], IfOk, On
 ghost use Rattle.std.specs.List.{flat_map, zip};
 ghost use Rattle.game_types.specs.Sound.{IsSound};
 ghost use Rattle.plan_report.specs.Plans.{column_kind};
-ghost use Rattle.plan_report.specs.declared.reply.RefusalCode.TheVariants as codes_of;
+ghost use Rattle.plan_lines.specs.declared.reply.RefusalCode.TheVariants as codes_of;
 ghost use Rattle.serde_json.specs.Data.{no_members};
 ghost use Rattle.serde_json.specs.View.{items_view, members_view, view};
 ghost use Rattle.report_json.specs.Replies.{column_id, exchange_value, price_value, row_value, stream_value, streams_of, with_answer, with_column, with_exchange, with_infeasible, with_out_of_budget, with_place, with_plan, with_prices, with_row, with_rows, with_solved, with_stream, with_streams, with_too_wide, with_trail, with_uses};
@@ -16,7 +16,7 @@ use fractions::Ratio;
 use game_types::Game;
 use linear_table::{Column, Exchange, Place, Plan, SolveAnswer};
 use plan_base::{GoodId, NoMemory, Text};
-use plan_report::{Figures, RefusalCode};
+use plan_lines::{Figures, RefusalCode};
 use serde_json::{Map, Value};
 use std::alloc::Global;
 

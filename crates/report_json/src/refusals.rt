@@ -12,7 +12,8 @@ use crate::values::{push, put_kind, put_list, put_whole};
 use catalog_members::{Members, id_text, put_text};
 use game_types::{EffectKind, Game};
 use plan_base::{Kind, NoMemory, NodeId};
-use plan_report::{Detail, RefusalCode, kind_word};
+use plan_lines::{Detail, RefusalCode};
+use plan_report::kind_word;
 use serde_json::Value;
 use std::alloc::Global;
 

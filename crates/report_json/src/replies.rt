@@ -14,7 +14,7 @@ use crate::values::put_kind;
 use catalog_members::Members;
 use game_types::Game;
 use plan_base::NoMemory;
-use plan_report::Reply;
+use plan_lines::Reply;
 use std::alloc::Global;
 
 /// Puts all members of a reply.

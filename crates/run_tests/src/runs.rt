@@ -6,6 +6,7 @@ use crate::memory::{Calls, WORDS, sink_of, store_of, texts_in};
 use crate::texts::{
     DUMP, EDITS, EDITS_REPORT, REPORT, SAMPLE_REPORT, SCRIPT, TABLES, TABLES_REPORT,
 };
+use line_answers::Silent;
 use linear_table::SolveAnswer;
 use plan_base::{Steps, Text};
 use plan_io::{MemSink, MemStore, Store};
@@ -27,7 +28,7 @@ fn ends(
     requires { (⟦<MemStore as Store>⟧.begun store.old).calls ≡ 0 }
 {
     let mut steps = Steps::new(Test);
-    let outcome = run(alloc, words, store, out, &mut steps);
+    let outcome = run(alloc, words, store, out, &mut Silent, &mut steps);
     outcome.status.exit() == exit && out.written() == written.as_bytes()
 }
 
@@ -310,7 +311,7 @@ fn samples(alloc: Global, words: &[Text], store: &mut MemStore, out: &mut MemSin
     let mut steps = Steps::new(Test);
     steps.tick();
     steps.tick();
-    let outcome = run(alloc, words, store, out, &mut steps);
+    let outcome = run(alloc, words, store, out, &mut Silent, &mut steps);
     let taken = outcome.taken;
     outcome.status.exit() == 0 && 0 < taken && tells_steps(alloc, out.written(), taken)
 }
@@ -350,7 +351,7 @@ fn answers_of(
     requires { (⟦<MemStore as Store>⟧.begun store.old).calls ≡ 0 }
 {
     let mut steps = Steps::new(Test);
-    run(alloc, words, store, out, &mut steps).answers
+    run(alloc, words, store, out, &mut Silent, &mut steps).answers
 }
 
 // What the solver answers in a run over a script, where one call of the sink fails.

@@ -3,6 +3,7 @@ ghost use Rattle.std.specs.Prelude.{◌≡◌};
 
 use crate::memory::{Calls, WORDS, sink_of, store_of, texts_in};
 use crate::pieces::is_front;
+use line_answers::Silent;
 use plan_base::{Steps, Text};
 use plan_io::{MemSink, MemStore, Store};
 use planner_cli::run;
@@ -23,7 +24,7 @@ fn exit_of(alloc: Global, words: &[Text], store: &mut MemStore, out: &mut MemSin
     requires { (⟦<MemStore as Store>⟧.begun store.old).calls ≡ 0 }
 {
     let mut steps = Steps::new(Test);
-    let outcome = run(alloc, words, store, out, &mut steps);
+    let outcome = run(alloc, words, store, out, &mut Silent, &mut steps);
     outcome.status.exit()
 }
 

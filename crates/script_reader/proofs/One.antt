@@ -9,11 +9,11 @@ use Rattle.fractions.proofs.Grammar.{numeral_found, quotient_found}
 use Rattle.fractions.proofs.ReadsAs.{same_numeral, same_quotient, not_both}
 use Rattle.plan_base.specs.declared.shape.Kind.{Kind}
 use Rattle.plan_base.specs.declared.shape.Kind.TheVariants.{Special, Item, Fluid, Recipe, Source, Machine, Tech}
-use Rattle.script_reader.specs.declared.change.Object.{Object}
-use Rattle.script_reader.specs.declared.change.RowPart.{RowPart}
-use Rattle.script_reader.specs.declared.change.RowPart.TheVariants as row
-use Rattle.script_reader.specs.declared.command.ScriptFault.{ScriptFault}
-use Rattle.script_reader.specs.declared.command.ScriptFault.TheVariants.{UnknownCommand, WrongWords, BadNumber, BadQuoting, BadObject}
+use Rattle.plan_lines.specs.declared.change.Object.{Object}
+use Rattle.plan_lines.specs.declared.change.RowPart.{RowPart}
+use Rattle.plan_lines.specs.declared.change.RowPart.TheVariants as row
+use Rattle.script_reader.specs.declared.fault.ScriptFault.{ScriptFault}
+use Rattle.script_reader.specs.declared.fault.ScriptFault.TheVariants.{UnknownCommand, WrongWords, BadNumber, BadQuoting, BadObject}
 use Rattle.script_reader.specs.declared.command_words.CommandWord.{CommandWord}
 use Rattle.script_reader.specs.declared.command_words.CommandWord.TheVariants.{Reach, Why, Missing, Mask, List as ListWord, Milestones, Summary, Rate, Solve, Quiet, Undo, Redo, Batch, End, Cancel, Grant, Revoke, Forbid, Permit, Milestone, Unmilestone, Ingredient, Product, Unlock, Time, Enabled, Table, Untable, Row, Unrow, Price, Want, Import, Surplus, Power}
 use Rattle.script_reader.specs.declared.fields.Place.{Place}

@@ -8,8 +8,8 @@ use Rattle.fractions.specs.Numeral.{Numeral, Writes, magnitude, limit}
 use Rattle.fractions.specs.Quotient.{Quotient, WritesQuotient}
 use Rattle.fractions.specs.Reading.{GivesNumeral, GivesQuotient, ReadsRatio}
 use Rattle.fractions.proofs.Order.{<ʳ_not_≤ʳ}
-use Rattle.script_reader.specs.declared.command.ScriptFault.{ScriptFault}
-use Rattle.script_reader.specs.declared.command.ScriptFault.TheVariants.{UnknownCommand, WrongWords, BadNumber, BadQuoting, BadObject, NoMemory}
+use Rattle.script_reader.specs.declared.fault.ScriptFault.{ScriptFault}
+use Rattle.script_reader.specs.declared.fault.ScriptFault.TheVariants.{UnknownCommand, WrongWords, BadNumber, BadQuoting, BadObject, NoMemory}
 use Rattle.script_reader.specs.Reading.{the_one, Answers}
 use Rattle.script_reader.specs.Arguments.{ratio, ratio_or}
 

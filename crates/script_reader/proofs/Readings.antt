@@ -1,8 +1,8 @@
 -- Readings one behind another, and the answers of programs.
 use Rattle.std.specs.Prelude.{◌≡◌, ◌≢◌, ℕ, ◌<◌, List, [], ◌∷◌, length, Result, Ok, Err, MatchResult, IsErr, IsErrAnd, IsOkAnd}
 use Rattle.std.proofs.Common.{refl, sym, ap, subst, ◌∙◌, inl, inr, arith}
-use Rattle.script_reader.specs.declared.command.ScriptFault.{ScriptFault}
-use Rattle.script_reader.specs.declared.command.ScriptFault.TheVariants.{UnknownCommand, WrongWords, BadNumber, BadQuoting, BadObject, NoMemory}
+use Rattle.script_reader.specs.declared.fault.ScriptFault.{ScriptFault}
+use Rattle.script_reader.specs.declared.fault.ScriptFault.TheVariants.{UnknownCommand, WrongWords, BadNumber, BadQuoting, BadObject, NoMemory}
 use Rattle.script_reader.specs.Reading.{gives, refuses, and_then, no_word, one_word, two_words, three_words, five_words, Answers}
 
 pub answers_gives : {A : Type 0} (a b : A) → b ≡ a → Answers (gives a) (Ok b)

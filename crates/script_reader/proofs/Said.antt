@@ -1,7 +1,7 @@
 -- Lines whose first word is no command.
 use Rattle.std.specs.Prelude.{◌≡◌, ℕ, List, [], ◌∷◌, length, Option, None, Err}
 use Rattle.std.proofs.Common.{sym, subst, arith}
-use Rattle.script_reader.specs.declared.command.ScriptFault.TheVariants.{UnknownCommand}
+use Rattle.script_reader.specs.declared.fault.ScriptFault.TheVariants.{UnknownCommand}
 use Rattle.script_reader.specs.declared.command_words.CommandWord.{CommandWord}
 use Rattle.script_reader.specs.Reading.{Answers}
 use Rattle.script_reader.specs.Commands.{command_word}

@@ -3,8 +3,8 @@ use Rattle.std.specs.Prelude.{◌≡◌, ℕ, Bool, true, false, not, ◌==◌, 
 use Rattle.std.specs.List.{list_all}
 use Rattle.std.proofs.Common.{refl, sym, ap, subst, ◌∙◌, inl, inr, append_assoc}
 use Rattle.std.proofs.lemmas.Bool.{not-true}
-use Rattle.script_reader.specs.declared.command.Command.{Command}
-use Rattle.script_reader.specs.declared.command.ScriptFault.{ScriptFault}
+use Rattle.plan_lines.specs.declared.command.Command.{Command}
+use Rattle.script_reader.specs.declared.fault.ScriptFault.{ScriptFault}
 use Rattle.script_reader.specs.Words.{is_separator, is_plain, unquoted, ends_word, IsBare, SpellsWord, SpellsFirst, SpellsLine}
 use Rattle.script_reader.specs.Reading.{gives, the_one, and_then}
 use Rattle.script_reader.specs.Arguments.{command_of_words}

@@ -1,7 +1,7 @@
 -- The steps of the reader along a line.
 use Rattle.std.specs.Str.{IsUtf8}
-use Rattle.script_reader.specs.declared.command.ScriptFault.{ScriptFault}
-use Rattle.script_reader.specs.declared.command.ScriptFault.TheVariants.{UnknownCommand, WrongWords, BadNumber, BadQuoting, BadObject, NoMemory}
+use Rattle.script_reader.specs.declared.fault.ScriptFault.{ScriptFault}
+use Rattle.script_reader.specs.declared.fault.ScriptFault.TheVariants.{UnknownCommand, WrongWords, BadNumber, BadQuoting, BadObject, NoMemory}
 use Rattle.script_reader.specs.Reading.{Answers, the_one}
 use Rattle.script_reader.specs.Lines.{AreTexts, spelled, IsQuotingFault}
 use Rattle.script_reader.proofs.Spelling.{Stops, BeginsWord, word_sound, behind_stops, blank_behind, behind_blank, first_found, first_sound, some_pair}

@@ -4,15 +4,15 @@ use Rattle.std.specs.Prelude.{◌≡◌, ◌≢◌, ℕ, List, [], ◌∷◌, �
 use Rattle.fractions.specs.Fraction.{Fraction}
 use Rattle.fractions.specs.Reading.{ReadsRatio}
 use Rattle.plan_base.specs.declared.shape.Kind.{Kind}
-use Rattle.script_reader.specs.declared.change.Object.{Object}
-use Rattle.script_reader.specs.declared.change.RowPart.{RowPart}
-use Rattle.script_reader.specs.declared.change.RowPart.TheVariants as row
-use Rattle.script_reader.specs.declared.change.Change.{Change}
-use Rattle.script_reader.specs.declared.change.Change.TheVariants as change
-use Rattle.script_reader.specs.declared.command.Command.{Command}
-use Rattle.script_reader.specs.declared.command.Command.TheVariants as command
-use Rattle.script_reader.specs.declared.command.ScriptFault.{ScriptFault}
-use Rattle.script_reader.specs.declared.command.ScriptFault.TheVariants.{UnknownCommand, WrongWords, BadNumber, BadObject}
+use Rattle.plan_lines.specs.declared.change.Object.{Object}
+use Rattle.plan_lines.specs.declared.change.RowPart.{RowPart}
+use Rattle.plan_lines.specs.declared.change.RowPart.TheVariants as row
+use Rattle.plan_lines.specs.declared.change.Change.{Change}
+use Rattle.plan_lines.specs.declared.change.Change.TheVariants as change
+use Rattle.plan_lines.specs.declared.command.Command.{Command}
+use Rattle.plan_lines.specs.declared.command.Command.TheVariants as command
+use Rattle.script_reader.specs.declared.fault.ScriptFault.{ScriptFault}
+use Rattle.script_reader.specs.declared.fault.ScriptFault.TheVariants.{UnknownCommand, WrongWords, BadNumber, BadObject}
 use Rattle.script_reader.specs.declared.command_words.CommandWord.{CommandWord}
 use Rattle.script_reader.specs.declared.command_words.CommandWord.TheVariants.{Reach, Why, Missing, Mask, List as ListWord, Milestones, Summary, Rate, Solve, Quiet, Undo, Redo, Batch, End, Cancel, Grant, Revoke, Forbid, Permit, Milestone, Unmilestone, Ingredient, Product, Unlock, Time, Enabled, Table, Untable, Row, Unrow, Price, Want, Import, Surplus, Power}
 use Rattle.script_reader.specs.declared.fields.Place.{Place}

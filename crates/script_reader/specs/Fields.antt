@@ -5,7 +5,7 @@ use Rattle.std.specs.Str.Parse.{digits_value}
 use Rattle.fractions.specs.Numeral.{IsWholePart}
 use Rattle.plan_base.specs.declared.shape.Kind.{Kind}
 use Rattle.plan_base.specs.declared.shape.Kind.TheVariants.{Special, Item, Fluid, Recipe, Source, Machine, Tech}
-use Rattle.script_reader.specs.declared.change.Object.{Object}
+use Rattle.plan_lines.specs.declared.change.Object.{Object}
 use Rattle.script_reader.specs.declared.fields.Place.{Place}
 use Rattle.script_reader.specs.declared.fields.Place.TheVariants.{Node, Good, OneRecipe, OneTech, OneItem, OneFluid, OneMachine, Activity, TableGood}
 

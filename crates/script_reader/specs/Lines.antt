@@ -1,9 +1,9 @@
 -- What a line of the script says. The form is this project's own.
 use Rattle.std.specs.Prelude.{◌≡◌, ℕ, Bool, true, false, ◌==◌, List, [], ◌∷◌, Option, Some, None, Result}
 use Rattle.std.specs.Str.{IsUtf8}
-use Rattle.script_reader.specs.declared.command.Command.{Command}
-use Rattle.script_reader.specs.declared.command.ScriptFault.{ScriptFault}
-use Rattle.script_reader.specs.declared.command.ScriptFault.TheVariants.{BadQuoting, NoMemory}
+use Rattle.plan_lines.specs.declared.command.Command.{Command}
+use Rattle.script_reader.specs.declared.fault.ScriptFault.{ScriptFault}
+use Rattle.script_reader.specs.declared.fault.ScriptFault.TheVariants.{BadQuoting, NoMemory}
 use Rattle.script_reader.specs.Words.{is_separator, SpellsLine}
 use Rattle.script_reader.specs.Scan.{behind_by}
 use Rattle.script_reader.specs.Reading.{gives, the_one, and_then}

@@ -1,7 +1,7 @@
 -- What words are read as: a value, or the fault that comes first. Want of memory has no cause here.
 use Rattle.std.specs.Prelude.{◌≡◌, ℕ, List, [], ◌∷◌, Result, Ok, Err, ◌⊎◌}
-use Rattle.script_reader.specs.declared.command.ScriptFault.{ScriptFault}
-use Rattle.script_reader.specs.declared.command.ScriptFault.TheVariants.{WrongWords, NoMemory}
+use Rattle.script_reader.specs.declared.fault.ScriptFault.{ScriptFault}
+use Rattle.script_reader.specs.declared.fault.ScriptFault.TheVariants.{WrongWords, NoMemory}
 
 -- this value
 unfoldable pub gives : {A : Type 0} → A → Result A ScriptFault → Type 0

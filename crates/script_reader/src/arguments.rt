@@ -3,14 +3,14 @@ ghost use Rattle.std.specs.Prelude.{◌≡◌, ◌≢◌, ◌∷◌, [], length,
 ghost use Rattle.script_reader.specs.Reading.{Answers};
 ghost use Rattle.script_reader.specs.Arguments.{enabled_words, power_words, good_of_recipe_words, kind_words, label_words, no_words, node_words, price_of_good_words, price_words, solve_words, switch_words, text_words, time_words, unlock_words, want_words};
 
-use crate::copies::copy_text;
+use crate::ScriptFault;
 use crate::fields::Place;
 use crate::word_values::{
     amount_at, budget_at, kind_at, object_word, price_at, ratio_at, switch_at,
 };
-use crate::{Object, ScriptFault};
 use fractions::Ratio;
 use plan_base::{Kind, Text};
+use plan_lines::{Object, copy_text};
 use std::alloc::Global;
 
 fn one(words: &[Text]) -> Option<&Text>

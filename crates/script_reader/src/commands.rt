@@ -3,14 +3,15 @@ ghost use Rattle.std.specs.Prelude.{◌≡◌};
 ghost use Rattle.script_reader.specs.Reading.{Answers, and_then, gives};
 ghost use Rattle.script_reader.specs.Arguments.{arguments, command_of_words, no_words};
 
+use crate::ScriptFault;
 use crate::arguments::{
     enabled, good_of_recipe, kind, label, node, nothing_at, power, price, price_of_good, solve,
     switch, text, time, unlock, want,
 };
 use crate::command_words::{CommandWord, command_of};
 use crate::row_words::row_of;
-use crate::{Change, Command, ScriptFault};
 use plan_base::Text;
+use plan_lines::{Change, Command};
 use std::alloc::Global;
 
 // A command of one word.

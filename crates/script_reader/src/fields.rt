@@ -8,9 +8,10 @@ ghost use Rattle.script_reader.specs.Fields.{kind_word, IsName, WritesObject, Is
 ghost use Rattle.script_reader.specs.Reading.{Answers};
 ghost use Rattle.script_reader.specs.Arguments.{object};
 
-use crate::{Object, ScriptFault};
+use crate::ScriptFault;
 use fractions::{is_whole_part, split_digits};
 use plan_base::{Kind, Text};
+use plan_lines::Object;
 use std::alloc::Global;
 
 /// Where an object stands in a line.

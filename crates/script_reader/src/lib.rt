@@ -2,11 +2,9 @@
 #![tactic(auto)]
 
 mod arguments;
-mod change;
-mod command;
 mod command_words;
 mod commands;
-mod copies;
+mod fault;
 mod fields;
 mod parts;
 mod read;
@@ -15,9 +13,8 @@ mod split;
 mod word_values;
 pub mod words;
 
-pub use change::{Change, Object, RowPart};
-pub use command::{Command, ScriptFault};
 pub use command_words::{CommandWord, command_of};
 pub use commands::read_words;
+pub use fault::ScriptFault;
 pub use fields::{Place, count_at, kind_of, object_at};
 pub use read::read_line;

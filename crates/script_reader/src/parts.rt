@@ -6,8 +6,8 @@ ghost use Rattle.script_reader.specs.PartWords.{all_parts, first_part, is_beacon
 ghost use Rattle.script_reader.specs.Arguments.{parts_behind};
 
 use crate::ScriptFault;
-use crate::copies::{copy_text, two_copies};
 use plan_base::{Items, Text};
+use plan_lines::{copy_text, two_copies};
 use std::alloc::Global;
 
 /// The words of a part, behind the one that names it.

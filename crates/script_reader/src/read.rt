@@ -2,9 +2,10 @@
 ghost use Rattle.script_reader.specs.Reading.{Answers};
 ghost use Rattle.script_reader.specs.Lines.{command_of_line, command_spelled, utf8};
 
+use crate::ScriptFault;
 use crate::commands::read_words;
 use crate::split::{begins_comment, behind_separators, split_words};
-use crate::{Command, ScriptFault};
+use plan_lines::Command;
 use std::alloc::Global;
 use std::str::from_utf8;
 

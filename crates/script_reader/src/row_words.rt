@@ -3,12 +3,12 @@ ghost use Rattle.std.specs.Prelude.{◌≡◌, ◌<◌, ◌∷◌, [], length, M
 ghost use Rattle.script_reader.specs.Reading.{Answers};
 ghost use Rattle.script_reader.specs.Arguments.{add_part, add_parts, beacon_words, part_words, row_words};
 
-use crate::copies::copy_text;
+use crate::ScriptFault;
 use crate::fields::Place;
 use crate::parts::{PartWords, parts_after};
 use crate::word_values::{number_at, object_word};
-use crate::{Object, RowPart, ScriptFault};
 use plan_base::{Items, Text};
+use plan_lines::{Object, RowPart, copy_text};
 use std::alloc::Global;
 
 fn fuel_of(alloc: Global, item: &Text) -> Result<RowPart, ScriptFault>

@@ -3,10 +3,11 @@ ghost use Rattle.std.specs.Prelude.{codes};
 ghost use Rattle.script_reader.specs.Reading.{Answers};
 ghost use Rattle.script_reader.specs.Arguments.{count, kind, object, ratio, ratio_or, switch};
 
+use crate::ScriptFault;
 use crate::fields::{Place, count_at, kind_of, object_at};
-use crate::{Object, ScriptFault};
 use fractions::{Ratio, read_ratio};
 use plan_base::{Kind, Text};
+use plan_lines::Object;
 use std::alloc::Global;
 
 /// The object that a word names.

@@ -1,7 +1,7 @@
 //! Laws of the words of a line.
 ghost use Rattle.std.specs.Prelude.{◌≡◌, ℕ, List, [], ◌∷◌, ◌++◌, Option, Result, true};
-ghost use Rattle.script_reader.specs.declared.command.Command.{Command};
-ghost use Rattle.script_reader.specs.declared.command.ScriptFault.{ScriptFault};
+ghost use Rattle.plan_lines.specs.declared.command.Command.{Command};
+ghost use Rattle.script_reader.specs.declared.fault.ScriptFault.{ScriptFault};
 ghost use Rattle.script_reader.specs.Words.{ends_word, IsBare, SpellsLine, SpellsWord};
 ghost use Rattle.script_reader.specs.Arguments.{command_of_words};
 ghost use Rattle.script_reader.specs.Lines.{command_of_line, HasWords};

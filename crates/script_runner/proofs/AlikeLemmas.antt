@@ -5,17 +5,17 @@ use Rattle.edit_undo.specs.Edits.{apply_edits}
 use Rattle.edit_undo.specs.Session.{Session, active_edits}
 use Rattle.edit_undo.specs.Kept.{session_of, nothing}
 use Rattle.linear_table.specs.declared.Linear.{Linear}
-use Rattle.script_reader.specs.declared.change.Change.{Change}
-use Rattle.script_reader.specs.declared.command.Command.{Command}
-use Rattle.script_reader.specs.declared.command.Command.TheVariants as command
-use Rattle.plan_report.specs.declared.reply.Reply.{Reply}
+use Rattle.plan_lines.specs.declared.change.Change.{Change}
+use Rattle.plan_lines.specs.declared.command.Command.{Command}
+use Rattle.plan_lines.specs.declared.command.Command.TheVariants as command
+use Rattle.plan_lines.specs.declared.reply.Reply.{Reply}
 use Rattle.state_changes.specs.Effects.{effect_of}
 use Rattle.state_changes.specs.States.{State}
 use Rattle.planner_core.specs.Lines.{Held, IsSessionOf, IsStep, IsStepIn, Planned, planned}
 use Rattle.planner_core.specs.Posing.{form_asked, form_in}
 use Rattle.script_runner.specs.Alike.{AreAlike}
 use Rattle.script_runner.proofs.LeftLemmas.{Left, Settles, form_settled, left_by, line_leaves, line_left}
-use Rattle.script_runner.proofs.SessionLemmas.{afresh}
+use Rattle.line_answers.proofs.SessionLemmas.{afresh}
 
 -- the state is that of the active edits
 state_same : (base : State) (r s : Planned) → IsSessionOf base r → IsSessionOf base s → session_of r.kept ≡ session_of s.kept → r.state ≡ s.state

@@ -4,33 +4,18 @@ use Rattle.std.specs.Prelude.{Option, Result, Ok, Err, codes}
 use Rattle.std.specs.Io.KnownBytes.{Appends}
 use Rattle.linear_table.specs.declared.SolveAnswer.{SolveAnswer}
 use Rattle.planner_core.specs.Lines.{Planned}
-use Rattle.script_reader.specs.declared.command.ScriptFault.{ScriptFault}
-use Rattle.script_reader.specs.declared.command.ScriptFault.TheVariants as fault
+use Rattle.script_reader.specs.declared.fault.ScriptFault.{ScriptFault}
+use Rattle.script_reader.specs.declared.fault.ScriptFault.TheVariants as fault
 use Rattle.script_reader.specs.Reading.{Answers}
 use Rattle.script_lines.specs.declared.ends.ScriptEnd.{ScriptEnd}
 use Rattle.script_lines.specs.declared.ends.ScriptEnd.TheVariants.{Done, NoMemory, SomeRefused, TooManyLines, WriteFault}
-use Rattle.script_runner.specs.Answers.{is_no_memory}
+use Rattle.line_answers.specs.Answers.{is_no_memory}
 use Rattle.script_runner.specs.Leaves.{Leaves}
 use Rattle.script_lines.specs.Lines.{lines_of}
 use Rattle.script_runner.specs.Scripts.{EndsScript, is_cut}
 use Rattle.script_runner.specs.TrialLines.{TellsMany}
 use Rattle.script_lines.specs.Writing.{AppendsFront}
 
--- a fault that is told
-pub fault_read : {A : Type 0} (reading : Result A ScriptFault → Type 0) (why : ScriptFault) → Answers reading (Err why) → is_no_memory why ≡ false → reading (Err why)
-unfolding Answers
-fault_read reading fault.UnknownCommand read told = read
-fault_read reading fault.WrongWords read told = read
-fault_read reading fault.BadNumber read told = read
-fault_read reading fault.BadQuoting read told = read
-fault_read reading fault.BadObject read told = read
-fault_read reading fault.NoMemory read told = cc
-
-pub value_read : {A : Type 0} (reading : Result A ScriptFault → Type 0) (value : A) → Answers reading (Ok value) → reading (Ok value)
-unfolding Answers
-value_read reading value read = read
-
--- ---- endings
 pub ends_long : (first : Planned) (script : List ℕ) (solved : List SolveAnswer) (before after : Option (List ℕ)) (steps : ℕ) → solved ≡ [] → 100_000 < length (lines_of script) → Appends before after (codes "too long script lines\n")
     → Leaves (EndsScript first script solved) is_cut before after steps steps TooManyLines
 unfolding EndsScript

@@ -14,15 +14,15 @@ use Rattle.game_types.specs.Steps.{◌▸◌}
 use Rattle.linear_table.specs.Answer.{IsAnswer}
 use Rattle.linear_table.specs.declared.Linear.{Linear}
 use Rattle.linear_table.specs.declared.SolveAnswer.{SolveAnswer}
-use Rattle.script_reader.specs.declared.change.Change.{Change}
-use Rattle.script_reader.specs.declared.command.Command.{Command}
-use Rattle.script_reader.specs.declared.command.Command.TheVariants as command
+use Rattle.plan_lines.specs.declared.change.Change.{Change}
+use Rattle.plan_lines.specs.declared.command.Command.{Command}
+use Rattle.plan_lines.specs.declared.command.Command.TheVariants as command
 use Rattle.production_table.specs.declared.tables.Table.{Table}
 use Rattle.production_table.specs.declared.tables.TableRow.{TableRow}
 use Rattle.production_table.specs.Tables.{is_label}
 use Rattle.table_rows.specs.Columns.{figures_of}
-use Rattle.plan_report.specs.declared.reply.RefusalCode.{RefusalCode}
-use Rattle.plan_report.specs.declared.reply.Reply.{Reply}
+use Rattle.plan_lines.specs.declared.reply.RefusalCode.{RefusalCode}
+use Rattle.plan_lines.specs.declared.reply.Reply.{Reply}
 use Rattle.planner_tables.specs.Effects.{named, table_at, table_named}
 use Rattle.planner_tables.specs.Questions.{IsSolveReply, IsSolveReplyAt, IsSolved, IsSolvedWhere, answered, linear_named, linear_outcome, rate_outcome, rate_reply, rates_outcome, row_rates_outcome, solved}
 use Rattle.table_words.specs.Refusals as tables
@@ -34,7 +34,7 @@ use Rattle.state_changes.specs.declared.undos.Undo.{Undo}
 use Rattle.planner_core.specs.Lines.{Ends, Held, Holds, HoldsChange, IsFree, IsOpen, IsStep, IsStepIn, Moves, Planned, Tries, changes_of, planned}
 use Rattle.planner_core.specs.Posing.{form_asked, form_in, form_of}
 use Rattle.planner_core.specs.Replies.{AboutNode, IsWhyReply, done_reply, held_reply, mask_reply, missing_reply, refused_as}
-use Rattle.script_runner.specs.Answers.{gives_up, is_refusal_reply, solved_in}
+use Rattle.line_answers.specs.Answers.{gives_up, is_refusal_reply, solved_in}
 
 -- ---- what a line leaves behind besides the planning state, and whether it is refused
 pub record Left : Type 0 where

@@ -1,7 +1,6 @@
 pub mod AnswerLemmas
 pub mod FormLemmas
 pub mod PlanLemmas
-pub mod SessionLemmas
 pub mod SoFarLemmas
 pub mod ProvingLemmas
 pub mod TrialLemmas

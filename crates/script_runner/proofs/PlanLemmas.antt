@@ -9,8 +9,8 @@ use Rattle.linear_table.specs.Answer.{IsAnswer}
 use Rattle.linear_table.proofs.Duality.{no_plan, no_plan_costs_less}
 use Rattle.production_table.specs.declared.faults.TableFault.{TableFault}
 use Rattle.production_table.specs.Linear.{linear_of}
-use Rattle.script_reader.specs.declared.command.Command.TheVariants as command
-use Rattle.plan_report.specs.declared.reply.Reply.{Reply}
+use Rattle.plan_lines.specs.declared.command.Command.TheVariants as command
+use Rattle.plan_lines.specs.declared.reply.Reply.{Reply}
 use Rattle.table_words.specs.declared.refusals.TableRefusal.{TableRefusal}
 use Rattle.planner_tables.specs.Effects.{table_at, table_named}
 use Rattle.planner_tables.specs.Questions.{linear_outcome, IsSolveReply, IsSolveReplyAt, IsSolvedWhere}
@@ -18,7 +18,7 @@ use Rattle.table_words.specs.Refusals.{Outcome, refused}
 use Rattle.planner_tables.specs.Causes.{caused}
 use Rattle.state_changes.specs.States.{State}
 use Rattle.planner_core.specs.Lines.{Held, IsStep, IsStepIn, Planned as AnyPlanned, is_refused}
-use Rattle.script_runner.specs.Answers.{Answered, IsAnswered, IsReply}
+use Rattle.line_answers.specs.Answers.{Answered, IsAnswered, IsReply}
 use Rattle.script_runner.specs.Plans.{Shows, SolvesRightly, TellsOfTable}
 
 shows : (l : Linear) (budget : ℕ) (a : SolveAnswer) → IsAnswer l budget a → Shows l budget a

@@ -1,8 +1,6 @@
-pub mod Answers
 pub mod Leaves
 pub mod Plans
 pub mod Scripts
-pub mod Sessions
 pub mod Trials
 pub mod Checks
 pub mod Certificates

@@ -8,13 +8,13 @@ use Rattle.linear_table.specs.declared.SolveAnswer.TheVariants.{Planned, Infeasi
 use Rattle.linear_table.specs.Answer.{IsOut, IsTooWide}
 use Rattle.linear_table.specs.Plans.{IsPlan, cost_of, AreInfeasibilityPrices, AreLeastCostPrices}
 use Rattle.production_table.specs.Linear.{linear_of}
-use Rattle.script_reader.specs.declared.command.Command.TheVariants as command
-use Rattle.plan_report.specs.declared.reply.Reply.{Reply}
+use Rattle.plan_lines.specs.declared.command.Command.TheVariants as command
+use Rattle.plan_lines.specs.declared.reply.Reply.{Reply}
 use Rattle.planner_tables.specs.Effects.{table_at, table_named}
 use Rattle.planner_tables.specs.Questions.{solved}
 use Rattle.state_changes.specs.States.{State}
 use Rattle.planner_core.specs.Lines.{is_refused}
-use Rattle.script_runner.specs.Answers.{Answered}
+use Rattle.line_answers.specs.Answers.{Answered}
 
 -- The rates balance every good exactly at what is wanted, and cost this much. The prices are dual to that cost, and so no plan
 -- costs less.

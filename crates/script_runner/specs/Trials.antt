@@ -4,8 +4,8 @@ use Rattle.std.specs.Prelude.{◌≡◌, ◌+◌, ◌++◌, ◌==◌, ◌&&◌, 
 use Rattle.std.specs.List.{list_any}
 use Rattle.game_types.specs.declared.games.Game.{Game}
 use Rattle.script_reader.specs.Lines.{command_of_line}
-use Rattle.script_reader.specs.declared.command.Command.TheVariants as command
-use Rattle.plan_report.specs.declared.Reply.TheVariants as reply
+use Rattle.plan_lines.specs.declared.command.Command.TheVariants as command
+use Rattle.plan_lines.specs.declared.Reply.TheVariants as reply
 use Rattle.plan_report.specs.Replies.{printed_reply}
 use Rattle.state_changes.specs.States.{State}
 use Rattle.planner_core.specs.Lines.{IsSessionOf, Planned}
@@ -15,7 +15,7 @@ use Rattle.planner_core.specs.declared.posing.Posed.{Posed}
 use Rattle.planner_core.specs.declared.posing.Posed.TheVariants as posed
 use Rattle.certificate_file.specs.declared.CertEntry.{CertEntry}
 use Rattle.certificate_file.specs.declared.Claim.{Claim}
-use Rattle.script_runner.specs.Answers.{Reading, fault_code, is_refusal_reply}
+use Rattle.line_answers.specs.Answers.{Reading, fault_code, is_refusal_reply}
 use Rattle.script_runner.specs.Verdicts.{IsVerdict, claim_at, is_proved, verdict_line}
 use Rattle.script_runner.specs.declared.verdict.Verdict.{Verdict}
 

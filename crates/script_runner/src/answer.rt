@@ -4,14 +4,16 @@ ghost use Rattle.game_types.specs.Sound.{IsSound};
 ghost use Rattle.plan_report.specs.Replies.{printed_reply};
 ghost use Rattle.state_changes.specs.States.{State};
 ghost use Rattle.planner_core.specs.Lines.{IsSessionOf};
-ghost use Rattle.script_runner.specs.Answers.{gives_up, is_refusal_reply, reading_work, solved_in, AnswersLine, IsReply};
+ghost use Rattle.line_answers.specs.Answers.{is_refusal_reply, solved_in, AnswersLine};
 
-use crate::reading::{Reading, reading_of, refused_for};
 use game_types::Game;
+use line_answers::{Listener, is_refusal, reading_of, reply_to};
 use linear_table::SolveAnswer;
 use plan_base::{NoMemory, Steps, Text};
-use plan_report::{Reply, print_reply};
+use plan_lines::Reply;
+use plan_report::print_reply;
 use planner_core::Planner;
+use script_lines::Line;
 use std::alloc::Global;
 
 /// What a line was answered.
@@ -23,50 +25,6 @@ pub struct Told {
     pub refused: bool,
     /// What the solver answered, where the reply tells it.
     pub solved: Option<SolveAnswer>,
-}
-
-/// Carries out what a line is read as.
-///
-/// # Errors
-///
-/// `NoMemory` where memory could not be had. Then all is as before.
-pub fn reply_to<L>(
-    planner: &mut Planner,
-    number: u32,
-    reading: Reading,
-    steps: &mut Steps<L>,
-) -> Result<Reply, NoMemory>
-    ensures reply { IfOk result (λ answer. IsReply number planner.old reading planner.new answer) }
-    ensures history { (base : State) → IsSessionOf base planner.old → IsSessionOf base planner.new }
-    ensures work { IfOk result (λ answer. steps.new ≤ steps.old + reading_work reading planner.old planner.new answer) }
-    ensures later { steps.old ≤ steps.new }
-{
-    match reading {
-        Ok(Some(command)) => planner.step(number, command, steps),
-        Ok(None) => Ok(Reply::Nothing),
-        Err(fault) => Ok(refused_for(fault)),
-    }
-}
-
-fn gives_up(answer: &SolveAnswer) -> bool
-    ensures { result ≡ gives_up answer.now }
-{
-    match answer {
-        SolveAnswer::TooWide { .. } => true,
-        SolveAnswer::OutOfBudget { .. } => true,
-        _ => false,
-    }
-}
-
-/// Whether a reply is a refusal, also by the solver.
-pub fn is_refusal(reply: &Reply) -> bool
-    ensures { result ≡ is_refusal_reply reply.now }
-{
-    match reply {
-        Reply::Refused { .. } => true,
-        Reply::Solved { answer, .. } => gives_up(answer),
-        _ => false,
-    }
 }
 
 // What the solver answered, where the reply tells it.
@@ -97,16 +55,18 @@ fn told_as(alloc: Global, number: u32, reply: Reply, game: &Game) -> Result<Told
     }
 }
 
-/// Answers the line with this number.
+/// Answers the line of a script with this number, of which the listener hears.
 ///
 /// # Errors
 ///
 /// `NoMemory` where memory could not be had. The line may have been carried out then.
-pub fn answer_line<L>(
+pub fn answer_line<W: Listener, L>(
     alloc: Global,
     planner: &mut Planner,
+    script: &[u8],
     number: u32,
     line: &[u8],
+    listener: &mut W,
     steps: &mut Steps<L>,
 ) -> Result<Told, NoMemory>
     ensures answer { IfOk result (λ answer. AnswersLine number line.now planner.old planner.new answer.text answer.refused answer.solved steps.old steps.new) }
@@ -115,5 +75,10 @@ pub fn answer_line<L>(
 {
     let reading = reading_of(alloc, line)?;
     let reply = reply_to(planner, number, reading, steps)?;
+    let heard = Line {
+        number,
+        bytes: line,
+    };
+    listener.hears(planner, script, heard, &reply);
     told_as(alloc, number, reply, planner.game())
 }

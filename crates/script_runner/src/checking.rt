@@ -11,6 +11,7 @@ ghost use Rattle.script_runner.specs.TrialLines.{TellsTally};
 
 use crate::trial::judge_line;
 use certificate_file::CertEntry;
+use line_answers::Listener;
 use plan_base::Steps;
 use plan_io::Sink;
 use planner_core::Planner;
@@ -53,12 +54,13 @@ fn tell_tally<K: Sink>(
 
 /// Judges each line by the entries, and writes its verdict or its refusal before the next line is judged. Behind the last line it is
 /// told how many of the linear forms are proved.
-pub fn check_lines<K: Sink, L>(
+pub fn check_lines<K: Sink, W: Listener, L>(
     alloc: Global,
     planner: &mut Planner,
     script: &[u8],
     entries: &[CertEntry],
     out: &mut K,
+    listener: &mut W,
     steps: &mut Steps<L>,
 ) -> ScriptEnd
     requires few { length (lines_of script.now) ≤ 100_000 }
@@ -73,7 +75,16 @@ pub fn check_lines<K: Sink, L>(
     let mut proved: u32 = 0;
     let mut forms: u32 = 0;
     while let Some(line) = lines.next() {
-        let note = match judge_line(alloc, planner, entries, line.number, line.bytes, steps) {
+        let note = match judge_line(
+            alloc,
+            planner,
+            script,
+            entries,
+            line.number,
+            line.bytes,
+            listener,
+            steps,
+        ) {
             Ok(note) => note,
             Err(_) => return ScriptEnd::NoMemory,
         };

@@ -5,21 +5,17 @@ mod answer;
 mod checking;
 mod laws;
 mod proving;
-mod reading;
 mod report;
 mod run;
 mod solutions;
 mod trial;
 mod verdict;
 
-pub use answer::{is_refusal, reply_to};
 pub use checking::check_lines;
 pub use laws::{
     certificates_prove_their_script, lines_lead_to_one_planner, planners_grow_from_the_base,
     plans_cost_least,
 };
 pub use proving::prove_script;
-pub use reading::{fault_code, reading_of};
 pub use run::{run_script, tell_many_lines};
-pub use trial::pose;
 pub use verdict::{Verdict, is_proved, verdict_line, verdict_on};

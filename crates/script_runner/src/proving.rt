@@ -15,6 +15,7 @@ use crate::run::tell_many_lines;
 use crate::solutions::keep;
 use certificate_file::{CertEntry, Claim, write_cert};
 use fractions::Ratio;
+use line_answers::Listener;
 use linear_table::{Plan, SolveAnswer};
 use plan_base::{Items, NoMemory, Steps, Text};
 use plan_io::{Failed, Sink};
@@ -89,10 +90,11 @@ fn enter(
 }
 
 // Answers each line, and enters what the solver answers. Answers whether some reply is a refusal.
-fn answer_all<L>(
+fn answer_all<W: Listener, L>(
     alloc: Global,
     planner: &mut Planner,
     script: &[u8],
+    listener: &mut W,
     solved: &mut Vec<SolveAnswer>,
     entries: &mut Vec<CertEntry>,
     steps: &mut Steps<L>,
@@ -109,7 +111,15 @@ fn answer_all<L>(
     let mut lines = Lines::behind(0, script);
     let mut refused = false;
     while let Some(line) = lines.next() {
-        let told = match answer_line(alloc, planner, line.number, line.bytes, steps) {
+        let told = match answer_line(
+            alloc,
+            planner,
+            script,
+            line.number,
+            line.bytes,
+            listener,
+            steps,
+        ) {
             Ok(told) => told,
             Err(_) => return Err(NoMemory),
         };
@@ -141,11 +151,12 @@ fn tell_certificate<K: Sink>(text: &Text, out: &mut K) -> Result<(), Failed>
 
 /// Answers each line of a script by the planner, and writes its certificate when the last line is answered: for each line that the
 /// solver answered the plan or the prices. What the solver answered is kept in `solved`, in the order of the lines.
-pub fn prove_script<K: Sink, L>(
+pub fn prove_script<K: Sink, W: Listener, L>(
     alloc: Global,
     planner: &mut Planner,
     script: &[u8],
     out: &mut K,
+    listener: &mut W,
     solved: &mut Vec<SolveAnswer>,
     steps: &mut Steps<L>,
 ) -> ScriptEnd
@@ -160,7 +171,15 @@ pub fn prove_script<K: Sink, L>(
         return tell_many_lines(out);
     }
     let mut entries = Vec::new(alloc);
-    let refused = match answer_all(alloc, planner, script, solved, &mut entries, steps) {
+    let refused = match answer_all(
+        alloc,
+        planner,
+        script,
+        listener,
+        solved,
+        &mut entries,
+        steps,
+    ) {
         Ok(refused) => refused,
         Err(_) => return ScriptEnd::NoMemory,
     };

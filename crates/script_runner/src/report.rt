@@ -9,6 +9,7 @@ ghost use Rattle.script_runner.specs.Scripts.{is_cut, EndsScript};
 
 use crate::answer::answer_line;
 use crate::solutions::keep;
+use line_answers::Listener;
 use linear_table::SolveAnswer;
 use plan_base::Steps;
 use plan_io::Sink;
@@ -17,11 +18,12 @@ use script_lines::{Lines, ScriptEnd, write_all};
 use std::alloc::Global;
 
 /// Answers each line, and writes its reply before the next line is answered.
-pub fn answer_lines<K: Sink, L>(
+pub fn answer_lines<K: Sink, W: Listener, L>(
     alloc: Global,
     planner: &mut Planner,
     script: &[u8],
     out: &mut K,
+    listener: &mut W,
     solved: &mut Vec<SolveAnswer>,
     steps: &mut Steps<L>,
 ) -> ScriptEnd
@@ -36,7 +38,15 @@ pub fn answer_lines<K: Sink, L>(
     let mut lines = Lines::behind(0, script);
     let mut refused = false;
     while let Some(line) = lines.next() {
-        let told = match answer_line(alloc, planner, line.number, line.bytes, steps) {
+        let told = match answer_line(
+            alloc,
+            planner,
+            script,
+            line.number,
+            line.bytes,
+            listener,
+            steps,
+        ) {
             Ok(told) => told,
             Err(_) => return ScriptEnd::NoMemory,
         };

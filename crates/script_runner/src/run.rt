@@ -8,6 +8,7 @@ ghost use Rattle.script_runner.specs.Scripts.{EndsScript, is_cut};
 ghost use Rattle.script_runner.specs.TrialLines.{TellsMany};
 
 use crate::report::answer_lines;
+use line_answers::Listener;
 use linear_table::SolveAnswer;
 use plan_base::Steps;
 use plan_io::Sink;
@@ -28,13 +29,14 @@ pub fn tell_many_lines<K: Sink>(out: &mut K) -> ScriptEnd
     }
 }
 
-/// Answers each line of a script by the planner, and writes its reply before the next line is answered. What the solver answered
+/// Answers each line of a script by the planner, of which the listener hears, and writes its reply before the next line is answered. What the solver answered
 /// is kept in `solved`, in the order of the lines.
-pub fn run_script<K: Sink, L>(
+pub fn run_script<K: Sink, W: Listener, L>(
     alloc: Global,
     planner: &mut Planner,
     script: &[u8],
     out: &mut K,
+    listener: &mut W,
     solved: &mut Vec<SolveAnswer>,
     steps: &mut Steps<L>,
 ) -> ScriptEnd
@@ -48,5 +50,5 @@ pub fn run_script<K: Sink, L>(
     if has_many_lines(script) {
         return tell_many_lines(out);
     }
-    answer_lines(alloc, planner, script, out, solved, steps)
+    answer_lines(alloc, planner, script, out, listener, solved, steps)
 }

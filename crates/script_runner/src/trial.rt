@@ -6,21 +6,21 @@ ghost use Rattle.planner_core.specs.Posing.{IsFormed};
 ghost use Rattle.game_types.specs.declared.games.Game.{Game};
 ghost use Rattle.linear_table.specs.Plans.{IsWellFormed};
 ghost use Rattle.planner_core.specs.declared.posing.Posed.TheVariants.{Linear as Form, Reply as Replied};
-ghost use Rattle.script_runner.specs.Answers.{Reading as Read};
+ghost use Rattle.line_answers.specs.Answers.{Reading as Read};
 ghost use Rattle.script_runner.specs.TrialLines.{IsNote, IsNoted, JudgesLine};
 ghost use Rattle.script_runner.specs.Verdicts.{claim_at, IsVerdict};
 ghost use Rattle.script_runner.specs.declared.verdict.Verdict.{Verdict};
 ghost use Rattle.script_runner.specs.Trials.{IsSaid, said_work, table_asked};
 
-use crate::answer::is_refusal;
-use crate::reading::{Reading, reading_of, refused_for};
 use crate::{is_proved, verdict_line, verdict_on};
 use certificate_file::CertEntry;
+use line_answers::{Listener, Reading, is_refusal, reading_of, refused_for};
 use linear_table::Linear;
 use plan_base::{NoMemory, Steps, Text};
-use plan_report::{Reply, print_reply};
+use plan_lines::{Command, Reply};
+use plan_report::print_reply;
 use planner_core::{Planner, Posed};
-use script_reader::Command;
+use script_lines::Line;
 use std::alloc::Global;
 
 /// What a line comes to.
@@ -51,7 +51,7 @@ fn table_asked(alloc: Global, reading: &Reading) -> Result<Text, NoMemory>
 /// # Errors
 ///
 /// `NoMemory` where memory could not be had. Then all is as before.
-pub fn pose<L>(
+fn pose<L>(
     planner: &mut Planner,
     number: u32,
     reading: Reading,
@@ -139,17 +139,37 @@ fn note_of(
     }
 }
 
-/// Judges the line with this number.
+// Lets the listener hear of a reply; of a form that is posed there is none.
+fn let_hear<W: Listener>(
+    listener: &mut W,
+    planner: &Planner,
+    script: &[u8],
+    number: u32,
+    line: &[u8],
+    said: &Posed,
+) {
+    if let Posed::Reply(reply) = said {
+        let heard = Line {
+            number,
+            bytes: line,
+        };
+        listener.hears(planner, script, heard, reply);
+    }
+}
+
+/// Judges the line of a script with this number, of which the listener hears.
 ///
 /// # Errors
 ///
 /// `NoMemory` where memory could not be had. The line may have been carried out then.
-pub fn judge_line<L>(
+pub fn judge_line<W: Listener, L>(
     alloc: Global,
     planner: &mut Planner,
+    script: &[u8],
     entries: &[CertEntry],
     number: u32,
     line: &[u8],
+    listener: &mut W,
     steps: &mut Steps<L>,
 ) -> Result<Note, NoMemory>
     ensures note { IfOk result (λ note. JudgesLine entries.now number line.now planner.old planner.new note steps.old steps.new) }
@@ -159,5 +179,6 @@ pub fn judge_line<L>(
     let reading = reading_of(alloc, line)?;
     let table = table_asked(alloc, &reading)?;
     let said = pose(planner, number, reading, steps)?;
+    let_hear(listener, planner, script, number, line, &said);
     note_of(alloc, planner, entries, number, &table, &said)
 }

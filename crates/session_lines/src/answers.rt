@@ -4,7 +4,8 @@ ghost use Rattle.game_types.specs.Sound.{IsSound};
 use fractions::Ratio;
 use game_types::Game;
 use plan_base::{GoodId, NoMemory};
-use plan_report::{Detail, RefusalCode, Reply, good_word, print_reply, printed_word};
+use plan_lines::{Detail, RefusalCode, Reply};
+use plan_report::{good_word, print_reply, printed_word};
 use std::alloc::Global;
 
 /// What is written to a text in memory, or that none could be had.

@@ -1,7 +1,8 @@
 //! The lines in force: those of the entries of the history that are done, those of the entries that are undone, and those that an open
 //! batch holds.
 use plan_base::{NoMemory, Text};
-use script_reader::{Command, ScriptFault};
+use plan_lines::Command;
+use script_reader::ScriptFault;
 use std::alloc::Global;
 
 /// A line's command, none where it is blank or a comment, or why it has none.

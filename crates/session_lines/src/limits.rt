@@ -5,7 +5,7 @@ use crate::answers::{Done, push_reply, push_text};
 use fractions::Ratio;
 use game_types::{Effects, Game};
 use plan_base::NoMemory;
-use plan_report::Reply;
+use plan_lines::Reply;
 use std::alloc::Global;
 
 // Whether an effect stands at a fifth, below which none goes.

@@ -8,12 +8,12 @@ use crate::limits::push_limits;
 use crate::state::push_state;
 use crate::wishes::{Wished, Wishes};
 use catalog_text::{ShownFields, catalog_text};
+use line_answers::reading_of;
 use plan_base::{NoMemory, Steps, Text};
-use plan_report::{RefusalCode, Reply};
+use plan_lines::{Command, RefusalCode, Reply};
 use planner_core::Planner;
 use planner_questions::{ask_rate, ask_solve};
-use script_reader::{Command, ScriptFault};
-use script_runner::reading_of;
+use script_reader::ScriptFault;
 use std::alloc::Global;
 
 // What a question asks for, by its first word.

@@ -3,7 +3,7 @@ ghost use Rattle.std.specs.Prelude.{◌≡◌};
 
 use catalog_text::ShownFields;
 use plan_base::{NoMemory, Steps};
-use plan_report::RefusalCode;
+use plan_lines::RefusalCode;
 use planner_core::Planner;
 use std::alloc::Global;
 

@@ -24,8 +24,8 @@ use Rattle.depend_rows.proofs.AlikeLaw.{alike_law}
 use Rattle.depend_index.proofs.AlikeLemmas.{alike_more, alike_same}
 use Rattle.depend_rows.proofs.TouchLemmas.{touches_all}
 use Rattle.edit_undo.specs.Edits.{apply_edits, apply_from, then_apply}
-use Rattle.script_reader.specs.declared.change.Change.{Change}
-use Rattle.script_reader.specs.declared.change.Change.TheVariants.{Grant, Revoke, Forbid, Permit, Milestone, Unmilestone, Ingredient, Product, Unlock, Time, Enabled, Table, Untable, Row, Unrow, Price, Want, Import, Surplus, Power}
+use Rattle.plan_lines.specs.declared.change.Change.{Change}
+use Rattle.plan_lines.specs.declared.change.Change.TheVariants.{Grant, Revoke, Forbid, Permit, Milestone, Unmilestone, Ingredient, Product, Unlock, Time, Enabled, Table, Untable, Row, Unrow, Price, Want, Import, Surplus, Power}
 use Rattle.production_table.specs.declared.tables.Table.{Table as ProductionTable}
 use Rattle.production_table.specs.Tables.{IsOfGame}
 use Rattle.table_words.specs.declared.refusals.TableRefusal.{TableRefusal}

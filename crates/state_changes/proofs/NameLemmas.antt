@@ -15,9 +15,9 @@ use Rattle.game_types.specs.declared.games.Game.{Game}
 use Rattle.data_edit.specs.declared.edits.Edit.{Edit}
 use Rattle.data_edit.specs.declared.edits.Edit.TheVariants as edit
 use Rattle.data_edit.specs.Names.{KeepsNames}
-use Rattle.script_reader.specs.declared.change.Object.{Object}
-use Rattle.script_reader.specs.declared.change.Change.{Change}
-use Rattle.script_reader.specs.declared.change.Change.TheVariants.{Grant, Revoke, Forbid, Permit, Milestone, Unmilestone, Ingredient, Product, Unlock, Time, Enabled, Table, Untable, Row, Unrow, Price, Want, Import, Surplus, Power}
+use Rattle.plan_lines.specs.declared.change.Object.{Object}
+use Rattle.plan_lines.specs.declared.change.Change.{Change}
+use Rattle.plan_lines.specs.declared.change.Change.TheVariants.{Grant, Revoke, Forbid, Permit, Milestone, Unmilestone, Ingredient, Product, Unlock, Time, Enabled, Table, Untable, Row, Unrow, Price, Want, Import, Surplus, Power}
 use Rattle.state_changes.specs.Actions.{Outcome, ◌▸◌, edit_named, good_named, ingredient_edit, is_fluid, known, node_named, place_named, product_edit, recipe_named, tech_named, edit_and, edits_named}
 
 module _ (g h : Game) (names : KeepsNames g h) where

@@ -14,7 +14,7 @@ use Rattle.data_edit.specs.Names.{KeepsNames}
 use Rattle.depend_index.specs.Alike.{AlikeBut}
 use Rattle.depend_rows.specs.Touched.{touched_by, StaysAs}
 use Rattle.edit_undo.specs.Edits.{apply_edits}
-use Rattle.script_reader.specs.declared.change.Change.{Change}
+use Rattle.plan_lines.specs.declared.change.Change.{Change}
 use Rattle.production_table.specs.declared.tables.Table.{Table}
 use Rattle.planner_tables.specs.Effects.{AreSoundTables}
 use Rattle.state_changes.specs.declared.undos.Undo.{Undo}

@@ -6,8 +6,8 @@ use Rattle.data_edit.specs.declared.books.Book.{Book}
 use Rattle.data_edit.specs.declared.edits.Edit.{Edit}
 use Rattle.data_edit.specs.declared.edits.EditFault.{EditFault}
 use Rattle.data_edit.specs.Edits.{effect}
-use Rattle.script_reader.specs.declared.change.Change.{Change}
-use Rattle.script_reader.specs.declared.change.Change.TheVariants.{Milestone, Unmilestone}
+use Rattle.plan_lines.specs.declared.change.Change.{Change}
+use Rattle.plan_lines.specs.declared.change.Change.TheVariants.{Milestone, Unmilestone}
 use Rattle.milestone_masks.specs.declared.worlds.MilestoneFault.TheVariants.{Full, Already, NotOne}
 use Rattle.production_table.specs.declared.tables.Table.{Table}
 use Rattle.table_words.specs.declared.refusals.TableRefusal.{TableRefusal}

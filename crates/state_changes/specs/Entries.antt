@@ -1,8 +1,8 @@
 -- What an entry changes, and what takes it back.
 use Rattle.std.specs.Prelude.{◌≡◌, List, [], ◌∷◌, false, true}
 use Rattle.std.specs.List.{list_all}
-use Rattle.script_reader.specs.declared.change.Change.{Change}
-use Rattle.script_reader.specs.declared.change.Change.TheVariants.{Milestone, Unmilestone}
+use Rattle.plan_lines.specs.declared.change.Change.{Change}
+use Rattle.plan_lines.specs.declared.change.Change.TheVariants.{Milestone, Unmilestone}
 use Rattle.state_changes.specs.declared.entries.Entry.{Entry}
 use Rattle.state_changes.specs.declared.entries.Entry.TheVariants.{Add, Take, Held}
 use Rattle.state_changes.specs.declared.entries.Back.{Back}

@@ -6,9 +6,9 @@ use Rattle.data_edit.specs.declared.books.Book.{Book}
 use Rattle.data_edit.specs.Edits.{restored}
 use Rattle.data_edit.specs.Names.{KeepsNames}
 use Rattle.game_types.specs.declared.games.Game.{Game}
-use Rattle.script_reader.specs.declared.change.Object.{Object}
-use Rattle.script_reader.specs.declared.change.Change.{Change}
-use Rattle.script_reader.specs.declared.change.Change.TheVariants.{Unmilestone}
+use Rattle.plan_lines.specs.declared.change.Object.{Object}
+use Rattle.plan_lines.specs.declared.change.Change.{Change}
+use Rattle.plan_lines.specs.declared.change.Change.TheVariants.{Unmilestone}
 use Rattle.production_table.specs.declared.tables.Table.{Table}
 use Rattle.planner_tables.specs.Undoing.{tables_restored}
 use Rattle.state_changes.specs.Actions.{can_be_held, node_named}

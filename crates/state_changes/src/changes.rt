@@ -20,9 +20,9 @@ use crate::refusals::{ChangeFault, Refusal, edit_fault, entry_fault, tables_faul
 use crate::undos::Undo;
 use data_edit::{Book, Edit, Inverse, apply_edit, exchange};
 use edit_undo::EntryFault;
+use plan_lines::Change;
 use planner_tables::{change_tables, exchange_tables};
 use production_table::Table as ProductionTable;
-use script_reader::Change;
 use std::alloc::Global;
 
 /// Puts an item into the room that was reserved for it.

@@ -9,7 +9,7 @@ use data_edit::Edit;
 use fractions::Ratio;
 use game_types::Game;
 use plan_base::{GoodId, NoMemory, RecipeId};
-use script_reader::{Change, Object};
+use plan_lines::{Change, Object};
 use std::alloc::Global;
 
 fn ingredient_edit(recipe: RecipeId, good: GoodId, amount: &Option<Ratio>) -> Edit

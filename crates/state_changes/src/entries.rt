@@ -8,7 +8,7 @@ ghost use Rattle.state_changes.specs.Entries.{IsBackOf, IsEntryOf};
 
 use crate::undos::Undo;
 use plan_base::NodeId;
-use script_reader::{Change, Object};
+use plan_lines::{Change, Object};
 
 /// What an entry changes.
 pub enum Entry<'a> {

@@ -8,7 +8,7 @@ ghost use Rattle.state_changes.specs.Actions.{Gives, good_named, is_fluid, node_
 use crate::refusals::{ChangeFault, Refusal};
 use game_types::Game;
 use plan_base::{GoodId, Kind, NodeId, RecipeId, Shape, TechId};
-use script_reader::Object;
+use plan_lines::Object;
 use std::alloc::Global;
 
 /// The number of the first node of a kind, and the one behind its last.

@@ -5,8 +5,8 @@ ghost use Rattle.state_changes.specs.Faults.{edit_fault, entry_fault, milestone_
 use data_edit::EditFault;
 use edit_undo::EntryFault;
 use milestone_masks::MilestoneFault;
+use plan_lines::Object;
 use planner_tables::{ChangeFault as TablesFault, TableRefusal};
-use script_reader::Object;
 
 /// Why a change is refused.
 #[derive(Drop)]

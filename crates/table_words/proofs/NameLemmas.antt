@@ -17,7 +17,7 @@ use Rattle.game_types.specs.Lookups.{item_at, machine_at, no_item, no_machine}
 use Rattle.game_types.specs.Sound.{IsBeacon, IsBeaconKind, IsFluid, IsModule, IsSoundGroup, IsSoundSetup}
 use Rattle.game_types.specs.Steps.{◌▸◌}
 use Rattle.game_types.proofs.Walks.{next as next_of, drop_all}
-use Rattle.script_reader.specs.declared.change.RowPart.{RowPart}
+use Rattle.plan_lines.specs.declared.change.RowPart.{RowPart}
 use Rattle.table_words.specs.declared.refusals.TableRefusal.{TableRefusal}
 use Rattle.table_words.specs.Names.{group_of, in_last, is_beacon, with_part, with_parts}
 use Rattle.table_words.specs.Refusals.{Outcome}

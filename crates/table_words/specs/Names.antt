@@ -17,9 +17,9 @@ use Rattle.game_types.specs.Goods.{electricity, units_good}
 use Rattle.game_types.specs.Lookups.{item_at, machine_at}
 use Rattle.game_types.specs.Nodes.{names_of}
 use Rattle.game_types.specs.Steps.{◌▸◌}
-use Rattle.script_reader.specs.declared.change.Object.{Object}
-use Rattle.script_reader.specs.declared.change.RowPart.{RowPart}
-use Rattle.script_reader.specs.declared.change.RowPart.TheVariants as part
+use Rattle.plan_lines.specs.declared.change.Object.{Object}
+use Rattle.plan_lines.specs.declared.change.RowPart.{RowPart}
+use Rattle.plan_lines.specs.declared.change.RowPart.TheVariants as part
 use Rattle.table_words.specs.declared.refusals.TableRefusal.TheVariants.{Unknown}
 use Rattle.table_words.specs.Refusals.{Outcome}
 

@@ -19,12 +19,12 @@ use Rattle.power_rows.specs.declared.checks.PowerFault.{PowerFault}
 use Rattle.power_rows.specs.declared.checks.PowerFault.TheVariants as power
 use Rattle.table_rows.specs.declared.faults.SetupFault.{SetupFault}
 use Rattle.table_rows.specs.declared.faults.SetupFault.TheVariants as setup
-use Rattle.plan_report.specs.declared.reply.Detail.{Detail}
-use Rattle.plan_report.specs.declared.reply.Detail.TheVariants as detail
-use Rattle.plan_report.specs.declared.reply.RefusalCode.{RefusalCode}
-use Rattle.plan_report.specs.declared.reply.RefusalCode.TheVariants as code
-use Rattle.plan_report.specs.declared.reply.Reply.{Reply}
-use Rattle.plan_report.specs.declared.reply.Reply.TheVariants as reply
+use Rattle.plan_lines.specs.declared.reply.Detail.{Detail}
+use Rattle.plan_lines.specs.declared.reply.Detail.TheVariants as detail
+use Rattle.plan_lines.specs.declared.reply.RefusalCode.{RefusalCode}
+use Rattle.plan_lines.specs.declared.reply.RefusalCode.TheVariants as code
+use Rattle.plan_lines.specs.declared.reply.Reply.{Reply}
+use Rattle.plan_lines.specs.declared.reply.Reply.TheVariants as reply
 use Rattle.table_words.specs.declared.refusals.TableRefusal.{TableRefusal}
 use Rattle.table_words.specs.declared.refusals.TableRefusal.TheVariants.{Unknown, NoName, NoPrice, Negative, Full, NameUsed, Setup, Wide}
 use Rattle.table_words.specs.declared.refusals.ChangeFault.{ChangeFault}

@@ -13,7 +13,7 @@ ghost use Rattle.table_words.specs.Refusals.{Gives};
 use crate::{ChangeFault, TableRefusal};
 use game_types::{Activity, BeaconGroup, Game, MachineKind, Setup};
 use plan_base::{EntityId, GoodId, Items, Kind, NoMemory, RecipeId, SourceId, TechId};
-use script_reader::{Object, RowPart};
+use plan_lines::{Object, RowPart};
 use std::alloc::Global;
 
 // A word that names nothing, or nothing of the needed kind.

@@ -5,9 +5,8 @@ ghost use Rattle.table_words.specs.Refusals.{beacon_code, beacon_detail, code_of
 
 use game_types::{BeaconFault, FuelFault, Game, MachineFault, ModuleFault};
 use plan_base::{EntityId, GoodId, Kind, NoMemory, NodeId, Text};
-use plan_report::{Detail, RefusalCode, Reply};
+use plan_lines::{Detail, Object, RefusalCode, Reply};
 use power_rows::PowerFault;
-use script_reader::Object;
 use table_rows::SetupFault;
 
 /// Why a change of tables, or a question about them, is refused.

@@ -45,3 +45,21 @@ returns-in_default-insert-clause-steps g c = λ ranks are.
           c.repair.ensures.ranks
           are,
     )
+
+pub returns-clause-steps : goal.returns-clause-steps
+returns-clause-steps g c = λ ranks are.
+    omega (
+      arith,
+      c.repair.ensures.steps,
+      size-same
+          (world (g.R.Rows.rows c.args.rows.now) c.args.barred.now c.args.granted.now (Some c.args.node))
+          (g.R.Rows.rows c.args.rows.now)
+          (c.args.node ∷ [])
+          c.in-Ok.ranks
+          c.args.base.now
+          c.repair.new.self
+          ranks
+          c.in-Ok.ensures
+          c.repair.ensures.ranks
+          are,
+    )

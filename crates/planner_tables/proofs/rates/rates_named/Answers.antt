@@ -1,5 +1,5 @@
 use Rattle.std.proofs.Common.{◌∙◌, sym, subst}
-use Rattle.plan_report.specs.declared.reply.Reply.{Reply}
+use Rattle.plan_lines.specs.declared.reply.Reply.{Reply}
 use Rattle.table_words.specs.Refusals.{Gives, Outcome}
 use Rattle.planner_tables.proofs.ChangeLemmas.{table_read}
 use Rattle.planner_tables.proofs.QuestionLemmas.{rate_at}

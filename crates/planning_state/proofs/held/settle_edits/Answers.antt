@@ -1,5 +1,5 @@
 use Rattle.std.proofs.Common.{◌≢◌, ◌∙◌, ◌<◌, ◌≤◌, All, List, length, ap, sym, subst}
-use Rattle.std.specs.Prelude.{AllPairs}
+use Rattle.std.specs.Prelude.{AllPairs, IfSome}
 use Rattle.plan_base.specs.Shape.{node_count}
 use Rattle.plan_base.specs.declared.ids.NodeId.{NodeId}
 use Rattle.game_types.specs.Nodes.{shape_of}
@@ -8,7 +8,8 @@ use Rattle.depend_rows.specs.Touched.{touched_by_all}
 use Rattle.depend_rows.proofs.TouchedNodes.{touched_below, touched_once}
 use Rattle.milestone_masks.specs.Worlds.{AgreeInWorlds}
 use Rattle.planning_state.specs.Books.{AreRowsBut, with_rows}
-use Rattle.planning_state.proofs.Kept.{agree-but, kept-settled, long-before, rows-with, with-fewer, with-nodes, with-once}
+use Rattle.planning_state.specs.Remembered.{AreMarksBut}
+use Rattle.planning_state.proofs.Kept.{agree-but, kept-settled, long-before, marks-but, rows-with, with-fewer, with-nodes, with-once}
 use Rattle.planning_state.proofs.SettleLemmas.{work-settled}
 use Rattle.planning_state.proofs.held.settle_edits.Goals as goal
 
@@ -44,6 +45,12 @@ settle-requires-clause-agree g c =
     let is = c.as_slice-touched.ensures.value ∙ (c.in_ok-nodes.ensures ∙ ap (λ s. touched_by_all s c.args.edits.now) c.shape-shape.ensures) in
     subst (λ nodes. AgreeInWorlds (rows_of c.args.book.now.game) c.args.book.now.barred c.args.book.now.granted nodes c.args.worlds.now) (sym is)
     (agree-but c.requires.before.0 c.args.book.now c.args.edits.now c.args.worlds.now c.requires.before.1.sound.book c.requires.sound c.requires.before.1.worlds c.requires.before.2)
+
+pub settle-requires-clause-except : goal.settle-requires-clause-except
+settle-requires-clause-except g c =
+    let is = c.as_slice-touched.ensures.value ∙ (c.in_ok-nodes.ensures ∙ ap (λ s. touched_by_all s c.args.edits.now) c.shape-shape.ensures) in
+    subst (λ (nodes : List NodeId). IfSome c.args.remembered.now.marks (AreMarksBut nodes c.args.book.now)) (sym is)
+    (marks-but c.requires.before.0 c.args.book.now c.args.edits.now c.args.remembered.now.marks c.requires.before.1.sound.book c.requires.sound c.requires.before.2 c.requires.before.4.marks)
 
 pub returns-clause-work : goal.returns-clause-work
 returns-clause-work g c =

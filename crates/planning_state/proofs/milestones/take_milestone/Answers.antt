@@ -1,6 +1,6 @@
 use Rattle.std.proofs.Common.{sym, subst, ◌∙◌, ap, ◌++◌, ◌∷◌, []}
 use Rattle.edit_undo.specs.Edits.{apply_edits, IsFaultOf}
-use Rattle.script_reader.specs.declared.change.Change.TheVariants.{Unmilestone as UnmilestoneLine}
+use Rattle.plan_lines.specs.declared.change.Change.TheVariants.{Unmilestone as UnmilestoneLine}
 use Rattle.milestone_masks.specs.Worlds.{milestones_of}
 use Rattle.state_changes.specs.declared.undos.Undo.TheVariants.{Taken}
 use Rattle.state_changes.specs.States.{state_of}

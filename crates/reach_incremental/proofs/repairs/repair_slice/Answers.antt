@@ -5,8 +5,8 @@ use Rattle.reach_ranks.proofs.RepairLemmas.{holds-start}
 use Rattle.reach_ranks.proofs.SizeLemmas.{work_left-size}
 use Rattle.reach_incremental.proofs.repairs.repair_slice.Goals as goal
 
-pub settle_above-requires-clause-keys : goal.settle_above-requires-clause-keys
-settle_above-requires-clause-keys g c =
+pub settle-requires-clause-keys : goal.settle-requires-clause-keys
+settle-requires-clause-keys g c =
     holds-start
     (world (g.R.Rows.rows c.args.rows.now) c.args.barred.now c.args.granted.now c.args.extra)
     4294967295
@@ -25,11 +25,11 @@ returns-clause-steps g c =
     omega (
       arith,
       c.refresh_all.ensures.steps,
-      c.settle_above.ensures.steps,
+      c.settle.ensures.steps,
       work_left-size
           (world (g.R.Rows.rows c.args.rows.now) c.args.barred.now c.args.granted.now c.args.extra)
           c.args.changed.now
           c.args.ranks.now
-          c.settle_above.new.ranks
-          c.settle_above.ensures.ranks,
+          c.settle.new.ranks
+          c.settle.ensures.ranks,
     )

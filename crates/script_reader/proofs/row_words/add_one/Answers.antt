@@ -1,6 +1,6 @@
 use Rattle.std.specs.Prelude.{Result, Err, IfErr}
 use Rattle.std.proofs.Common.{subst, sym}
-use Rattle.script_reader.specs.declared.command.ScriptFault.{ScriptFault}
+use Rattle.script_reader.specs.declared.fault.ScriptFault.{ScriptFault}
 use Rattle.script_reader.specs.Reading.{Answers}
 use Rattle.script_reader.specs.Arguments.{add_part}
 use Rattle.script_reader.proofs.Readings.{answers_first, answers_memory, passed}

@@ -1,6 +1,6 @@
 use Rattle.std.specs.Prelude.{List, [], drop, Result}
-use Rattle.script_reader.specs.declared.change.RowPart.{RowPart}
-use Rattle.script_reader.specs.declared.command.ScriptFault.{ScriptFault}
+use Rattle.plan_lines.specs.declared.change.RowPart.{RowPart}
+use Rattle.script_reader.specs.declared.fault.ScriptFault.{ScriptFault}
 use Rattle.script_reader.specs.Reading.{Answers}
 use Rattle.script_reader.specs.Arguments.{add_parts}
 use Rattle.script_reader.proofs.row_words.read_parts.Given as goal

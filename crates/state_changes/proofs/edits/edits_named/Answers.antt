@@ -1,6 +1,6 @@
 use Rattle.std.proofs.Common.{◌≡◌, ◌∙◌, ◌++◌, List, append-nil, ap, arith, sym}
 use Rattle.plan_base.proofs.Walks.{drop_all}
-use Rattle.script_reader.specs.declared.change.Change.{Change}
+use Rattle.plan_lines.specs.declared.change.Change.{Change}
 use Rattle.state_changes.specs.Actions.{edits_named}
 use Rattle.state_changes.proofs.edits.edits_named.Goals as goal
 

@@ -1,6 +1,6 @@
 use Rattle.std.proofs.Common.{◌≡◌, IfOk, refl, subst}
-use Rattle.script_reader.specs.declared.command.Command.{Command}
-use Rattle.script_reader.specs.declared.command.Command.TheVariants as command
+use Rattle.plan_lines.specs.declared.command.Command.{Command}
+use Rattle.plan_lines.specs.declared.command.Command.TheVariants as command
 use Rattle.planner_core.specs.Posing.{IsPosed}
 use Rattle.planner_core.proofs.PosingLemmas.{posed_held, posed_other, posed_solve}
 use Rattle.planner_core.proofs.planner.Planner.pose.Goals as goal

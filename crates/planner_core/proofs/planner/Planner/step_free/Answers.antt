@@ -1,6 +1,6 @@
 use Rattle.std.proofs.Common.{◌∙◌, length, ap, refl, subst, sym}
 use Rattle.edit_undo.specs.Kept.{session_of}
-use Rattle.script_reader.specs.declared.command.Command.{Command}
+use Rattle.plan_lines.specs.declared.command.Command.{Command}
 use Rattle.planner_core.specs.Replies.{summary_reply}
 use Rattle.planner_core.specs.Lines.{IsFree, Planned}
 use Rattle.planner_core.proofs.planner.Planner.step_free.Goals as goal

@@ -1,6 +1,6 @@
 use Rattle.std.proofs.Common.{◌≤◌, ◌+◌, ℕ, IfErr, List, OnOk, subst, sym}
 use Rattle.edit_undo.specs.Edits.{apply_edits, IsFaultOf}
-use Rattle.script_reader.specs.declared.change.Change.{Change}
+use Rattle.plan_lines.specs.declared.change.Change.{Change}
 use Rattle.milestone_masks.specs.Worlds.{milestones_of}
 use Rattle.state_changes.specs.States.{State, state_of}
 use Rattle.state_changes.specs.Effects.{effect_of}
@@ -30,4 +30,4 @@ returns-in-Take-clause-fault g c =
     (c.take_milestone.ensures.fault c.self.inside.tables.items))
 
 pub invariant_of-self-in-Take : goal.invariant_of-self-in-Take
-invariant_of-self-in-Take g c = (c.take_milestone.ensures.kept c.self.inside.graph c.self.invariant.0, c.self.invariant.1, c.self.invariant.2)
+invariant_of-self-in-Take g c = (c.take_milestone.ensures.kept c.self.inside.graph c.self.invariant.0, c.self.invariant.1, c.self.invariant.2, c.self.invariant.3)

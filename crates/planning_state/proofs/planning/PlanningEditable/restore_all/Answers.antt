@@ -40,4 +40,4 @@ returns-in-Parts-clause-work g c =
     (work-book c.args.self.now _ _ c.args.edits.now c.self.view_is (held-changes c.requires.0 c.args.self.now c.args.edits.now c.args.inverses.now c.in-Parts.ensures c.requires.1)) c.restore_held.ensures.work
 
 pub invariant_of-self : goal.invariant_of-self
-invariant_of-self g c = (c.drop_milestone.ensures.kept c.self.inside.book c.self.inside.graph c.self.invariant.0, c.self.invariant.1, c.self.invariant.2)
+invariant_of-self g c = (c.drop_milestone.ensures.kept c.self.inside.book c.self.inside.graph c.self.invariant.0, c.self.invariant.1, c.self.invariant.2, c.self.invariant.3)

@@ -1,0 +1,10 @@
+//! What a line of a script is read as, the reply to it, and who hears of it.
+#![tactic(auto)]
+
+mod listening;
+mod reading;
+mod reply;
+
+pub use listening::{Listener, Silent};
+pub use reading::{Reading, fault_code, reading_of, refused_for};
+pub use reply::{is_refusal, reply_to};

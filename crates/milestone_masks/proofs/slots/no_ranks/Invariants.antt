@@ -1,0 +1,9 @@
+use Rattle.std.proofs.Common.{◌≡◌, length}
+use Rattle.reach_lanes.specs.Lanes.{AreSmall}
+use Rattle.milestone_masks.proofs.slots.no_ranks.Given as goal
+
+abbrev pub invariant-loop : goal.invariant-loop
+invariant-loop l = record {
+  long : length l.ranks.items ≡ l.counter;
+  small : AreSmall l.ranks.items;
+}

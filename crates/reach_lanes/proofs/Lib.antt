@@ -1,0 +1,4 @@
+pub mod LaneLemmas
+pub mod KeyLemmas
+pub mod VisitLemmas
+pub mod RepairLemmas
