@@ -30,7 +30,7 @@ export function rowsView(table, plan, rates) {
   const stamp = r => [S.model.commands[r.line - 1].join('\u0001'), r.price, burns, look.per, look.belt, game.stamp,
     Object.values(figures(r) || {}).join(' '), flowsText(plan, r), Object.values(rates.get(r.label) || {}).join(' ')].join('|');
   return h('div.scroll', { role: 'region', 'aria-label': 'Rows', tabindex: '0' },
-    h('table.rows' + (burns ? '.burns' : ''), { style: wideness(table) }, h('thead', null, h('tr', null, th('Recipe'),
+    h('table.rows' + (burns ? '.burns' : ''), { style: wideness(table) }, h('thead', null, h('tr', null, th('Recipe', 'th.name'),
     th(`Crafts ${PER[look.per]}`, 'th.r.crafts'), th('Machines', 'th.r.count', 'To build, and exactly at full work'), th('By', 'th.by'),
     th('Modules', 'th.mods'), th('Beacons', 'th.ring'), burns && th('Fuel', 'th.fuel'), th('Power', 'th.r.power'),
       th('Pollution', 'th.r.smoke', 'per minute'),
@@ -55,13 +55,13 @@ function rowView(table, r, plan, figures, effects, burns) {
       choicesOf(r).map(p => temperature(table, r, p))),
     h('td.r.crafts', null, !figures ? '–' : r.does === 'special:electricity' ? power(figures.rate) : rate(figures.rate)),
     h('td.r.count', null, figures ? countOf(figures) : '–'),
-    h('td', null, machine(table, r, key)), h('td.fill', null, h('div.mods', null, slots(table, r, key), effect(effects))),
-      h('td', null, beacons(table, r, key)), burns && h('td', null, fuel(table, r, key)),
-    h('td.r', null, figures?.power && figures.drain && figures.beacons ? power(figures.power.plus(figures.drain).plus(figures.beacons)) : '–'),
+    h('td.by', null, machine(table, r, key)), h('td.mods', null, h('div.mods', null, slots(table, r, key), effect(effects))),
+      h('td.ring', null, beacons(table, r, key)), burns && h('td.fuel', null, fuel(table, r, key)),
+    h('td.r.power', null, figures?.power && figures.drain && figures.beacons ? power(figures.power.plus(figures.drain).plus(figures.beacons)) : '–'),
       h('td.r.smoke', null, figures ? num(figures.pollution, '/min') : '–'),
     h('td.r.price', null, edit(r.price || '0', { label: `Price of a craft of ${name}`, key: key('price'),
       done: x => setPrice(table, rowNow(table, r), line('price', table.name, r.label, x)) })),
-    h('td', null, mark('×', `Remove row ${name}`, () => removeRow(table, r))));
+    h('td.last', null, mark('×', `Remove row ${name}`, () => removeRow(table, r))));
 }
 const setPrice = (table, r, said) => r.priceLine ? change({ put: { [r.priceLine]: said } }) : addLines(table, said);
 /** Takes a row out of its table, with the price that it has. */
