@@ -5,3 +5,4 @@ pub mod FuelLemmas
 pub mod BeaconLemmas
 pub mod ChoiceLemmas
 pub mod ChoiceLaws
+pub mod Bases

@@ -143,6 +143,18 @@ impl Game {
             .any(|fluid| is_good(&fluid.of, good))
     }
 
+    // Whether a good is a base, where the fluids are looked through for a fluid alone: an item is none.
+    #[tactic(auto, using(crate::proofs::Bases::no_base))]
+    fn has_variants(&self, good: GoodId) -> bool
+        requires { IsSound self.now }
+        ensures { result ≡ is_base self.now good.0 }
+    {
+        if (good.0 as usize) < self.items.len() {
+            return false;
+        }
+        self.is_base(good)
+    }
+
     // Whether a good that is no base takes itself.
     fn fits_alone(&self, good: GoodId, low: &Option<Ratio>, high: &Option<Ratio>) -> bool
         ensures { result ≡ fits_alone low.now high.now (fluid_at self.now good.0) }
@@ -193,7 +205,7 @@ impl Game {
         requires { IsSound self.now }
         ensures { result ≡ coolest_fit self.now good.0 low.now high.now }
     {
-        if self.is_base(good) {
+        if self.has_variants(good) {
             let first = self.shape().items;
             match coolest(self.fluids.as_slice(), first, good, low, high) {
                 Some((fit, _)) => Some(fit),

@@ -1,29 +1,14 @@
 -- Of an item, a row's choice is the item itself.
 use Rattle.std.proofs.Common.{◌≡◌, ◌∙◌, ◌<◌, ◌≤◌, ℕ, List, [], ◌∷◌, length, refl, ap, arith}
-use Rattle.std.specs.Prelude.{All, IfSome, Bool, true, false, nat_lt, ◌==◌, Option, Some, None, if◌then◌else◌}
-use Rattle.std.specs.List.{list_any}
+use Rattle.std.specs.Prelude.{All, Bool, true, false, nat_lt, ◌==◌, Option, Some, None, if◌then◌else◌}
 use Rattle.std.proofs.lemmas.Bool.Decides.{nat_tests}
 use Rattle.std.proofs.lemmas.List.Elements.{All-head, All-tail}
-use Rattle.std.proofs.lemmas.Bool.{and_left, or_from}
+use Rattle.std.proofs.lemmas.Bool.{and_left}
 use Rattle.plan_base.specs.declared.ids.GoodId.{GoodId}
 use Rattle.game_types.specs.declared.games.Game.{Game}
-use Rattle.game_types.specs.declared.goods.Fluid.{Fluid}
-use Rattle.game_types.specs.Sound.{IsBase, IsFluid, IsItem, IsSound, IsSoundFluid}
-use Rattle.game_types.specs.Temperatures.{choice_of, coolest_fit, first_where, fits_alone, fluid_at, is_base, is_fit, is_good, or_else}
-
--- an item is no base
-no_base_of : (g : Game) (good : ℕ) (o : Option GoodId) → good < length g.items → IfSome o (IsBase g) → is_good o good ≡ false
-no_base_of g good None h k = refl
-no_base_of g good (Some base) h k = let up : length g.items ≤ base.0 = k.0 in grind (arith, nat_tests)
-
-none_base : (g : Game) (good : ℕ) (fluids : List Fluid) → good < length g.items → All (IsSoundFluid g) fluids → list_any (λ fluid. is_good fluid.of good) fluids ≡ false
-none_base g good [] h each = refl
-none_base g good (fluid ∷ fluids) h each =
-    or_from (is_good fluid.of good) (list_any (λ f. is_good f.of good) fluids) (no_base_of g good fluid.of h (All-head (IsSoundFluid g) fluid fluids each)) (none_base g good fluids h (All-tail (IsSoundFluid g) fluid fluids each))
-
-no_base : (g : Game) (good : ℕ) → IsSound g → good < length g.items → is_base g good ≡ false
-unfolding is_base
-no_base g good sound h = none_base g good g.fluids h sound.fluids
+use Rattle.game_types.specs.Sound.{IsFluid, IsItem, IsSound}
+use Rattle.game_types.proofs.Bases.{no_base}
+use Rattle.game_types.specs.Temperatures.{choice_of, coolest_fit, first_where, fits_alone, fluid_at, is_base, is_fit, or_else}
 
 -- no fluid of the row's own is a fit
 own_fit : (g : Game) (good own : ℕ) → is_base g good ≡ false → (own == good) ≡ false → is_fit g good None None own ≡ false
