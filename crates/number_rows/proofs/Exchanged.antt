@@ -52,7 +52,7 @@ size_some (pos zero) h = absurd (h refl)
 size_some (pos (suc n)) h = omega arith
 size_some (negsuc n) h = omega arith
 
-pub divided_row : {room : ℕ} (s : Bool) (b m bound : ℕ) (ts us : List ℤ) (ns : List Fraction) (xs ys : Numbers) (k : ℕ) (z : Bool) → record { items = kept s b ts ns } ≡ xs → s ≡ true → IsKept b bound ts ns room → k < length ts → number_at xs.items k ≢ zero_fraction → z ≡ lt_z (top_at ts k) (pos 0) → m ≡ unsigned_abs (top_at ts k) → IsTurned ts z us → ys ≡ record { items = kept s m us ns } →
+pub divided_row : {room : ℕ} (s : Bool) (b m bound : ℕ) (ts us : List ℤ) (ns : List Fraction) (xs ys : Numbers) (k : ℕ) (z : Bool) → record { items = kept s b ts ns } ≡ xs → s ≡ true → IsKept s b bound ts ns room → k < length ts → number_at xs.items k ≢ zero_fraction → z ≡ lt_z (top_at ts k) (pos 0) → m ≡ unsigned_abs (top_at ts k) → IsTurned ts z us → ys ≡ record { items = kept s m us ns } →
     IsDividedRow xs.items (number_at xs.items k) ys.items
 divided_row s b m bound ts us ns xs ys k z ex ms h lt apart ez em t ey =
     let p : ℤ = top_at ts k in
@@ -69,7 +69,7 @@ divided_row s b m bound ts us ns xs ys k z ex ms h lt apart ez em t ey =
     ∙ quotient_is (top_at ts j) p (top_at us j) b m h.positive pm (ap (λ x. x *ℤ p) (t.numbers j q) ∙ (turned_times p (top_at ts j) z ez ∙ ap (λ n. top_at ts j *ℤ pos n) (sym em))) some nonzero) in
     let size : (j : ℕ) → j < length ts → unsigned_abs (top_at us j) ≤ bound = λ j q. subst (λ (n : ℕ). n ≤ bound) (sym (ap unsigned_abs (t.numbers j q) ∙ turned_size (top_at ts j) z)) (h.within j q) in
     record {
-      length_is = length_shown s m us ns ys (sym ey) (t.length_is ∙ h.same_length) ∙ (t.length_is ∙ sym len);
+      length_is = length_shown s m us ns ys (sym ey) (λ e. t.length_is ∙ h.same_length e) ∙ (t.length_is ∙ sym len);
       narrow = λ j q. let lj : j < length ts = omega (arith, q, len) in subst IsNarrow (sym (is j lj)) (narrow_over (top_at us j) m pm (omega (arith, hm, h.bound_small)) (omega (arith, size j lj, h.bound_small)));
       numbers = λ j q. let lj : j < length ts = omega (arith, q, len) in new j lj ∙ sym (is j lj);
     }
@@ -92,7 +92,7 @@ pub divided_tops : (b c a : ℕ) (f : ℤ) (ts vs us : List ℤ) → 0 < b → 0
 divided_tops b c a f ts vs us pb pc h pa t =
     record { length_is = t.length_is; numbers = λ j q. over_same (top_at ts j *ℤ pos a -ℤ top_at vs j *ℤ f) (top_at us j) b c a pb pc h pa (t.numbers j q) }
 
-pub reduced_row : {room room' : ℕ} (s s' : Bool) (b b' bound bound' a g m : ℕ) (f : ℤ) (ts us vs : List ℤ) (ns ms : List Fraction) (xs ys ps : Numbers) (k : ℕ) → record { items = kept s b ts ns } ≡ xs → s ≡ true → IsKept b bound ts ns room → record { items = kept s' b' vs ms } ≡ ps → s' ≡ true → IsKept b' bound' vs ms room' → length xs.items ≡ length ps.items → k < length ts → 0 < g → g ∣ b' → a ≡ b' / g → f *ℤ pos g ≡ top_at ts k → AreReducedTops b a m f ts vs us → ys ≡ record { items = kept s m us ns } →
+pub reduced_row : {room room' : ℕ} (s s' : Bool) (b b' bound bound' a g m : ℕ) (f : ℤ) (ts us vs : List ℤ) (ns ms : List Fraction) (xs ys ps : Numbers) (k : ℕ) → record { items = kept s b ts ns } ≡ xs → s ≡ true → IsKept s b bound ts ns room → record { items = kept s' b' vs ms } ≡ ps → s' ≡ true → IsKept s' b' bound' vs ms room' → length xs.items ≡ length ps.items → k < length ts → 0 < g → g ∣ b' → a ≡ b' / g → f *ℤ pos g ≡ top_at ts k → AreReducedTops b a m f ts vs us → ys ≡ record { items = kept s m us ns } →
     IsReducedRow xs.items (number_at xs.items k) ps.items ys.items
 reduced_row s s' b b' bound bound' a g m f ts us vs ns ms xs ys ps k ex es h ep es' h' width lt pg gb ea ef t ey =
     let at : (j : ℕ) → j < length ts → number_at xs.items j ≡ frac (top_at ts j) b = λ j q. short_at s b ts ns xs j ex es q in
@@ -114,7 +114,7 @@ reduced_row s s' b b' bound bound' a g m f ts us vs ns ms xs ys ps k ex es h ep 
     ∙ sym (ap (λ x. x -ʳ number_at xs.items k *ʳ number_at ps.items j) (at j q)
     ∙ (ap (λ x. frac (top_at ts j) b -ʳ x *ʳ number_at ps.items j) (at k lt) ∙ ap (λ x. frac (top_at ts j) b -ʳ frac (top_at ts k) b *ʳ x) (other j q)))) in
     record {
-      length_is = length_shown s m us ns ys (sym ey) (t.length_is ∙ h.same_length) ∙ (t.length_is ∙ sym len);
+      length_is = length_shown s m us ns ys (sym ey) (λ e. t.length_is ∙ h.same_length e) ∙ (t.length_is ∙ sym len);
       narrow = λ j q. fits j (omega (arith, q, len));
       numbers = λ j q. let lj : j < length ts = omega (arith, q, len) in new j lj ∙ is j lj;
     }
@@ -186,7 +186,7 @@ pub reduced_wide : (s : Bool) (b b' bound bound' a g m : ℕ) (f : ℤ) (ts us v
     IsReducedRow xs.items (number_at xs.items k) (kept true b' vs []) ys.items
 reduced_wide s b b' bound bound' a g m f ts us vs ns xs ys k ex es h pb' hb' hv width lt first second pg gb ea ef t ey =
     let at : (j : ℕ) → j < length ts → number_at xs.items j ≡ frac (top_at ts j) b = λ j q. short_at s b ts ns xs j ex es q in
-    let len : length xs.items ≡ length ts = length_shown s b ts ns xs ex h.same_length in
+    let len : length xs.items ≡ length ts = length_shown s b ts ns xs ex (λ e. h.same_length) in
     let both : length ts ≡ length vs = sym len ∙ width in
     let other : (j : ℕ) → j < length ts → number_at (kept true b' vs []) j ≡ frac (top_at vs j) b' = λ j q. kept_at b' vs [] j (omega (arith, q, both)) in
     let new : (j : ℕ) → j < length ts → number_at ys.items j ≡ frac (top_at us j) m = λ j q. short_at s m us ns ys j (sym ey) es (omega (arith, q, t.length_is)) in
@@ -206,7 +206,7 @@ reduced_wide s b b' bound bound' a g m f ts us vs ns xs ys k ex es h pb' hb' hv 
     ∙ sym (ap (λ x. x -ʳ number_at xs.items k *ʳ number_at (kept true b' vs []) j) (at j q)
     ∙ (ap (λ x. frac (top_at ts j) b -ʳ x *ʳ number_at (kept true b' vs []) j) (at k lt) ∙ ap (λ x. frac (top_at ts j) b -ʳ frac (top_at ts k) b *ʳ x) (other j q)))) in
     record {
-      length_is = length_shown s m us ns ys (sym ey) (t.length_is ∙ h.same_length) ∙ (t.length_is ∙ sym len);
+      length_is = length_shown s m us ns ys (sym ey) (λ e. t.length_is ∙ h.same_length) ∙ (t.length_is ∙ sym len);
       narrow = λ j q. fits j (omega (arith, q, len));
       numbers = λ j q. let lj : j < length ts = omega (arith, q, len) in new j lj ∙ is j lj;
     }

@@ -28,11 +28,11 @@ shown s b ts ns = record { items = kept s b ts ns }
 items_same : (x y : Numbers) → x ≡ y → x.items ≡ y.items
 items_same x y e = ap (λ (z : Numbers). z.items) e
 
-by_mode : (s : Bool) (b : ℕ) (ts : List ℤ) (ns : List Fraction) → length ts ≡ length ns → length (kept s b ts ns) ≡ length ts
+by_mode : (s : Bool) (b : ℕ) (ts : List ℤ) (ns : List Fraction) → (s ≡ false → length ts ≡ length ns) → length (kept s b ts ns) ≡ length ts
 by_mode true b ts ns e = map_length b ts
-by_mode false b ts ns e = sym e
+by_mode false b ts ns e = sym (e refl)
 
-pub length_shown : (s : Bool) (b : ℕ) (ts : List ℤ) (ns : List Fraction) (xs : Numbers) → record { items = kept s b ts ns } ≡ xs → length ts ≡ length ns → length xs.items ≡ length ts
+pub length_shown : (s : Bool) (b : ℕ) (ts : List ℤ) (ns : List Fraction) (xs : Numbers) → record { items = kept s b ts ns } ≡ xs → (s ≡ false → length ts ≡ length ns) → length xs.items ≡ length ts
 length_shown s b ts ns xs e l = sym (ap length (items_same _ xs e)) ∙ by_mode s b ts ns l
 
 pub short_at : (s : Bool) (b : ℕ) (ts : List ℤ) (ns : List Fraction) (xs : Numbers) (k : ℕ) → record { items = kept s b ts ns } ≡ xs → s ≡ true → k < length ts → number_at xs.items k ≡ frac (top_at ts k) b

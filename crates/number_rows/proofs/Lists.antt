@@ -1,9 +1,9 @@
 -- Lists of whole numbers, changed place by place.
-use Rattle.std.specs.Prelude.{◌≡◌, ℕ, ◌+◌, ◌*◌, ◌/◌, ◌<◌, ◌≤◌, ◌^◌, ℤ, pos, ◌*ℤ◌, ◌-ℤ◌, neg_ℤ, int_div, unsigned_abs, List, length}
+use Rattle.std.specs.Prelude.{◌≡◌, ℕ, ◌+◌, ◌*◌, ◌/◌, ◌<◌, ◌≤◌, ◌^◌, ℤ, pos, ◌*ℤ◌, ◌-ℤ◌, neg_ℤ, int_div, unsigned_abs, List, length, replicate}
 use Rattle.std.specs.Int.{◌∣◌, w64}
 use Rattle.std.proofs.Common.{refl, sym, ap, subst, ◌∙◌, arith, set, below_more, to_z, of_z}
 use Rattle.std.proofs.lemmas.Int.{ints, unsigned_abs-mul, to_z-of_z, fits_signed_from_abs}
-use Rattle.std.proofs.lemmas.List.{get_or-set_same, get_or-set_other}
+use Rattle.std.proofs.lemmas.List.{get_or-set_same, get_or-set_other, get_or-replicate}
 use Rattle.std.proofs.Math.Nat.{mul-le-mul_right, dvd-mul_left, dvd-mul_right, one-dvd, div-mul_cancel, mul_assoc, mul_comm}
 use Rattle.fractions.specs.Fraction.{Fraction, frac, int_div-mul, lower_pos}
 use Rattle.fractions.specs.Fracs.{pos_product}
@@ -201,3 +201,6 @@ raised_more old f tops k t lt e h =
           (get_or-set_same tops k t (pos 0) lt ∙ e);
       rest = λ j q. get_or-set_other tops k j t (pos 0) (λ e. omega arith) ∙ h.rest j (omega arith);
     }
+
+pub zero_at : (n k : ℕ) → k < n → top_at (replicate n (pos 0)) k ≡ pos 0
+zero_at n k h = get_or-replicate n k (pos 0) (pos 0) h

@@ -101,6 +101,27 @@ impl Model for Long {
     ghost invariant = { λ r. IsKeptLong r.bottom r.bound r.tops.items r.numbers.items };
 }
 
+/// Writes fractions as whole numbers below the limit of short rows over one denominator, where that fits.
+pub fn short_form(tops: &mut [i64], numbers: &[Ratio]) -> Option<Shortened>
+    requires lengths { length tops.old ≡ length numbers.now }
+    requires old_small { (k : ℕ) → k < length tops.old → unsigned_abs (top_at tops.old k) < 2 ^ 62 }
+    ensures length_is { length tops.new ≡ length tops.old }
+    ensures small { (k : ℕ) → k < length tops.new → unsigned_abs (top_at tops.new k) < 2 ^ 62 }
+    ensures over { IfSome result (λ s. (0 < s.bottom) × (s.bottom < 2 ^ 62) × (s.bound < 2 ^ 62) × AreWithin tops.new s.bound × AreOver tops.new s.bottom numbers.now) }
+{
+    let Some(bottom) = common_bottom(numbers) else {
+        return None;
+    };
+    if write_tops(tops, numbers, bottom) {
+        Some(Shortened {
+            bottom,
+            bound: LIMIT - 1,
+        })
+    } else {
+        None
+    }
+}
+
 impl Long {
     /// No numbers.
     pub fn empty(alloc: Global) -> Long
@@ -127,6 +148,26 @@ impl Long {
             tops,
             numbers,
         })
+    }
+
+    /// So many zeros.
+    pub fn zeros(alloc: Global, count: usize) -> Result<Long, NoMemory>
+        ensures { IfOk result (λ long. length long.items ≡ count) }
+    {
+        Ok(Long {
+            whole: true,
+            bottom: 1,
+            bound: 0,
+            tops: wide_zeros(alloc, count)?,
+            numbers: vec![in alloc; Ratio::zero(); count]?,
+        })
+    }
+
+    /// How many numbers there are.
+    pub fn len(&self) -> usize
+        ensures { result ≡ length self.now.items }
+    {
+        self.tops.len()
     }
 
     /// The number at a place.
@@ -210,17 +251,7 @@ impl Long {
                 bound: self.bound as u64,
             });
         }
-        let Some(bottom) = common_bottom(&self.numbers) else {
-            return None;
-        };
-        if write_tops(tops, &self.numbers, bottom) {
-            Some(Shortened {
-                bottom,
-                bound: LIMIT - 1,
-            })
-        } else {
-            None
-        }
+        short_form(tops, &self.numbers)
     }
 
     /// Divides each number by the one at `enter`, or says which quotient is wide.

@@ -1,6 +1,6 @@
 //! A row of numbers.
 
-ghost use Rattle.std.specs.Prelude.{◌≡◌, ◌≢◌, ◌<◌, ℕ, ◌^◌, pos, [], length, OnOk, IfErr, IfOk, IfSome, IsTrue, ◌↔◌};
+ghost use Rattle.std.specs.Prelude.{◌≡◌, ◌≢◌, ◌<◌, ℕ, ◌^◌, false, pos, [], length, OnOk, IfErr, IfOk, IfSome, IsTrue, ◌↔◌};
 ghost use Rattle.std.specs.Bool.{OnTrue, OnFalse};
 ghost use Rattle.std.specs.Ordering.{MatchOrdering};
 ghost use Rattle.fractions.specs.Fraction.{zero_fraction, ◌/ʳ◌, ◌<ʳ◌, ◌≤ʳ◌};
@@ -11,7 +11,7 @@ ghost use Rattle.number_rows.specs.Changed.{AreNarrow, IsDividedRow, IsReducedRo
 ghost use Rattle.number_rows.specs.Row.{kept};
 ghost use Rattle.number_rows.specs.Tops.{top_at, AreWithin};
 
-use crate::long::Long;
+use crate::long::{Long, short_form};
 use crate::tops::{
     LIMIT, combine, combine_lowered, common_factor, content, divide_all, greatest, keeps_within,
     long_product, product_keeps_within, quotient, turn_all,
@@ -48,33 +48,51 @@ impl Model for Row {
 
     ghost view = { λ r. record { items = kept r.short r.bottom r.tops.items r.numbers.items } };
 
-    ghost invariant = { λ r. IsKept r.bottom r.bound r.tops.items r.numbers.items (length r.spare.items) };
+    ghost invariant = { λ r. IsKept r.short r.bottom r.bound r.tops.items r.numbers.items (length r.spare.items) };
 }
 
 // So many zeros.
+#[tactic(auto, using(crate::proofs::Lists::zero_at))]
 fn zeros(alloc: Global, count: usize) -> Result<Vec<i64>, NoMemory>
     ensures length_is { IfOk result (λ tops. length tops.items ≡ count) }
     ensures zero { IfOk result (λ tops. (k : ℕ) → k < count → top_at tops.items k ≡ pos 0) }
 {
-    let mut tops = Vec::with_capacity(alloc, count)?;
-    for _k in 0..count {
-        tops.push(0)?;
-    }
-    Ok(tops)
+    Ok(vec![in alloc; 0i64; count]?)
 }
 
-// Writes each number of a short row where numbers past its limit have room.
-fn write_kept(numbers: &mut Long, tops: &[i64], bottom: u64, bound: u64, short: bool)
-    requires lengths { length tops.now ≡ length numbers.old.items }
+// Makes room for so many numbers, where there is none yet.
+fn make_room(alloc: Global, numbers: &mut Long, count: usize) -> Result<(), NoMemory>
+    ensures room { IfOk result (λ done. length numbers.new.items ≡ count) }
+    ensures same { IfErr result (λ fault. numbers.new ≡ numbers.old) }
+{
+    if numbers.len() != count {
+        *numbers = Long::zeros(alloc, count)?;
+    }
+    Ok(())
+}
+
+// Writes each number of a short row where numbers past its limit have room, which is made where there is none yet.
+fn write_kept(
+    alloc: Global,
+    numbers: &mut Long,
+    tops: &[i64],
+    bottom: u64,
+    bound: u64,
+    short: bool,
+) -> Result<(), NoMemory>
+    requires lengths { short ≡ false → length tops.now ≡ length numbers.old.items }
     requires positive { 0 < bottom }
     requires small { bottom < 2 ^ 62 }
     requires within { AreWithin tops.now bound }
     requires bound_small { bound < 2 ^ 62 }
-    ensures { numbers.new.items ≡ kept short bottom tops.now numbers.old.items }
+    ensures written { IfOk result (λ done. numbers.new.items ≡ kept short bottom tops.now numbers.old.items) }
+    ensures same { IfErr result (λ fault. numbers.new ≡ numbers.old) }
 {
     if short {
+        make_room(alloc, numbers, tops.len())?;
         numbers.write(tops, bottom, bound);
     }
+    Ok(())
 }
 
 impl Row {
@@ -101,20 +119,28 @@ impl Row {
     pub fn from_numbers(alloc: Global, numbers: Vec<Ratio>) -> Result<Row, NoMemory>
         ensures { IfOk result (λ row. row.items ≡ numbers.items) }
     {
-        let tops = zeros(alloc, numbers.len())?;
+        let mut tops = zeros(alloc, numbers.len())?;
         let spare = zeros(alloc, numbers.len())?;
-        let numbers = Long::from_numbers(alloc, numbers)?;
-        let mut row = Row {
-            short: false,
-            bottom: 1,
-            bound: 0,
-            tight: false,
-            tops,
-            spare,
-            numbers,
-        };
-        row.shorten();
-        Ok(row)
+        match short_form(&mut tops, &numbers) {
+            Some(short) => Ok(Row {
+                short: true,
+                bottom: short.bottom,
+                bound: short.bound,
+                tight: false,
+                tops,
+                spare,
+                numbers: Long::empty(alloc),
+            }),
+            None => Ok(Row {
+                short: false,
+                bottom: 1,
+                bound: LIMIT - 1,
+                tight: false,
+                tops,
+                spare,
+                numbers: Long::from_numbers(alloc, numbers)?,
+            }),
+        }
     }
 
     /// How many numbers there are.
@@ -233,31 +259,13 @@ impl Row {
             self.cancel();
             return Ok(());
         }
-        match self.divide_long(enter) {
+        match self.numbers.divide(enter) {
             Ok(()) => {
                 self.shorten();
                 Ok(())
             }
             Err(place) => Err(place),
         }
-    }
-
-    // The same for any row.
-    fn divide_long(&mut self, enter: usize) -> Result<(), usize>
-        requires inside { enter < length self.old.items }
-        requires not_zero { number_at self.old.items enter ≢ zero_fraction }
-        ensures ok { OnOk result (IsDividedRow self.old.items (number_at self.old.items enter) self.new.items) }
-        ensures err { IfErr result (λ k. (k < length self.old.items) × ¬ IsNarrow (number_at self.old.items k /ʳ number_at self.old.items enter)) }
-    {
-        write_kept(
-            &mut self.numbers,
-            &self.tops,
-            self.bottom,
-            self.bound,
-            self.short,
-        );
-        self.short = false;
-        self.numbers.divide(enter)
     }
 
     // Takes its number at `enter` times the pivot's row from a row, where both are short and stay within the limits.
@@ -367,73 +375,97 @@ impl Row {
     }
 
     // The same on 128 bits, of which the row may stay past the limits of short ones.
-    fn reduce_wide(&mut self, enter: usize, pivot_row: &Row) -> bool
+    fn reduce_wide(
+        &mut self,
+        alloc: Global,
+        enter: usize,
+        pivot_row: &Row,
+    ) -> Result<bool, NoMemory>
         requires inside { enter < length self.old.items }
         requires width { length self.old.items ≡ length pivot_row.now.items }
-        ensures done { OnTrue result (IsReducedRow self.old.items (number_at self.old.items enter) pivot_row.now.items self.new.items) }
-        ensures not { OnFalse result (self.new ≡ self.old) }
+        ensures done { IfOk result (λ done. OnTrue done (IsReducedRow self.old.items (number_at self.old.items enter) pivot_row.now.items self.new.items)) }
+        ensures not { IfOk result (λ done. OnFalse done (self.new ≡ self.old)) }
     {
         if !pivot_row.short {
-            return false;
+            return Ok(false);
         }
         write_kept(
+            alloc,
             &mut self.numbers,
             &self.tops,
             self.bottom,
             self.bound,
             self.short,
-        );
+        )?;
         self.short = false;
-        self.numbers
-            .reduce_whole(enter, &pivot_row.tops, pivot_row.bottom, pivot_row.bound)
+        let done = self
+            .numbers
+            .reduce_whole(enter, &pivot_row.tops, pivot_row.bottom, pivot_row.bound);
+        Ok(done)
     }
 
     // The same for any row, or which number that makes wide.
-    fn reduce_long(&mut self, enter: usize, pivot_row: &Row) -> Result<(), usize>
+    fn reduce_long(
+        &mut self,
+        alloc: Global,
+        enter: usize,
+        pivot_row: &Row,
+    ) -> Result<Result<(), usize>, NoMemory>
         requires inside { enter < length self.old.items }
         requires width { length self.old.items ≡ length pivot_row.now.items }
         requires narrow { AreNarrow self.old.items }
-        ensures ok { OnOk result (IsReducedRow self.old.items (number_at self.old.items enter) pivot_row.now.items self.new.items) }
-        ensures err { IfErr result (λ k. (k < length self.old.items) × ¬ LessFits (number_at self.old.items k) (number_at self.old.items enter) (number_at pivot_row.now.items k)) }
+        ensures ok { IfOk result (λ reduced. OnOk reduced (IsReducedRow self.old.items (number_at self.old.items enter) pivot_row.now.items self.new.items)) }
+        ensures err { IfOk result (λ reduced. IfErr reduced (λ k. (k < length self.old.items) × ¬ LessFits (number_at self.old.items k) (number_at self.old.items enter) (number_at pivot_row.now.items k))) }
     {
         write_kept(
+            alloc,
             &mut self.numbers,
             &self.tops,
             self.bottom,
             self.bound,
             self.short,
-        );
+        )?;
         self.short = false;
-        self.numbers.reduce(enter, pivot_row)
+        let reduced = self.numbers.reduce(enter, pivot_row);
+        Ok(reduced)
     }
 
     /// Takes its number at `enter` times the pivot's row from a row, or says which number that makes wide.
-    pub fn reduce(&mut self, enter: usize, pivot_row: &Row) -> Result<(), usize>
+    ///
+    /// # Errors
+    ///
+    /// `NoMemory` where the row gets past the limit of short ones, and memory for that could not be had.
+    pub fn reduce(
+        &mut self,
+        alloc: Global,
+        enter: usize,
+        pivot_row: &Row,
+    ) -> Result<Result<(), usize>, NoMemory>
         requires inside { enter < length self.old.items }
         requires width { length self.old.items ≡ length pivot_row.now.items }
         requires narrow { AreNarrow self.old.items }
-        ensures ok { OnOk result (IsReducedRow self.old.items (number_at self.old.items enter) pivot_row.now.items self.new.items) }
-        ensures err { IfErr result (λ k. (k < length self.old.items) × ¬ LessFits (number_at self.old.items k) (number_at self.old.items enter) (number_at pivot_row.now.items k)) }
+        ensures ok { IfOk result (λ reduced. OnOk reduced (IsReducedRow self.old.items (number_at self.old.items enter) pivot_row.now.items self.new.items)) }
+        ensures err { IfOk result (λ reduced. IfErr reduced (λ k. (k < length self.old.items) × ¬ LessFits (number_at self.old.items k) (number_at self.old.items enter) (number_at pivot_row.now.items k))) }
     {
         if self.is_zero(enter) {
-            return Ok(());
+            return Ok(Ok(()));
         }
         if self.reduce_within(enter, pivot_row) {
-            return Ok(());
+            return Ok(Ok(()));
         }
         if self.reduce_over(enter, pivot_row) {
-            return Ok(());
+            return Ok(Ok(()));
         }
-        if self.reduce_wide(enter, pivot_row) {
+        if self.reduce_wide(alloc, enter, pivot_row)? {
             self.shorten();
-            return Ok(());
+            return Ok(Ok(()));
         }
-        match self.reduce_long(enter, pivot_row) {
+        match self.reduce_long(alloc, enter, pivot_row)? {
             Ok(()) => {
                 self.shorten();
-                Ok(())
+                Ok(Ok(()))
             }
-            Err(place) => Err(place),
+            Err(place) => Ok(Err(place)),
         }
     }
 }

@@ -16,15 +16,12 @@ use std::alloc::Global;
 const PRODUCT: u128 = 1 << 124;
 
 /// So many zeros.
+#[tactic(auto, using(crate::proofs::Lists::zero_at))]
 pub fn wide_zeros(alloc: Global, count: usize) -> Result<Vec<i128>, NoMemory>
     ensures length_is { IfOk result (λ tops. length tops.items ≡ count) }
     ensures zero { IfOk result (λ tops. (k : ℕ) → k < count → top_at tops.items k ≡ pos 0) }
 {
-    let mut tops = Vec::with_capacity(alloc, count)?;
-    for _k in 0..count {
-        tops.push(0)?;
-    }
-    Ok(tops)
+    Ok(vec![in alloc; 0i128; count]?)
 }
 
 /// Writes each number where 128 bits are.

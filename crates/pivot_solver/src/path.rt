@@ -129,7 +129,7 @@ fn advance(
         enter: linear.name_of_place(enter),
         leave: linear.name_of_place(basis[row]),
     };
-    match pivot(alloc, &mut rows, &mut cost, row, enter) {
+    match pivot(alloc, &mut rows, &mut cost, row, enter)? {
         Ok(()) => {
             basis[row] = enter;
             trail.push(next)?;

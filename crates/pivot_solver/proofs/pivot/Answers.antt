@@ -1,6 +1,6 @@
 use Rattle.std.proofs.Common.{◌∙◌, sym, ap, ◌≡◌}
 use Rattle.pivot_solver.specs.Rows.{Numbers, row_at}
-use Rattle.pivot_solver.proofs.ManyRows.{row_at-get_or}
+use Rattle.pivot_solver.proofs.ManyRows.{row_at-get_or, where_err, where_ok}
 use Rattle.pivot_solver.proofs.Pivoted.{pivoted_rows, divided_width, others_width, others_narrow, wide_row, wide_cost}
 use Rattle.pivot_solver.proofs.pivot.Goals.{After-replace-pivot_row}
 use Rattle.pivot_solver.proofs.pivot.Goals as goal
@@ -17,24 +17,25 @@ reduce_rows-requires-clause-widths c =
 pub reduce_rows-requires-clause-narrow : goal.reduce_rows-requires-clause-narrow
 reduce_rows-requires-clause-narrow c = others_narrow c.args.rows.now c.args.row c.replace-pivot_row.new.dest c.requires.narrow
 
-pub returns-in-Err-reduce_rows-clause-err : goal.returns-in-Err-reduce_rows-clause-err
-returns-in-Err-reduce_rows-clause-err c =
-    let e = c.in-Err-reduce_rows.ensures.err in
-    wide_row c.args.rows.now c.args.row c.args.enter c.in-Err-reduce_rows.spot.row c.in-Err-reduce_rows.spot.place c.replace-pivot_row.result c.replace-pivot_row.new.dest c.divide.new.self
-    (taken (goal.at.returns-in-Err-reduce_rows-clause-err c).After-replace-pivot_row) c.in_default.ensures.ok e.0 e.1 e.2 e.3
+pub returns-in-Err-2-clause-err : goal.returns-in-Err-2-clause-err
+returns-in-Err-2-clause-err c =
+    let e = where_err _ c.in_ok-spot.field-0 c.in-Err-2.spot c.in-Err-2.is c.in_ok-spot.ensures.err in
+    wide_row c.args.rows.now c.args.row c.args.enter c.in-Err-2.spot.row c.in-Err-2.spot.place c.replace-pivot_row.result c.replace-pivot_row.new.dest c.divide.new.self
+    (taken (goal.at.returns-in-Err-2-clause-err c).After-replace-pivot_row) c.in_default.ensures.ok e.0 e.1 e.2 e.3
 
 pub reduce-requires-clause-width : goal.reduce-requires-clause-width
 reduce-requires-clause-width c =
     divided_width c.args.rows.now c.args.cost.now.items c.args.row c.args.enter c.replace-pivot_row.result c.divide.new.self
     (taken (goal.at.reduce-requires-clause-width c).After-replace-pivot_row) c.in_default.ensures.ok c.requires.cost_width
 
-pub returns-in-Err-reduce-clause-err : goal.returns-in-Err-reduce-clause-err
-returns-in-Err-reduce-clause-err c =
-    let e = c.in-Err-reduce.ensures.err in
-    wide_cost c.args.rows.now c.args.cost.now.items c.args.row c.args.enter c.in-Err-reduce.place c.replace-pivot_row.result c.divide.new.self
-    (taken (goal.at.returns-in-Err-reduce-clause-err c).After-replace-pivot_row) c.in_default.ensures.ok c.requires.cost_width e.0 e.1
+pub returns-in-Err-3-clause-err : goal.returns-in-Err-3-clause-err
+returns-in-Err-3-clause-err c =
+    let e = where_err _ c.in_ok-place.field-0 c.in-Err-3.place c.in-Err-3.is c.in_ok-place.ensures.err in
+    wide_cost c.args.rows.now c.args.cost.now.items c.args.row c.args.enter c.in-Err-3.place c.replace-pivot_row.result c.divide.new.self
+    (taken (goal.at.returns-in-Err-3-clause-err c).After-replace-pivot_row) c.in_default.ensures.ok c.requires.cost_width e.0 e.1
 
 pub returns-clause-ok : goal.returns-clause-ok
 returns-clause-ok c =
     pivoted_rows c.args.rows.now c.reduce_rows.new.rows c.args.cost.now.items c.reduce.new.self.items c.args.row c.args.enter c.replace-pivot_row.result c.replace-pivot_row.new.dest c.divide.new.self c.requires.inside
-    (taken (goal.at.returns-clause-ok c).After-replace-pivot_row) c.in_default.ensures.ok c.in_default-reduce_rows.ensures.ok c.in_default-reduce.ensures.ok
+    (taken (goal.at.returns-clause-ok c).After-replace-pivot_row) c.in_default.ensures.ok
+    (where_ok c.in_ok-spot.field-0 c.in_default-2.field-0 c.in_default-2.is c.in_ok-spot.ensures.ok) (where_ok c.in_ok-place.field-0 c.in_default-3.field-0 c.in_default-3.is c.in_ok-place.ensures.ok)

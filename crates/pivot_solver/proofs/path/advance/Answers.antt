@@ -3,6 +3,7 @@ use Rattle.std.proofs.lemmas.List.{get_or_read, with_items_is}
 use Rattle.std.specs.Vec.{with_item, with_items}
 use Rattle.linear_table.specs.Basis.{name_at}
 use Rattle.linear_table.specs.declared.Exchange.{Exchange}
+use Rattle.pivot_solver.proofs.ManyRows.{where_err, where_ok}
 use Rattle.pivot_solver.proofs.Paths.{pivot_not_zero, pivoted_at, wide_at, path_onward, path_wide}
 use Rattle.pivot_solver.proofs.path.advance.Goals as goal
 
@@ -24,9 +25,9 @@ returns-in_ok-push-in-Ok c =
           })
           c.args.row c.args.enter (record { enter = c.name_of_place.result; leave = c.name_of_place-2.result }) c.requires.is_path c.requires.is_next
           (pivoted_at c.args.row c.args.enter c.deref_mut.ensures.value (λ i. c.args.path.cost.items)
-          (sym (with_items_is c.args.path.rows c.pivot.new.rows (c.in-Ok.ensures.ok.row_count ∙ (ap length c.deref_mut.ensures.value ∙ sym c.args.path.rows.ok.0))))
+          (sym (with_items_is c.args.path.rows c.pivot.new.rows ((where_ok c.in_ok-pivot.field-0 c.in-Ok.field-0 c.in-Ok.is c.in_ok-pivot.ensures.ok).row_count ∙ (ap length c.deref_mut.ensures.value ∙ sym c.args.path.rows.ok.0))))
           (λ i. c.pivot.new.cost.items)
-          c.in-Ok.ensures.ok)
+          (where_ok c.in_ok-pivot.field-0 c.in-Ok.field-0 c.in-Ok.is c.in_ok-pivot.ensures.ok))
           refl c.in_ok-push-in-Ok.ensures.items c.name_of_place.ensures (ap (λ (k : ℕ). name_at c.args.linear.now k) (sym leave) ∙ c.name_of_place-2.ensures),
       omega (arith, ap (λ (x : List Exchange). length x) c.in_ok-push-in-Ok.ensures.items, length-append {A = Exchange}),
       fewer,
@@ -39,7 +40,7 @@ returns-in-Err c =
     λ budget fewer. (
       path_wide c.args.linear.now budget c.args.path c.args.row c.args.enter (record { enter = c.name_of_place.result; leave = c.name_of_place-2.result }) c.in-Err.at c.place_of.result c.from_vec.result
           c.requires.is_path c.requires.is_next
-          (wide_at c.args.row c.args.enter c.in-Err.at c.deref_mut.ensures.value (λ i. c.args.path.cost.items) c.in-Err.ensures.err)
+          (wide_at c.args.row c.args.enter c.in-Err.at c.deref_mut.ensures.value (λ i. c.args.path.cost.items) (where_err _ c.in_ok-pivot.field-0 c.in-Err.at c.in-Err.is c.in_ok-pivot.ensures.err))
           c.place_of.ensures fewer c.from_vec.ensures c.name_of_place.ensures (ap (λ (k : ℕ). name_at c.args.linear.now k) (sym leave) ∙ c.name_of_place-2.ensures),
       tt,
     )

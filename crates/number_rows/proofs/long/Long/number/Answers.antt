@@ -10,7 +10,7 @@ use Rattle.number_rows.proofs.long.Long.number.Goals.{After-index}
 use Rattle.number_rows.proofs.long.Long.number.Goals as goal
 
 inside : (c : After-index) → c.args.k < length c.self.inside.tops.items
-inside c = let r = c.self.inside in omega (arith, c.requires, length_shown r.whole r.bottom r.tops.items r.numbers.items c.args.self.now c.self.view_is c.self.invariant.same_length)
+inside c = let r = c.self.inside in omega (arith, c.requires, length_shown r.whole r.bottom r.tops.items r.numbers.items c.args.self.now c.self.view_is (λ e. c.self.invariant.same_length))
 
 back : (c : After-index) → wrap128 c.index.result.now ≡ top_at c.self.inside.tops.items c.args.k
 back c =

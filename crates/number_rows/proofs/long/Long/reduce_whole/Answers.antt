@@ -17,7 +17,7 @@ use Rattle.number_rows.proofs.long.Long.reduce_whole.Goals.{After-wide_quotient-
 use Rattle.number_rows.proofs.long.Long.reduce_whole.Goals as goal
 
 inside : (c : After-wide_quotient-factor) → c.args.enter < length c.self.inside.tops.items
-inside c = let r = c.self.inside in omega (arith, c.requires.inside, length_shown r.whole r.bottom r.tops.items r.numbers.items c.args.self.now c.self.view_is c.self.invariant.same_length)
+inside c = let r = c.self.inside in omega (arith, c.requires.inside, length_shown r.whole r.bottom r.tops.items r.numbers.items c.args.self.now c.self.view_is (λ e. c.self.invariant.same_length))
 
 -- the factor, times the divisor, is the number at the place that enters
 factor : (c : After-wide_quotient-factor) → (c.wide_quotient-factor.result *ℤ pos c.wide_divisor-common.result ≡ top_at c.self.inside.tops.items c.args.enter) × (unsigned_abs c.wide_quotient-factor.result ≤ c.self.inside.bound)

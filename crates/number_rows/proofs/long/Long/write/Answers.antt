@@ -11,7 +11,7 @@ use Rattle.number_rows.proofs.long.Long.write.Goals as goal
 count : (c : After-widen) → length c.widen.new.wides ≡ length c.self.inside.tops.items
 count c =
     let r = c.self.inside in
-    omega (arith, c.widen.ensures.length_is, c.requires.lengths, length_shown r.whole r.bottom r.tops.items r.numbers.items c.args.self.now c.self.view_is c.self.invariant.same_length)
+    omega (arith, c.widen.ensures.length_is, c.requires.lengths, length_shown r.whole r.bottom r.tops.items r.numbers.items c.args.self.now c.self.view_is (λ e. c.self.invariant.same_length))
 
 taken : (c : After-widen) → (with_items c.self.inside.tops c.widen.new.wides).items ≡ c.widen.new.wides
 taken c = with_items_is c.self.inside.tops c.widen.new.wides (count c ∙ sym c.self.inside.tops.ok.0)

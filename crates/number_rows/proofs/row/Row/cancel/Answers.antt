@@ -26,9 +26,9 @@ invariant_of-self c =
     let r = c.self.inside in
     let d = c.divide_all-self-inside in
     let back : (with_items r.tops d.new.tops).items ≡ d.new.tops = with_items_is r.tops d.new.tops (d.ensures.divided.length_is ∙ (ap (λ (ts : List ℤ). length ts) c.deref_mut.ensures.value ∙ sym r.tops.ok.0)) in
-    subst (λ (ts : List ℤ). IsKept (r.bottom / c.content-common.result) d.result ts r.numbers.items (length r.spare.items)) (sym back)
+    subst (λ (ts : List ℤ). IsKept r.short (r.bottom / c.content-common.result) d.result ts r.numbers.items (length r.spare.items)) (sym back)
     (record {
-      same_length = d.ensures.divided.length_is ∙ (ap (λ (ts : List ℤ). length ts) c.deref_mut.ensures.value ∙ c.self.invariant.same_length);
+      same_length = λ e. d.ensures.divided.length_is ∙ (ap (λ (ts : List ℤ). length ts) c.deref_mut.ensures.value ∙ c.self.invariant.same_length e);
       room_is = c.self.invariant.room_is ∙ sym (d.ensures.divided.length_is ∙ ap (λ (ts : List ℤ). length ts) c.deref_mut.ensures.value);
       positive = lower_pos r.bottom c.content-common.result c.self.invariant.positive c.content-common.ensures.bottom;
       bottom_small = omega (arith, div-le_self r.bottom c.content-common.result, c.self.invariant.bottom_small);

@@ -25,9 +25,9 @@ invariant_of-self c =
     let some : 0 < unsigned_abs (top_at r.tops.items c.args.enter) = size_some (top_at r.tops.items c.args.enter) (top_not_zero (top_at r.tops.items c.args.enter) r.bottom (number_at xs.items c.args.enter) c.self.invariant.positive (short_at r.short r.bottom r.tops.items r.numbers.items xs c.args.enter c.self.view_is c.if-self.true inside) c.requires.not_zero) in
     let old : c.deref_mut.result.now ≡ r.tops.items = c.deref_mut.ensures.value in
     let len : length d.new.tops ≡ length r.tops.items = d.ensures.length_is ∙ ap (λ (ts : List ℤ). length ts) old in
-    subst (λ (ts : List ℤ). IsKept c.unsigned_abs-self-inside.result r.bound ts r.numbers.items (length r.spare.items)) (sym (with_items_is r.tops d.new.tops (len ∙ sym r.tops.ok.0)))
+    subst (λ (ts : List ℤ). IsKept r.short c.unsigned_abs-self-inside.result r.bound ts r.numbers.items (length r.spare.items)) (sym (with_items_is r.tops d.new.tops (len ∙ sym r.tops.ok.0)))
     (record {
-      same_length = len ∙ c.self.invariant.same_length;
+      same_length = λ e. len ∙ c.self.invariant.same_length e;
       room_is = c.self.invariant.room_is ∙ sym len;
       positive = omega (arith, m, some);
       bottom_small = omega (arith, m, small, c.self.invariant.bound_small);

@@ -53,10 +53,10 @@ invariant_of-self-2 c =
     let a = p.bottom / c.common_factor-common.result in
     let m = r.bottom / d * a in
     let room : length c.swap.new.y.items ≡ length r.tops.items = rw c.swap.ensures.y_after refl in
-    subst (λ (n : ℕ). IsKept m c.in-Some.lowered.bound c.swap.new.x.items r.numbers.items n) (sym room)
-    (subst (λ (ts : List ℤ). IsKept m c.in-Some.lowered.bound ts r.numbers.items (length r.tops.items)) (sym (taken s))
+    subst (λ (n : ℕ). IsKept r.short m c.in-Some.lowered.bound c.swap.new.x.items r.numbers.items n) (sym room)
+    (subst (λ (ts : List ℤ). IsKept r.short m c.in-Some.lowered.bound ts r.numbers.items (length r.tops.items)) (sym (taken s))
     (record {
-      same_length = count s ∙ c.self.invariant.same_length;
+      same_length = λ e. count s ∙ c.self.invariant.same_length e;
       room_is = sym (count s);
       positive = pos_product (r.bottom / d) a (lower_pos r.bottom d c.self.invariant.positive low.divides) (lower_pos p.bottom c.common_factor-common.result c.pivot_row.invariant.positive c.common_factor-common.ensures.second);
       bottom_small = OnTrue_at c.if-not-product_keeps_within.false c.product_keeps_within.ensures;

@@ -40,9 +40,9 @@ invariant_of-self c =
     let d = c.combine-self-inside in
     let a = p.bottom / c.common_factor-common.result in
     let len : length d.new.tops ≡ length r.tops.items = d.ensures.combined.length_is ∙ ap (λ (ts : List ℤ). length ts) c.deref_mut.ensures.value in
-    subst (λ (ts : List ℤ). IsKept (r.bottom * a) d.result ts r.numbers.items (length r.spare.items)) (sym (with_items_is r.tops d.new.tops (len ∙ sym r.tops.ok.0)))
+    subst (λ (ts : List ℤ). IsKept r.short (r.bottom * a) d.result ts r.numbers.items (length r.spare.items)) (sym (with_items_is r.tops d.new.tops (len ∙ sym r.tops.ok.0)))
     (record {
-      same_length = len ∙ c.self.invariant.same_length;
+      same_length = λ e. len ∙ c.self.invariant.same_length e;
       room_is = c.self.invariant.room_is ∙ sym len;
       positive = pos_product r.bottom a c.self.invariant.positive (lower_pos p.bottom c.common_factor-common.result c.pivot_row.invariant.positive c.common_factor-common.ensures.second);
       bottom_small = (OnTrue_at c.if-not-keeps_within.false c.keeps_within.ensures).1;
