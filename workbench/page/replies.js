@@ -5,7 +5,8 @@ import { wordsOf } from './script.js';
 /** The words of each line of a reply: those of its first line without the number. */
 export const readReply = text => text ? text.split('\n').map((l, i) => i ? wordsOf(l) || [l] : (wordsOf(l) || [l]).slice(1)) : null;
 const figure = text => text === 'wide' ? null : Frac.of(text);
-const figures = words => Object.fromEntries(words.flatMap((w, i) => i % 2 ? [] : [[w, figure(words[i + 1])]]));
+// What a line says of each of its words, and the line itself, by which it is seen whether anything of it changed.
+const figures = words => ({ ...Object.fromEntries(words.flatMap((w, i) => i % 2 ? [] : [[w, figure(words[i + 1])]])), said: words.join(' ') });
 
 /** The reply to `solve` or `?flow`: `kind` is plan, infeasible or refused. */
 export function planOf(text) {
@@ -17,7 +18,7 @@ export function planOf(text) {
   if (plan.kind === 'refused') return { ...plan, trail: rest };
   if (plan.kind === 'plan') plan.cost = Frac.of(head[3]);
   const flowOf = label => {
-    if (!plan.flows.has(label)) plan.flows.set(label, { takes: new Map(), gives: new Map() });
+    if (!plan.flows.has(label)) plan.flows.set(label, { takes: new Map(), gives: new Map(), said: '' });
     return plan.flows.get(label);
   };
   for (const [word, a, b, c] of rest) {
@@ -26,7 +27,11 @@ export function planOf(text) {
     else if (word === 'surplus') plan.surpluses.set(a, figure(b));
     else if (word === 'price') plan.prices.set(a, figure(b));
     else if (word === 'wanted') plan.wanted.set(a, figure(b));
-    else if (word === 'takes' || word === 'gives') flowOf(a)[word].set(b, figure(c));
+    else if (word === 'takes' || word === 'gives') {
+      const flow = flowOf(a);
+      flow[word].set(b, figure(c));
+      flow.said += ` ${word} ${b} ${c}`;
+    }
     else if (word === 'build') plan.build.push({ label: a, machine: b, count: figure(c) });
   }
   for (const words of rest) {

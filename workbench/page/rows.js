@@ -28,7 +28,7 @@ export function rowsView(table, plan, rates) {
     text);
   const figures = r => plan?.kind === 'plan' ? plan.rows.get(r.label) : null;
   const stamp = r => [S.model.commands[r.line - 1].join('\u0001'), r.price, burns, look.per, look.belt, game.stamp,
-    Object.values(figures(r) || {}).join(' '), flowsText(plan, r), Object.values(rates.get(r.label) || {}).join(' ')].join('|');
+    figures(r)?.said, plan?.flows?.get(r.label)?.said, Object.values(rates.get(r.label) || {}).join(' ')].join('|');
   return h('div.scroll', { role: 'region', 'aria-label': 'Rows', tabindex: '0' },
     h('table.rows' + (burns ? '.burns' : ''), { style: wideness(table) }, h('thead', null, h('tr', null, th('Recipe', 'th.name'),
     th(`Crafts ${PER[look.per]}`, 'th.r.crafts'), th('Machines', 'th.r.count', 'To build, and exactly at full work'), th('By', 'th.by'),
@@ -40,10 +40,6 @@ export function rowsView(table, plan, rates) {
 // What the widths of the columns hang on (look.css). They hang on no number of the plan, so that another number lays out no other row anew.
 const wideness = table => ({ '--slots': Math.max(2, ...table.rows.map(r => Math.min(get(r.by).slots || 0, MOST_SLOTS))),
   '--effects': Number(table.rows.some(r => r.modules.length || r.beacons.length)), '--ring': Number(table.rows.some(r => r.beacons.length)) });
-function flowsText(plan, r) {
-  const f = plan?.flows?.get(r.label);
-  return f ? [...f.takes, ...f.gives].map(([g, x]) => `${g} ${x}`).join(' ') : '';
-}
 
 function rowView(table, r, plan, figures, effects, burns) {
   const idle = figures?.rate?.isZero, key = what => `${what} ${r.label}`, name = plain(r.label);

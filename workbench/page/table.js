@@ -18,7 +18,7 @@ export const resetScale = () => { scale = 0; };
 
 export function tableView(table) {
   const plan = planFor(table), isPlan = plan?.kind === 'plan';
-  const isEmpty = !table.rows.length && !table.want.size;
+  const isEmpty = !table.rows.length && !table.want.size, stamp = isPlan && !isEmpty && chartStamp(table, plan);
   return h('section.tableview', { key: 'table ' + table.name, 'aria-label': `Table ${plain(table.name)}` }, head(table),
     isEmpty ? beginning(table) : verdict(table, plan),
     table.rows.length > 0 && rowsView(table, plan, S.rates),
@@ -32,7 +32,7 @@ export function tableView(table) {
       .map(([sign, k, name]) => h('button',
         { type: 'button', title: name, 'aria-label': name, onclick: () => { scale = k ? Math.max(0.3, Math.min(2.5, (scale || fitting) * k)) : 0;
         show(); } }, sign)))),
-    memo('chart', chartStamp(table, plan), () => drawn(table, plan)), memo('flows', chartStamp(table, plan), () => flowsView(table, plan))),
+    memo('chart', stamp, () => drawn(table, plan)), memo('flows', stamp, () => flowsView(table, plan))),
     !isEmpty && goods(table, plan));
 }
 
@@ -117,8 +117,7 @@ const proof = (table, what, note) => h('button.proof', { type: 'button', 'data-k
 
 // ---- The chart ----
 
-const chartStamp = (table, plan) => [[...plan.flows].map(([l, f]) => `${l}:${[...f.takes].join(' ')}>${[...f.gives].join(' ')}`).join('\n'),
-  [...plan.rows].map(([l, r]) => `${l} ${r.count}`).join(' '),
+const chartStamp = (table, plan) => [[...plan.flows].map(([l, f]) => l + f.said).join('\n'), [...plan.rows].map(([l, r]) => `${l} ${r.said}`).join(' '),
   table.rows.map(r => `${r.label} ${r.does} ${r.by}`).join('\n'), [...plan.imports, ...plan.surpluses].join(' '),
     [...table.want].map(([g, w]) => g + w.value).join(' '), look.per, look.belt, game.stamp, scale, look.room].join('|');
 function drawn(table, plan) {
