@@ -17,7 +17,7 @@ use Rattle.craft_reader.specs.declared.goods.GoodKind.TheVariants.{Item, Fluid}
 use Rattle.craft_reader.specs.declared.goods.NamedGood.{NamedGood}
 use Rattle.craft_reader.specs.declared.goods.RawPack.{RawPack}
 use Rattle.craft_reader.specs.declared.goods.RawPart.{RawPart}
-use Rattle.craft_reader.specs.declared.goods.RawProduct.{RawProduct}
+use Rattle.craft_reader.specs.declared.given.RawProduct.{RawProduct}
 
 -- ---- forms
 -- an element of a list of ingredients or products: an object, or a list of a name and an amount, which stands for one

@@ -10,7 +10,7 @@ use Rattle.prototype_fields.specs.Objects.{Object, as_object, field}
 use Rattle.prototype_fields.specs.Values.{Reading, ◌▸◌, Names, amount_or, category, each, flag_or, name_or, object_element, positive_or, required, required_short_list}
 use Rattle.craft_reader.specs.Goods.{ingredient, products}
 use Rattle.craft_reader.specs.declared.goods.RawPart.{RawPart}
-use Rattle.craft_reader.specs.declared.goods.RawProduct.{RawProduct}
+use Rattle.craft_reader.specs.declared.given.RawProduct.{RawProduct}
 use Rattle.craft_reader.specs.declared.recipes.RawRecipe.{RawRecipe}
 
 -- ---- the chosen object: `normal` where it is an object, else `expensive` where it is one, else the prototype itself

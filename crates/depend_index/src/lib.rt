@@ -3,7 +3,9 @@
 
 mod among;
 mod index;
+mod keys;
 mod kinds;
+mod listed;
 mod marks;
 mod noting;
 mod places;

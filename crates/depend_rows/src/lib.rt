@@ -6,6 +6,7 @@ mod machines;
 mod members;
 mod recipes;
 mod rows;
+mod sources;
 mod techs;
 mod touching;
 

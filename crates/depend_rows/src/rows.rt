@@ -13,7 +13,8 @@ ghost use Rattle.depend_rows.specs.Rows.{row_beside, row_of, rows_of, special_ro
 use crate::goods::good_row;
 use crate::machines::{electricity_row, heat_row, machine_row};
 use crate::members::row_with;
-use crate::recipes::{recipe_row, source_row};
+use crate::recipes::recipe_row;
+use crate::sources::source_row;
 use crate::techs::tech_row;
 use data_edit::Book;
 use depend_index::{Index, first_machine, first_recipe, first_source, first_tech};

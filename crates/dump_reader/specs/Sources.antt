@@ -7,7 +7,7 @@ use Rattle.prototype_fields.specs.declared.names.Within.TheVariants as within
 use Rattle.prototype_fields.specs.Objects.{Object}
 use Rattle.prototype_fields.specs.Values.{Reading, ◌▸◌, Names, name, name_or, category, object_at, required_positive, amount}
 use Rattle.craft_reader.specs.Goods.{products}
-use Rattle.craft_reader.specs.declared.goods.RawProduct.{RawProduct}
+use Rattle.craft_reader.specs.declared.given.RawProduct.{RawProduct}
 use Rattle.dump_reader.specs.declared.raw.RawSource.{RawSource}
 use Rattle.machine_reader.specs.declared.sections.Section.{Section}
 

@@ -20,7 +20,7 @@ use Rattle.craft_reader.specs.declared.goods.GoodKind.TheVariants as good_kind
 use Rattle.craft_reader.specs.declared.goods.NamedGood.{NamedGood}
 use Rattle.craft_reader.specs.declared.goods.RawPack.{RawPack}
 use Rattle.craft_reader.specs.declared.goods.RawPart.{RawPart}
-use Rattle.craft_reader.specs.declared.goods.RawProduct.{RawProduct}
+use Rattle.craft_reader.specs.declared.given.RawProduct.{RawProduct}
 use Rattle.craft_reader.specs.declared.recipes.RawRecipe.{RawRecipe}
 use Rattle.craft_reader.specs.declared.technologies.RawTech.{RawTech}
 use Rattle.craft_reader.specs.Faults.{GivesDump, in_prototype}

@@ -9,9 +9,11 @@ mod found;
 mod games;
 mod names;
 mod short;
+mod unknown;
+mod unread;
 
 pub use fits::{misfit, number_among, stops_at};
-pub use found::{Found, Line, found_of, found_unread};
+pub use found::{Found, Line, found_of};
 pub use games::{fuel_for, is_bare, machine_for, machine_of, variant_given};
 pub use names::{
     like_command, like_label, like_object, like_table, like_word, node_text, object_text,

@@ -1,6 +1,6 @@
 -- The bytes that are looked at together: which of them do not stand for themselves, and how many stand before the first of these.
 use Rattle.std.proofs.Common.{◌≡◌, ℕ, suc, zero, ◌+◌, ◌-◌, ◌<◌, ◌≤◌, ◌%◌, ◌^◌, List, [], ◌∷◌, length, map, take, drop, refl, ap, sym, subst, ◌∙◌, arith, Bool, true, false, cond}
-use Rattle.std.specs.Prelude.{◌==◌, ◌&&◌, ◌||◌, not, nat_lt, nat_le, slice_range, bit_or, replicate}
+use Rattle.std.specs.Prelude.{◌==◌, ◌&&◌, ◌||◌, not, nat_lt, slice_range, bit_or, replicate}
 use Rattle.std.specs.List.{list_all, prefix_len}
 use Rattle.std.specs.Simd.Lanes.{zip2, top, mask_l, chunk}
 use Rattle.std.specs.Int.Count.{count_trailing_zeros}

@@ -1,6 +1,6 @@
 -- Bytes that are looked at together: how many pass a test before the first that doesn't, by a mask of those that don't.
 use Rattle.std.proofs.Common.{◌≡◌, ℕ, suc, zero, ◌+◌, ◌-◌, ◌<◌, ◌≤◌, ◌%◌, ◌^◌, List, [], ◌∷◌, length, map, take, drop, refl, ap, sym, subst, ◌∙◌, arith, Bool, true, false, cond}
-use Rattle.std.specs.Prelude.{◌==◌, ◌&&◌, ◌||◌, not, nat_lt, nat_le, slice_range, bit_or, replicate}
+use Rattle.std.specs.Prelude.{◌&&◌, ◌||◌, not, nat_lt, slice_range, bit_or, replicate}
 use Rattle.std.specs.List.{list_all, prefix_len}
 use Rattle.std.specs.Simd.Lanes.{zip2, top, mask_l, chunk}
 use Rattle.std.specs.Int.Count.{count_trailing_zeros}
@@ -10,7 +10,7 @@ use Rattle.std.proofs.lemmas.Simd.{length-chunk, mask_l-mod, leading_from_mask_l
 use Rattle.std.proofs.lemmas.List.{length-map}
 use Rattle.json_text.specs.Lexing.{is_digit}
 use Rattle.json_text.specs.Blanks.{is_blank}
-use Rattle.json_text.proofs.Lanes.{lane, is_below, is_same}
+use Rattle.json_text.proofs.Lanes.{lane, is_below}
 
 -- one byte more in front
 front_at : (good : ℕ → Bool) (b : ℕ) (xs : List ℕ) (t : Bool) → good b ≡ t → list_all good (take (prefix_len (λ x. not (not (good x))) xs) xs) ≡ true

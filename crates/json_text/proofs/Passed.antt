@@ -1,14 +1,14 @@
 -- Values that are passed over, and what has been passed of a list or of an object.
-use Rattle.std.proofs.Common.{◌≡◌, ◌∙◌, ℕ, ◌+◌, ◌<◌, ◌≤◌, List, ◌∷◌, length, get_or, refl, ap, sym, arith, Bool, false}
+use Rattle.std.proofs.Common.{◌≡◌, ◌∙◌, ℕ, ◌+◌, ◌<◌, ◌≤◌, List, ◌∷◌, length, get_or, refl, ap, arith, Bool, false}
 use Rattle.std.specs.Prelude.{slice_range}
 use Rattle.json_text.specs.Text.{IsSpace}
-use Rattle.json_text.specs.Kept.{Kept, Wishes}
+use Rattle.json_text.specs.Kept.{Wishes}
 use Rattle.json_text.specs.Lending.{IsColon}
 use Rattle.json_text.specs.Machine.{State, Frame, Goes_to, StaysAtSpace, from, class, value, first_element, first_key, key, colon, after, finish, for_value, for_key, if_kept, wanted_value, scalar_value, skip_list, skip_object}
 use Rattle.json_text.specs.Cutting.{Listed, Named, IsScalarText, NumberStops}
 use Rattle.json_text.specs.Passing.{EndsString, EndsKey, IsPassed}
 use Rattle.json_text.specs.declared.class.Class.TheVariants.{Quote, Comma, OpenList, CloseList, OpenObject, CloseObject, Space}
-use Rattle.json_text.specs.declared.scan.Scalar.{Scalar}
+use Rattle.json_text.specs.declared.literals.Scalar.{Scalar}
 use Rattle.json_text.proofs.Steps.{from-class, from-first_element, from-first_key, from-list-opens, from-object-opens}
 use Rattle.json_text.proofs.Lexed.{from-quote}
 use Rattle.json_text.proofs.Reading.{class-34, class-44, class-91, class-93, class-123, class-125}

@@ -3,8 +3,8 @@
 use Rattle.std.specs.Prelude.{◌≡◌, ℕ, ◌+◌, ◌<◌, ◌≤◌, ◌==◌, ◌||◌, not, Bool, true, List, [], ◌∷◌, ◌++◌, length, flat_map, slice_index, slice_range, codes}
 use Rattle.std.specs.List.{list_all, AllByRecursion}
 use Rattle.json_text.specs.Text.{IsSpace}
-use Rattle.json_text.specs.declared.scan.Scalar.{Scalar}
-use Rattle.json_text.specs.declared.scan.Scalar.TheVariants as scalar
+use Rattle.json_text.specs.declared.literals.Scalar.{Scalar}
+use Rattle.json_text.specs.declared.literals.Scalar.TheVariants as scalar
 use Rattle.json_text.specs.declared.span.SpanTree.{SpanTree}
 use Rattle.json_text.specs.declared.span.SpanMember.{SpanMember}
 use Rattle.json_text.specs.declared.span.SpanText.{SpanText}

@@ -1,5 +1,5 @@
 -- What is found of a value that is passed over, where nothing is wrong with it. Only clauses of private functions cite it.
-use Rattle.std.specs.Prelude.{◌≡◌, ℕ, ◌+◌, ◌≤◌, Bool, true, false, List, slice_index, slice_range}
+use Rattle.std.specs.Prelude.{◌≡◌, ℕ, ◌+◌, ◌≤◌, true, false, List, slice_index, slice_range}
 use Rattle.json_text.specs.Kept.{skipped}
 use Rattle.json_text.specs.Lexing.{LexRuns, lex_end}
 use Rattle.json_text.specs.Machine.{Goes_to, class, value, finish}

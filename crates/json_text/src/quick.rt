@@ -1,5 +1,5 @@
 //! The ends of values that are passed over, by one number each: the place itself stands for a value that has a fault.
-ghost use Rattle.std.specs.Prelude.{◌≡◌, ℕ, ◌+◌, ◌<◌, ◌≤◌, length, slice_index};
+ghost use Rattle.std.specs.Prelude.{◌≡◌, ◌+◌, ◌<◌, ◌≤◌, length, slice_index};
 ghost use Rattle.std.specs.Prelude.{slice_range, true};
 ghost use Rattle.std.specs.List.{list_all};
 ghost use Rattle.json_text.specs.Lexing.{is_plain as plain_byte};
@@ -8,8 +8,10 @@ ghost use Rattle.json_text.specs.Passing.{EndsString, EndsKey, IsPassed};
 ghost use Rattle.json_text.specs.declared.class.Class.TheVariants.{Quote as quote_class, OpenList as list_class, OpenObject as object_class};
 
 use crate::class::{Class, class_of};
-use crate::scan::{colon_end, front_end, has_quote, scalar_end, skip_space, string_rest};
+use crate::literals::scalar_end;
+use crate::scan::{colon_end, skip_space};
 use crate::skip::MAX_OPEN;
+use crate::strings::{front_end, has_quote, string_rest};
 
 /// The place of the quote that ends a string, which begins at `start`, or the length. The bytes before `at` stand for
 /// themselves.

@@ -12,11 +12,11 @@ use Rattle.prototype_fields.specs.declared.names.Within.TheVariants as within
 use Rattle.prototype_fields.specs.Objects.{Object, as_text, field}
 use Rattle.prototype_fields.specs.Values.{Reading, ◌▸◌, Names, with_names, text, name, required_name, flag_or, number_or, amount_or, required_amount, required_positive, positive_or, whole_or, power, required_power, object_at, required_object, object_or_empty, required_list, names_in, categories}
 use Rattle.machine_reader.specs.declared.energy.Source.{Source}
-use Rattle.machine_reader.specs.declared.machines.CrafterRules.{CrafterRules}
-use Rattle.machine_reader.specs.declared.machines.DrillRules.{DrillRules}
-use Rattle.machine_reader.specs.declared.machines.Generation.{Generation}
+use Rattle.machine_reader.specs.declared.crafters.CrafterRules.{CrafterRules}
+use Rattle.machine_reader.specs.declared.crafters.DrillRules.{DrillRules}
+use Rattle.machine_reader.specs.declared.power.Generation.{Generation}
 use Rattle.machine_reader.specs.declared.machines.LabWork.{LabWork}
-use Rattle.machine_reader.specs.declared.machines.ModuleRules.{ModuleRules}
+use Rattle.machine_reader.specs.declared.module_rules.ModuleRules.{ModuleRules}
 use Rattle.machine_reader.specs.declared.machines.Work.{Work}
 use Rattle.machine_reader.specs.declared.raw.RawEnergy.{RawEnergy}
 use Rattle.machine_reader.specs.declared.raw.RawEnergy.TheVariants.{Electric, Void}

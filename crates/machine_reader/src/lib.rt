@@ -2,9 +2,12 @@
 //! place of ids.
 #![tactic(auto)]
 
+mod crafters;
 mod energy;
 mod machines;
+mod module_rules;
 mod names;
+mod power;
 mod raw;
 mod sections;
 

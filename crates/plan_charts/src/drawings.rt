@@ -1,9 +1,9 @@
 //! A chart as a drawing.
 use crate::amounts::amount_texts;
 use crate::cards::{Card, CardKind, Chart};
-use crate::dot::push_amount;
+use crate::strokes::{push_lines, push_plain};
 use crate::widths::within;
-use page_layout::{Board, End, Joint, Lane, channel_of, number_at, placed};
+use page_layout::{Board, End, number_at, placed};
 use page_parts::{Done, Flow};
 use page_rows::{Piece, put};
 use plan_base::{Kind, NoMemory};
@@ -11,7 +11,7 @@ use plan_report::kind_word;
 use std::alloc::Global;
 
 // Sizes, in points of the drawing.
-const CARD: u32 = 236;
+pub const CARD: u32 = 236;
 
 const CHANNEL: u32 = 84;
 
@@ -19,14 +19,14 @@ const HEAD: u32 = 40;
 
 const LINE: u32 = 17;
 
-const EDGE: u32 = 14;
+pub const EDGE: u32 = 14;
 
 const PICTURE: u32 = 18;
 
 const INSIDE: u32 = CARD - 20;
 
 // A point of the drawing.
-type Point = (u32, u32);
+pub type Point = (u32, u32);
 
 fn head_of(card: &Card) -> u32 {
     if card.about.as_str().is_empty() {
@@ -42,7 +42,7 @@ fn height_of(card: &Card) -> u32 {
 }
 
 // How far below the top of a card the middle of a line of it is.
-fn line_middle(card: &Card, line: usize) -> u32 {
+pub fn line_middle(card: &Card, line: usize) -> u32 {
     let line = line.min(2_000) as u32;
     head_of(card)
         .saturating_add(line.saturating_mul(LINE))
@@ -78,31 +78,31 @@ fn heights_of(alloc: Global, cards: &[Card]) -> Result<Vec<u32>, NoMemory> {
 }
 
 // The left side of a column, and the middle of a channel.
-fn left_of(column: u32) -> u32 {
+pub fn left_of(column: u32) -> u32 {
     column
         .saturating_mul(CARD + CHANNEL)
         .saturating_add(CHANNEL / 2 + EDGE)
 }
 
-fn middle_of(channel: u32) -> u32 {
+pub fn middle_of(channel: u32) -> u32 {
     left_of(channel).saturating_sub(CHANNEL / 2)
 }
 
-fn joint_point(board: &Board, good: usize, channel: u32) -> Point {
+pub fn joint_point(board: &Board, good: usize, channel: u32) -> Point {
     (
         middle_of(channel),
         board.joint_middle(good, channel).saturating_add(EDGE),
     )
 }
 
-fn kind_of(chart: &Chart, good: usize) -> Kind {
+pub fn kind_of(chart: &Chart, good: usize) -> Kind {
     match chart.goods.as_slice().get(good) {
         Some(good) => good.thing.kind,
         None => Kind::Tech,
     }
 }
 
-fn name_of<'a>(chart: &'a Chart, good: usize) -> &'a str {
+pub fn name_of<'a>(chart: &'a Chart, good: usize) -> &'a str {
     match chart.goods.as_slice().get(good) {
         Some(good) => good.name.as_str(),
         None => "",
@@ -123,177 +123,6 @@ fn card_word(kind: CardKind) -> &'static str {
         CardKind::Surplus => "surplus",
         CardKind::Want => "want",
     }
-}
-
-fn push_plain(alloc: Global, out: &mut String, text: &str) -> Done {
-    put(alloc, out, &[Piece::Text(text)])
-}
-
-// A point, behind a letter that says how it is reached.
-fn push_point(alloc: Global, out: &mut String, letter: &str, point: Point) -> Done {
-    put(
-        alloc,
-        out,
-        &[
-            Piece::Text(letter),
-            Piece::Count(point.0 as u64),
-            Piece::Text(" "),
-            Piece::Count(point.1 as u64),
-        ],
-    )
-}
-
-// A curve from a point to another on its right, level at both.
-fn push_curve(alloc: Global, out: &mut String, from: Point, to: Point) -> Done {
-    let bend = to.0.saturating_sub(from.0) / 2;
-    push_point(alloc, out, "C", (from.0.saturating_add(bend), from.1))?;
-    push_point(alloc, out, " ", (to.0.saturating_sub(bend), to.1))?;
-    push_point(alloc, out, " ", to)
-}
-
-// ---- the lines of a good
-
-// The end of a line at a card, and at its joint, from left to right.
-fn end_points(board: &Board, card: usize, below: u32, flow: &Flow) -> (Point, Point) {
-    let column = number_at(board.columns.as_slice(), card);
-    let joint = joint_point(board, flow.good as usize, channel_of(column, flow.gives));
-    let top = number_at(board.tops.as_slice(), card).saturating_add(EDGE);
-    let left = left_of(column);
-    let middle = top.saturating_add(below);
-    if flow.gives {
-        ((left.saturating_add(CARD), middle), joint)
-    } else {
-        (joint, (left, middle))
-    }
-}
-
-fn push_end(
-    alloc: Global,
-    out: &mut String,
-    chart: &Chart,
-    board: &Board,
-    card: usize,
-    below: u32,
-    flow: &Flow,
-) -> Done {
-    let (from, to) = end_points(board, card, below, flow);
-    push_plain(alloc, out, "<path d=\"")?;
-    push_point(alloc, out, "M", from)?;
-    push_curve(alloc, out, from, to)?;
-    put(
-        alloc,
-        out,
-        &[
-            Piece::Text("\"><title>"),
-            Piece::Name(name_of(chart, flow.good as usize)),
-            Piece::Text(": "),
-        ],
-    )?;
-    push_amount(alloc, out, &flow.amount)?;
-    push_plain(alloc, out, " per second</title></path>\n")
-}
-
-fn push_card_ends(
-    alloc: Global,
-    out: &mut String,
-    chart: &Chart,
-    board: &Board,
-    good: usize,
-    place: usize,
-    card: &Card,
-) -> Done {
-    for (line, flow) in card.flows.as_slice().iter().enumerate() {
-        if flow.good as usize == good {
-            let below = line_middle(card, line);
-            push_end(alloc, out, chart, board, place, below, flow)?;
-        }
-    }
-    Ok(())
-}
-
-fn push_ends(alloc: Global, out: &mut String, chart: &Chart, board: &Board, good: usize) -> Done {
-    for (place, card) in chart.cards.as_slice().iter().enumerate() {
-        push_card_ends(alloc, out, chart, board, good, place, card)?;
-    }
-    Ok(())
-}
-
-// A lane with the curves to the joints on both of its sides.
-fn push_lane(alloc: Global, out: &mut String, board: &Board, lane: &Lane) -> Done {
-    let left = left_of(lane.column);
-    let middle = lane.middle.saturating_add(EDGE);
-    let from = joint_point(board, lane.good, lane.column);
-    let to = joint_point(board, lane.good, lane.column.saturating_add(1));
-    push_plain(alloc, out, "<path d=\"")?;
-    push_point(alloc, out, "M", from)?;
-    push_curve(alloc, out, from, (left, middle))?;
-    push_point(alloc, out, "L", (left.saturating_add(CARD), middle))?;
-    push_curve(alloc, out, (left.saturating_add(CARD), middle), to)?;
-    push_plain(alloc, out, "\"/>\n")
-}
-
-fn push_lanes(alloc: Global, out: &mut String, board: &Board, good: usize) -> Done {
-    for lane in board.lanes.as_slice() {
-        if lane.good == good {
-            push_lane(alloc, out, board, lane)?;
-        }
-    }
-    Ok(())
-}
-
-fn push_joint(alloc: Global, out: &mut String, joint: &Joint) -> Done {
-    put(
-        alloc,
-        out,
-        &[
-            Piece::Text("<circle cx=\""),
-            Piece::Count(middle_of(joint.channel) as u64),
-            Piece::Text("\" cy=\""),
-            Piece::Count(joint.middle.saturating_add(EDGE) as u64),
-            Piece::Text("\" r=\"2.5\"/>\n"),
-        ],
-    )
-}
-
-// A point where more than two lines come together.
-fn push_joints(alloc: Global, out: &mut String, board: &Board, good: usize) -> Done {
-    for joint in board.joints.as_slice() {
-        if joint.good == good && joint.lines > 2 {
-            push_joint(alloc, out, joint)?;
-        }
-    }
-    Ok(())
-}
-
-fn push_good_lines(
-    alloc: Global,
-    out: &mut String,
-    chart: &Chart,
-    board: &Board,
-    good: usize,
-) -> Done {
-    put(
-        alloc,
-        out,
-        &[
-            Piece::Text("<g class=\"line "),
-            Piece::Text(kind_word(kind_of(chart, good))),
-            Piece::Text("\"><title>"),
-            Piece::Name(name_of(chart, good)),
-            Piece::Text("</title>\n"),
-        ],
-    )?;
-    push_ends(alloc, out, chart, board, good)?;
-    push_lanes(alloc, out, board, good)?;
-    push_joints(alloc, out, board, good)?;
-    push_plain(alloc, out, "</g>\n")
-}
-
-fn push_lines(alloc: Global, out: &mut String, chart: &Chart, board: &Board) -> Done {
-    for good in 0..chart.goods.len() {
-        push_good_lines(alloc, out, chart, board, good)?;
-    }
-    Ok(())
 }
 
 // ---- cards

@@ -9,6 +9,7 @@ mod cards;
 mod dot;
 mod drawings;
 mod edge_laws;
+mod strokes;
 mod widths;
 
 pub use cards::{Card, CardKind, Chart, ChartGood, Shown, chart_of};

@@ -1,8 +1,10 @@
 //! The fields of a prototype: how each kind of value is read of a tree of JSON, and which faults it may have.
 #![tactic(auto)]
 
+mod amounts;
 mod fault;
 mod fields;
+mod inner;
 mod lists;
 mod names;
 mod numbers;

@@ -14,6 +14,7 @@ mod questions;
 mod rates;
 mod refusals;
 mod replies;
+mod trails;
 mod values;
 
 pub use laws::a_reader_gets_the_reply_back;

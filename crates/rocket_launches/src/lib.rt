@@ -3,6 +3,7 @@
 
 mod adding;
 mod clashes;
+mod flight_names;
 mod launches;
 mod middles;
 mod silos;

@@ -3,6 +3,8 @@
 #![tactic(auto)]
 
 mod choosing;
+mod doing;
+mod fuels;
 mod laws;
 mod ranks;
 mod reach;

@@ -1,4 +1,4 @@
-use Rattle.std.proofs.Common.{◌≡◌, ◌∙◌, ◌+◌, ◌<◌, sym, arith, length}
+use Rattle.std.proofs.Common.{◌∙◌, ◌<◌, sym, arith, length}
 use Rattle.json_text.proofs.Passed.{list_first, list_none, list_more, list_close, object_first, object_none, Member, object_more, object_close}
 use Rattle.json_text.proofs.quick.+quick.Goals as goal
 

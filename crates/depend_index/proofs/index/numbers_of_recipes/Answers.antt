@@ -1,8 +1,0 @@
-use Rattle.std.proofs.Common.{◌∙◌, [], ap, arith}
-use Rattle.node_lists.specs.Lists.{is_among}
-use Rattle.depend_index.proofs.KeyLemmas.{is_among-map}
-use Rattle.node_lists.proofs.Walks.{appended_all}
-use Rattle.depend_index.proofs.index.numbers_of_recipes.Goals as goal
-
-pub returns : goal.returns
-returns c = λ k. ap (λ l. is_among l k) (appended_all (λ r. r.0) [] c.args.recipes.now c.loop-recipe.recipe-index c.loop-recipe.numbers.items (omega (arith, c.loop-recipe-test.false)) c.loop-recipe.invariant) ∙ is_among-map (λ r. r.0) c.args.recipes.now k

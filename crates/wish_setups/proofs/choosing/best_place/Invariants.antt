@@ -1,6 +1,0 @@
-use Rattle.std.proofs.Common.{◌≡◌}
-use Rattle.wish_setups.specs.Choice.{best_below, rank_at}
-use Rattle.wish_setups.proofs.choosing.best_place.Given as goal
-
-abbrev pub invariant-loop-place : goal.invariant-loop-place
-invariant-loop-place l = l.best ≡ best_below (rank_at l.game l.wish l.mined l.energy l.fuels) l.place
