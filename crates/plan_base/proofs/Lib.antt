@@ -1,3 +1,4 @@
 pub mod Bools
+pub mod Outcomes
 pub mod Places
 pub mod Walks

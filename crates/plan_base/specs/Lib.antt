@@ -1,4 +1,5 @@
 pub mod Binds
+pub mod Outcomes
 pub mod Shape
 pub mod formers
 pub mod Places
