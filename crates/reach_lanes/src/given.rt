@@ -9,6 +9,7 @@ ghost use Rattle.reach_lanes.specs.Lanes.{lane, world_of, worlds};
 use crate::lanes::{Lanes, take_earlier_member, take_later, take_later_member};
 use graph_store::{Group, Row, Rows};
 use plan_base::{NodeId, Steps};
+use reach_ranks::is_node;
 
 /// One more than the rank of the last of the members, in each lane.
 fn all_lanes(ranks: &[Lanes], members: &[NodeId]) -> Lanes
@@ -56,16 +57,6 @@ fn row_lanes(ranks: &[Lanes], row: &Row) -> Lanes
         take_later(&mut lanes, &group_lanes(ranks, group));
     }
     lanes
-}
-
-/// Whether this is the node.
-fn is_node(extra: Option<NodeId>, node: NodeId) -> bool
-    ensures { result ≡ is_node extra node.0 }
-{
-    match extra {
-        Some(other) => other.0 == node.0,
-        None => false,
-    }
 }
 
 /// No rank in each lane in which the node is barred as well.

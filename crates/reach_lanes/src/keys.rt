@@ -1,11 +1,9 @@
 //! The key of a node for all lanes, and the ranks that it gets.
-ghost use Rattle.std.specs.Prelude.{◌≡◌, ℕ, ◌-◌, ◌^◌, ◌<◌, ◌≤◌, Option, None, Some, false, slice_index, slice_index_or, slice_set, length};
-ghost use Rattle.reach_ranks.specs.Given.{is_same_key};
+ghost use Rattle.std.specs.Prelude.{◌≡◌, ℕ, ◌-◌, ◌^◌, ◌<◌, ◌≤◌, false, slice_index, slice_index_or};
 ghost use Rattle.reach_lanes.specs.Keys.{as_key, lane_key, least_below, next_in_lane};
 
-use crate::lanes::{Lanes, earlier};
-use index_heap::Heap;
-use plan_base::NodeId;
+use crate::lanes::Lanes;
+use reach_ranks::earlier;
 
 /// The key of a node in one lane, and 0 where it has none.
 fn lane_key(live: bool, kept: u32, by_row: u32) -> u32
@@ -59,22 +57,4 @@ pub fn as_key(key: u32) -> Option<u32>
     ensures { result ≡ as_key key }
 {
     if key == 0 { None } else { Some(key) }
-}
-
-/// Whether this is the key.
-pub fn is_key(right: u32, key: u32) -> bool
-    ensures { result ≡ is_same_key (as_key right) (Some key) }
-{
-    right != 0 && right == key
-}
-
-/// Gives the node this key, or takes its key away.
-pub fn put(heap: &mut Heap, node: NodeId, key: Option<u32>)
-    requires { node.0 < length heap.old }
-    ensures { heap.new ≡ slice_set heap.old node.0 key }
-{
-    match key {
-        Some(k) => heap.set(node, k),
-        None => heap.drop_key(node),
-    }
 }

@@ -1,48 +1,16 @@
 //! The ranks of one node in sixteen worlds, and what is done to all of them at once.
 ghost use Rattle.std.specs.Prelude.{◌≡◌, ℕ, ◌+◌, ◌-◌, ◌^◌, ◌<◌, ◌&&◌, ◌||◌, length, slice_index};
 ghost use Rattle.reach_ranks.specs.Ranks.{is_one_to, within};
-ghost use Rattle.reach_ranks.specs.Given.{lesser};
 ghost use Rattle.reach_lanes.specs.Lanes.{lane};
 
 use plan_base::NodeId;
+use reach_ranks::{earlier, later, next_rank};
 
 /// How many worlds stand side by side.
 pub const LANES: usize = 16;
 
 /// The rank of one node in each of sixteen worlds, which stand in one line of a processor's memory.
 pub type Lanes = [u32; 16];
-
-/// One more than the rank, and none where there is none or it doesn't fit.
-fn next_rank(rank: u32) -> u32
-    ensures { (k : ℕ) → k < 2 ^ 32 - 1 → is_one_to (k + 1) result ≡ is_one_to k rank }
-{
-    if rank == 0 || rank == u32::MAX {
-        0
-    } else {
-        rank + 1
-    }
-}
-
-/// The later of two ranks, where none is after all others.
-fn later(a: u32, b: u32) -> u32
-    ensures { (k : ℕ) → is_one_to k result ≡ (is_one_to k a && is_one_to k b) }
-{
-    if a == 0 || b == 0 { 0 } else { a.max(b) }
-}
-
-/// The earlier of two ranks, where none is after all others.
-pub fn earlier(a: u32, b: u32) -> u32
-    ensures value { result ≡ lesser a b }
-    ensures tests { (k : ℕ) → is_one_to k result ≡ (is_one_to k a || is_one_to k b) }
-{
-    if a == 0 {
-        b
-    } else if b == 0 {
-        a
-    } else {
-        a.min(b)
-    }
-}
 
 /// The earlier of a rank and one more than another.
 fn earlier_next(a: u32, b: u32) -> u32

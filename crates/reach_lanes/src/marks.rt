@@ -6,10 +6,10 @@ ghost use Rattle.reach_ranks.specs.Given.{is_by, key_after};
 ghost use Rattle.reach_lanes.specs.Lanes.{lane};
 ghost use Rattle.reach_lanes.specs.Keys.{key_when_some_come, sooner, MarksLanes};
 
-use crate::keys::put;
-use crate::lanes::{Lanes, earlier};
+use crate::lanes::Lanes;
 use index_heap::Heap;
 use plan_base::NodeId;
+use reach_ranks::{earlier, floor_of, put};
 
 /// Whether the rank is another and is the key.
 fn comes(was: u32, is: u32, key: u32) -> bool
@@ -112,14 +112,6 @@ fn user_key(
     let next = by.saturating_add(1).max(low);
     let late = is_any_late(was, is, by, next, ranks);
     sooner(key_when_some_come(key, next, late), lost)
-}
-
-/// The rank below which a node's can't be.
-fn floor_of(floor: &[u32], node: NodeId) -> u32
-    ensures { result ≡ slice_index_or floor.now node.0 1 }
-{
-    let place = node.0 as usize;
-    if place < floor.len() { floor[place] } else { 1 }
 }
 
 /// Gives a user its key after a node got other ranks under the key `by`.

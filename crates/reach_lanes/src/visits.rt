@@ -7,12 +7,13 @@ ghost use Rattle.reach_lanes.specs.Lanes.{is_live, lane, worlds, AreLaneRanks, A
 ghost use Rattle.reach_lanes.specs.Keys.{lane_work, left_in_lanes, right_key, HoldsLanes, RefreshesLanes};
 
 use crate::given::given_lanes;
-use crate::keys::{as_key, is_key, least_key, next_lanes, put};
+use crate::keys::{as_key, least_key, next_lanes};
 use crate::lanes::Lanes;
 use crate::marks::mark_all;
 use graph_store::Rows;
 use index_heap::Heap;
 use plan_base::{NodeId, Steps};
+use reach_ranks::{is_key, put};
 
 /// Gives the node the key that these ranks give it, or takes its key away.
 fn refresh<R: Rows<L>, L>(
@@ -102,9 +103,9 @@ fn visit_least<R: Rows<L>, L>(
         Some((node, key)) => {
             let by_row = given_lanes(ranks, rows, barred, granted, extras, node, steps);
             let kept = ranks[node.0 as usize];
-            let right = least_key(live, &kept, &by_row);
+            let right = as_key(least_key(live, &kept, &by_row));
             if !is_key(right, key) {
-                put(heap, node, as_key(right));
+                put(heap, node, right);
                 return true;
             }
             let next = next_lanes(live, &kept, &by_row, key);

@@ -1,45 +1,14 @@
 //! The rank that a node's row gives it.
-ghost use Rattle.std.specs.Prelude.{◌≡◌, ℕ, ◌+◌, ◌-◌, ◌^◌, ◌<◌, ◌≤◌, ◌&&◌, ◌||◌, Some, All, length};
+ghost use Rattle.std.specs.Prelude.{◌≡◌, ℕ, ◌+◌, ◌-◌, ◌^◌, ◌<◌, ◌≤◌, Some, All, length};
 ghost use Rattle.std.specs.List.{list_all, list_any};
 ghost use Rattle.reach_ranks.specs.Rounds.{is_satisfied, has_groups, world, IsWhole};
 ghost use Rattle.reach_ranks.specs.Ranks.{is_one_to, within};
-ghost use Rattle.reach_ranks.specs.Given.{given, lesser};
+ghost use Rattle.reach_ranks.specs.Given.{given};
 
+use crate::order::{earlier, later, next_rank};
 use crate::ranks::is_barred;
 use graph_store::{Group, Row, Rows};
 use plan_base::{NodeId, Steps};
-
-/// One more than the rank, and none where there is none or it doesn't fit.
-fn next_rank(rank: u32) -> u32
-    ensures { (k : ℕ) → k < 2 ^ 32 - 1 → is_one_to (k + 1) result ≡ is_one_to k rank }
-{
-    if rank == 0 || rank == u32::MAX {
-        0
-    } else {
-        rank + 1
-    }
-}
-
-/// The later of two ranks, where none is after all others.
-fn later(a: u32, b: u32) -> u32
-    ensures { (k : ℕ) → is_one_to k result ≡ (is_one_to k a && is_one_to k b) }
-{
-    if a == 0 || b == 0 { 0 } else { a.max(b) }
-}
-
-/// The earlier of two ranks, where none is after all others.
-pub fn earlier(a: u32, b: u32) -> u32
-    ensures value { result ≡ lesser a b }
-    ensures tests { (k : ℕ) → is_one_to k result ≡ (is_one_to k a || is_one_to k b) }
-{
-    if a == 0 {
-        b
-    } else if b == 0 {
-        a
-    } else {
-        a.min(b)
-    }
-}
 
 /// One more than the rank of the last of the members. Where a member has none the others aren't looked at.
 fn all_rank(ranks: &[u32], members: &[NodeId]) -> u32

@@ -11,14 +11,20 @@ pub struct Ranks {
     pub of: Vec<u32>,
 }
 
+/// Whether this is the node.
+pub fn is_node(extra: Option<NodeId>, node: NodeId) -> bool
+    ensures { result ≡ is_node extra node.0 }
+{
+    match extra {
+        Some(other) => other.0 == node.0,
+        None => false,
+    }
+}
+
 /// Whether the node is barred, by its mark or as the extra one.
 pub fn is_barred(barred: &[bool], extra: Option<NodeId>, node: NodeId) -> bool
     requires { node.0 < length barred.now }
     ensures { result ≡ (slice_index_or barred.now node.0 false || is_node extra node.0) }
 {
-    let is_extra = match extra {
-        Some(other) => other.0 == node.0,
-        None => false,
-    };
-    barred[node.0 as usize] | is_extra
+    barred[node.0 as usize] | is_node(extra, node)
 }

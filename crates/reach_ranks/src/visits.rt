@@ -3,10 +3,11 @@ ghost use Rattle.std.specs.Prelude.{◌≡◌, ℕ, ◌+◌, ◌*◌, ◌-◌, �
 ghost use Rattle.index_heap.specs.Keys.{key_at};
 ghost use Rattle.reach_ranks.specs.Rounds.{world, IsWhole};
 ghost use Rattle.reach_ranks.specs.Ranks.{AreRanks};
-ghost use Rattle.reach_ranks.specs.Given.{given, key_after, key_of, is_same_key, left_to_do, next_kept, work_left, HoldsBounds, HoldsKeys, Marks, Refreshes};
+ghost use Rattle.reach_ranks.specs.Given.{given, key_after, key_of, left_to_do, work_left, HoldsBounds, HoldsKeys, Marks, Refreshes};
 ghost use Rattle.reach_ranks.specs.Floors.{AreAbove, IsFloor};
 
-use crate::given::{earlier, given_rank};
+use crate::given::given_rank;
+use crate::keys::{floor_of, is_key, next_kept, put, right_key};
 use graph_store::Rows;
 use index_heap::Heap;
 use plan_base::{NodeId, Steps};
@@ -32,12 +33,7 @@ pub fn refresh<R: Rows<L>, L>(
     ensures later { steps.old ≤ steps.new }
 {
     let by_row = given_rank(ranks, rows, barred, granted, extra, node, steps);
-    let kept = ranks[node.0 as usize];
-    if kept == by_row {
-        heap.drop_key(node);
-    } else {
-        heap.set(node, earlier(kept, by_row));
-    }
+    put(heap, node, right_key(ranks[node.0 as usize], by_row));
 }
 
 /// The same for each of the nodes.
@@ -63,53 +59,6 @@ pub fn refresh_all<R: Rows<L>, L>(
     for node in nodes {
         refresh(ranks, rows, barred, granted, extra, heap, *node, steps);
     }
-}
-
-/// The key where the kept rank is another, and else none.
-fn next_kept(kept: u32, key: u32) -> u32
-    ensures { result ≡ next_kept kept key }
-{
-    if kept == key { 0 } else { key }
-}
-
-/// The key of a node by its kept and its given rank.
-fn right_key(kept: u32, by_row: u32) -> Option<u32>
-    ensures { result ≡ key_of kept by_row }
-{
-    if kept == by_row {
-        None
-    } else {
-        Some(earlier(kept, by_row))
-    }
-}
-
-/// Whether this is the key.
-fn is_key(right: Option<u32>, key: u32) -> bool
-    ensures { result ≡ is_same_key right (Some key) }
-{
-    match right {
-        Some(k) => k == key,
-        None => false,
-    }
-}
-
-/// Gives the node this key, or takes its key away.
-fn put(heap: &mut Heap, node: NodeId, key: Option<u32>)
-    requires { node.0 < length heap.old }
-    ensures { heap.new ≡ slice_set heap.old node.0 key }
-{
-    match key {
-        Some(k) => heap.set(node, k),
-        None => heap.drop_key(node),
-    }
-}
-
-/// The rank below which a node's can't be.
-fn floor_of(floor: &[u32], node: NodeId) -> u32
-    ensures { result ≡ slice_index_or floor.now node.0 1 }
-{
-    let place = node.0 as usize;
-    if place < floor.len() { floor[place] } else { 1 }
 }
 
 /// The key of a user that has this key, rank and floor, after a node got its rank `k` or lost it.

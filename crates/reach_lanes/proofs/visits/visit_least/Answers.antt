@@ -1,6 +1,7 @@
 -- A visit keeps each key early enough, and takes no more steps than it leaves fewer to do.
-use Rattle.std.proofs.Common.{ℕ, Option, sym, ◌∙◌, ap, length, length-set, None, arith}
+use Rattle.std.proofs.Common.{ℕ, Option, sym, ◌∙◌, ap, length, length-set, None, Some, arith}
 use Rattle.std.specs.Prelude.{slice_set}
+use Rattle.reach_ranks.specs.Given.{is_same_key}
 use Rattle.reach_lanes.specs.Lanes.{worlds}
 use Rattle.reach_lanes.proofs.LaneLemmas.{lane-at}
 use Rattle.reach_lanes.proofs.VisitLemmas.{put-right, visited}
@@ -19,16 +20,16 @@ returns-then-not-is_key-clause-keys g c =
     c.args.live.now
     _
     c.given_lanes-by_row.result
-    c.least_key-right.result
+    c.least_key.result
     c.requires.live
     c.requires.keys
     c.in-Some.ensures.least
     (λ l lt. sym (lane-at c.args.ranks.now c.in-Some.node.0 l _ (omega (arith, c.in-Some.ensures.least.inside, c.requires.keys.heap_long, c.requires.keys.ranks_long))))
     c.given_lanes-by_row.ensures.given
-    c.least_key-right.ensures
-    (sym c.is_key.ensures ∙ c.if-not-is_key.true)
+    c.least_key.ensures
+    (ap (λ (right : Option ℕ). is_same_key right (Some c.in-Some.key)) (sym c.as_key-right.ensures) ∙ (sym c.is_key.ensures ∙ c.if-not-is_key.true))
     c.in-Some.ensures.some
-    (c.put.ensures ∙ ap (λ (key : Option ℕ). slice_set c.take_least.new.self c.in-Some.node.0 key) c.as_key.ensures)).keys
+    (c.put.ensures ∙ ap (λ (key : Option ℕ). slice_set c.take_least.new.self c.in-Some.node.0 key) c.as_key-right.ensures)).keys
 
 pub returns-then-not-is_key-clause-steps : goal.returns-then-not-is_key-clause-steps
 returns-then-not-is_key-clause-steps g c =
@@ -46,16 +47,16 @@ returns-then-not-is_key-clause-steps g c =
           c.args.live.now
           _
           c.given_lanes-by_row.result
-          c.least_key-right.result
+          c.least_key.result
           c.requires.live
           c.requires.keys
           c.in-Some.ensures.least
           (λ l lt. sym (lane-at c.args.ranks.now c.in-Some.node.0 l _ (omega (arith, c.in-Some.ensures.least.inside, c.requires.keys.heap_long, c.requires.keys.ranks_long))))
           c.given_lanes-by_row.ensures.given
-          c.least_key-right.ensures
-          (sym c.is_key.ensures ∙ c.if-not-is_key.true)
+          c.least_key.ensures
+          (ap (λ (right : Option ℕ). is_same_key right (Some c.in-Some.key)) (sym c.as_key-right.ensures) ∙ (sym c.is_key.ensures ∙ c.if-not-is_key.true))
           c.in-Some.ensures.some
-          (c.put.ensures ∙ ap (λ (key : Option ℕ). slice_set c.take_least.new.self c.in-Some.node.0 key) c.as_key.ensures)).fewer,
+          (c.put.ensures ∙ ap (λ (key : Option ℕ). slice_set c.take_least.new.self c.in-Some.node.0 key) c.as_key-right.ensures)).fewer,
     )
 
 pub returns-then-not-is_key-clause-nearer : goal.returns-then-not-is_key-clause-nearer
@@ -73,16 +74,16 @@ returns-then-not-is_key-clause-nearer g c = λ _.
           c.args.live.now
           _
           c.given_lanes-by_row.result
-          c.least_key-right.result
+          c.least_key.result
           c.requires.live
           c.requires.keys
           c.in-Some.ensures.least
           (λ l lt. sym (lane-at c.args.ranks.now c.in-Some.node.0 l _ (omega (arith, c.in-Some.ensures.least.inside, c.requires.keys.heap_long, c.requires.keys.ranks_long))))
           c.given_lanes-by_row.ensures.given
-          c.least_key-right.ensures
-          (sym c.is_key.ensures ∙ c.if-not-is_key.true)
+          c.least_key.ensures
+          (ap (λ (right : Option ℕ). is_same_key right (Some c.in-Some.key)) (sym c.as_key-right.ensures) ∙ (sym c.is_key.ensures ∙ c.if-not-is_key.true))
           c.in-Some.ensures.some
-          (c.put.ensures ∙ ap (λ (key : Option ℕ). slice_set c.take_least.new.self c.in-Some.node.0 key) c.as_key.ensures)).fewer,
+          (c.put.ensures ∙ ap (λ (key : Option ℕ). slice_set c.take_least.new.self c.in-Some.node.0 key) c.as_key-right.ensures)).fewer,
     )
 
 pub mark_all-requires-clause-users : goal.mark_all-requires-clause-users
@@ -92,7 +93,7 @@ mark_all-requires-clause-users g c = λ i d lt.
       c.users-users.ensures.users.below i d lt,
       c.requires.keys.heap_long,
       ap length c.put-in-Some.ensures,
-      length-set c.take_least.new.self c.in-Some.node.0 c.as_key-in-Some.result,
+      length-set c.take_least.new.self c.in-Some.node.0 c.as_key.result,
       ap length c.in-Some.ensures.some,
       length-set c.args.heap.now c.in-Some.node.0 None,
     )
@@ -114,7 +115,7 @@ returns-else-not-is_key-clause-keys g c =
     _
     c.given_lanes-by_row.result
     c.next_lanes-next.result
-    c.least_key-right.result
+    c.least_key.result
     c.least_key-least.result
     (record { barred = c.requires.marks.barred; granted = c.requires.marks.granted })
     c.requires.live
@@ -124,13 +125,13 @@ returns-else-not-is_key-clause-keys g c =
     c.in-Some.ensures.least
     (λ l lt. sym (lane-at c.args.ranks.now c.in-Some.node.0 l _ (omega (arith, c.in-Some.ensures.least.inside, c.requires.keys.heap_long, c.requires.keys.ranks_long))))
     c.given_lanes-by_row.ensures.given
-    c.least_key-right.ensures
-    (sym c.is_key.ensures ∙ c.if-not-is_key.false)
+    c.least_key.ensures
+    (ap (λ (right : Option ℕ). is_same_key right (Some c.in-Some.key)) (sym c.as_key-right.ensures) ∙ (sym c.is_key.ensures ∙ c.if-not-is_key.false))
     c.next_lanes-next.ensures.next
     c.next_lanes-next.ensures.small
     c.least_key-least.ensures
     c.in-Some.ensures.some
-    (c.put-in-Some.ensures ∙ ap (λ (key : Option ℕ). slice_set c.take_least.new.self c.in-Some.node.0 key) c.as_key-in-Some.ensures)
+    (c.put-in-Some.ensures ∙ ap (λ (key : Option ℕ). slice_set c.take_least.new.self c.in-Some.node.0 key) c.as_key.ensures)
     c.users-users.ensures.users
     c.mark_all.ensures.marks).keys
 
@@ -151,7 +152,7 @@ returns-else-not-is_key-clause-above g c =
     _
     c.given_lanes-by_row.result
     c.next_lanes-next.result
-    c.least_key-right.result
+    c.least_key.result
     c.least_key-least.result
     (record { barred = c.requires.marks.barred; granted = c.requires.marks.granted })
     c.requires.live
@@ -161,13 +162,13 @@ returns-else-not-is_key-clause-above g c =
     c.in-Some.ensures.least
     (λ l lt. sym (lane-at c.args.ranks.now c.in-Some.node.0 l _ (omega (arith, c.in-Some.ensures.least.inside, c.requires.keys.heap_long, c.requires.keys.ranks_long))))
     c.given_lanes-by_row.ensures.given
-    c.least_key-right.ensures
-    (sym c.is_key.ensures ∙ c.if-not-is_key.false)
+    c.least_key.ensures
+    (ap (λ (right : Option ℕ). is_same_key right (Some c.in-Some.key)) (sym c.as_key-right.ensures) ∙ (sym c.is_key.ensures ∙ c.if-not-is_key.false))
     c.next_lanes-next.ensures.next
     c.next_lanes-next.ensures.small
     c.least_key-least.ensures
     c.in-Some.ensures.some
-    (c.put-in-Some.ensures ∙ ap (λ (key : Option ℕ). slice_set c.take_least.new.self c.in-Some.node.0 key) c.as_key-in-Some.ensures)
+    (c.put-in-Some.ensures ∙ ap (λ (key : Option ℕ). slice_set c.take_least.new.self c.in-Some.node.0 key) c.as_key.ensures)
     c.users-users.ensures.users
     c.mark_all.ensures.marks).above
 
@@ -192,7 +193,7 @@ returns-else-not-is_key-clause-steps g c =
           _
           c.given_lanes-by_row.result
           c.next_lanes-next.result
-          c.least_key-right.result
+          c.least_key.result
           c.least_key-least.result
           (record { barred = c.requires.marks.barred; granted = c.requires.marks.granted })
           c.requires.live
@@ -202,13 +203,13 @@ returns-else-not-is_key-clause-steps g c =
           c.in-Some.ensures.least
           (λ l lt. sym (lane-at c.args.ranks.now c.in-Some.node.0 l _ (omega (arith, c.in-Some.ensures.least.inside, c.requires.keys.heap_long, c.requires.keys.ranks_long))))
           c.given_lanes-by_row.ensures.given
-          c.least_key-right.ensures
-          (sym c.is_key.ensures ∙ c.if-not-is_key.false)
+          c.least_key.ensures
+          (ap (λ (right : Option ℕ). is_same_key right (Some c.in-Some.key)) (sym c.as_key-right.ensures) ∙ (sym c.is_key.ensures ∙ c.if-not-is_key.false))
           c.next_lanes-next.ensures.next
           c.next_lanes-next.ensures.small
           c.least_key-least.ensures
           c.in-Some.ensures.some
-          (c.put-in-Some.ensures ∙ ap (λ (key : Option ℕ). slice_set c.take_least.new.self c.in-Some.node.0 key) c.as_key-in-Some.ensures)
+          (c.put-in-Some.ensures ∙ ap (λ (key : Option ℕ). slice_set c.take_least.new.self c.in-Some.node.0 key) c.as_key.ensures)
           c.users-users.ensures.users
           c.mark_all.ensures.marks).fewer,
     )
@@ -232,7 +233,7 @@ returns-else-not-is_key-clause-nearer g c = λ _.
           _
           c.given_lanes-by_row.result
           c.next_lanes-next.result
-          c.least_key-right.result
+          c.least_key.result
           c.least_key-least.result
           (record { barred = c.requires.marks.barred; granted = c.requires.marks.granted })
           c.requires.live
@@ -242,13 +243,13 @@ returns-else-not-is_key-clause-nearer g c = λ _.
           c.in-Some.ensures.least
           (λ l lt. sym (lane-at c.args.ranks.now c.in-Some.node.0 l _ (omega (arith, c.in-Some.ensures.least.inside, c.requires.keys.heap_long, c.requires.keys.ranks_long))))
           c.given_lanes-by_row.ensures.given
-          c.least_key-right.ensures
-          (sym c.is_key.ensures ∙ c.if-not-is_key.false)
+          c.least_key.ensures
+          (ap (λ (right : Option ℕ). is_same_key right (Some c.in-Some.key)) (sym c.as_key-right.ensures) ∙ (sym c.is_key.ensures ∙ c.if-not-is_key.false))
           c.next_lanes-next.ensures.next
           c.next_lanes-next.ensures.small
           c.least_key-least.ensures
           c.in-Some.ensures.some
-          (c.put-in-Some.ensures ∙ ap (λ (key : Option ℕ). slice_set c.take_least.new.self c.in-Some.node.0 key) c.as_key-in-Some.ensures)
+          (c.put-in-Some.ensures ∙ ap (λ (key : Option ℕ). slice_set c.take_least.new.self c.in-Some.node.0 key) c.as_key.ensures)
           c.users-users.ensures.users
           c.mark_all.ensures.marks).fewer,
     )
