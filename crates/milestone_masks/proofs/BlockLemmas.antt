@@ -14,8 +14,8 @@ use Rattle.reach_ranks.specs.Rounds.{world}
 use Rattle.reach_ranks.specs.Ranks.{AreRanks, Agrees}
 use Rattle.reach_ranks.specs.Given.{size_of, sum_below}
 use Rattle.reach_ranks.proofs.SizeLemmas.{only_at, only_at-same, sum_below-le, sum_below-le_add, sum_below-only, sum_below-zero, cond-or}
-use Rattle.reach_lanes.specs.Lanes.{is_one, worlds, AreLaneRanks, AreSmall}
-use Rattle.reach_lanes.specs.Keys.{lane_sizes}
+use Rattle.reach_incremental.specs.Lanes.{is_one, worlds, AreLaneRanks, AreSmall}
+use Rattle.reach_incremental.specs.Keys.{lane_sizes}
 use Rattle.milestone_masks.specs.declared.worlds.Milestone.{Milestone}
 use Rattle.milestone_masks.specs.declared.slots.Slot.{Slot}
 use Rattle.milestone_masks.specs.declared.slots.Block.{Block}

@@ -9,7 +9,7 @@ use Rattle.std.specs.List.{list_any}
 use Rattle.plan_base.specs.declared.NodeId.{NodeId}
 use Rattle.graph_store.proofs.TidyLemmas.{any-then}
 use Rattle.graph_store.proofs.ReplaceLemmas.{get_or_inside}
-use Rattle.reach_lanes.specs.Lanes.{is_one, lane, AreSmall}
+use Rattle.reach_incremental.specs.Lanes.{is_one, lane, AreSmall}
 use Rattle.milestone_masks.specs.declared.worlds.Milestone.{Milestone}
 use Rattle.milestone_masks.specs.declared.slots.Slot.{Slot}
 use Rattle.milestone_masks.specs.declared.slots.Block.{Block}

@@ -8,8 +8,8 @@ use Rattle.std.proofs.lemmas.List.{length-set, get_or-set_same, get_or-set_other
 use Rattle.std.specs.List.{prefix_len}
 use Rattle.std.proofs.Math.Seq.{take-append_seam}
 use Rattle.plan_base.specs.declared.NodeId.{NodeId}
-use Rattle.reach_lanes.specs.Lanes.{lane, AreSmall}
-use Rattle.reach_lanes.proofs.LaneLemmas.{lane-at, lane-long, lane-set}
+use Rattle.reach_incremental.specs.Lanes.{lane, AreSmall}
+use Rattle.reach_incremental.proofs.LaneLemmas.{lane-at, lane-long, lane-set}
 use Rattle.milestone_masks.specs.declared.slots.Slot.{Slot}
 use Rattle.milestone_masks.specs.declared.slots.Block.{Block}
 use Rattle.milestone_masks.specs.declared.worlds.Milestone.{Milestone}

@@ -5,8 +5,8 @@ use Rattle.plan_base.specs.declared.NodeId.{NodeId}
 use Rattle.graph_store.specs.declared.Row.{Row}
 use Rattle.graph_store.specs.Rows.{has_node}
 use Rattle.reach_ranks.specs.Ranks.{Agrees}
-use Rattle.reach_lanes.specs.Lanes.{Worlds, is_live, is_one, lane, world_of, worlds, AreLaneRanks, AreSmall}
-use Rattle.reach_lanes.specs.Keys.{lane_sizes}
+use Rattle.reach_incremental.specs.Lanes.{Worlds, is_live, is_one, lane, world_of, worlds, AreLaneRanks, AreSmall}
+use Rattle.reach_incremental.specs.Keys.{lane_sizes}
 use Rattle.milestone_masks.specs.declared.worlds.Milestone.{Milestone}
 use Rattle.milestone_masks.specs.declared.slots.Slot.{Slot}
 use Rattle.milestone_masks.specs.declared.slots.Block.{Block}

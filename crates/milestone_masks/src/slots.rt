@@ -4,8 +4,8 @@ ghost use Rattle.std.specs.Bool.{OnTrue};
 ghost use Rattle.reach_ranks.specs.Rounds.{world, IsWhole};
 ghost use Rattle.reach_ranks.specs.Ranks.{AreRanks};
 ghost use Rattle.reach_ranks.specs.Given.{sum_below};
-ghost use Rattle.reach_lanes.specs.Lanes.{is_one, lane, worlds, AreLaneRanks, AreSmall};
-ghost use Rattle.reach_lanes.specs.Keys.{lane_sizes};
+ghost use Rattle.reach_incremental.specs.Lanes.{is_one, lane, worlds, AreLaneRanks, AreSmall};
+ghost use Rattle.reach_incremental.specs.Keys.{lane_sizes};
 ghost use Rattle.milestone_masks.specs.Worlds.{place_of, ranked, size_in_world, AgreeBut};
 ghost use Rattle.milestone_masks.specs.Held.{extra_at, extras_of, has_slot, milestones_in, ranks_at, rows_of, size_in_block, AgreeInLanes, AreBlocks, AreCopies, AreRepaired, AreSlots, Grows, Occupies};
 
@@ -14,7 +14,7 @@ use crate::worlds::Milestone;
 use graph_store::Rows;
 use index_heap::Heap;
 use plan_base::{NoMemory, NodeId, Steps};
-use reach_lanes::{Lanes, repair_lanes};
+use reach_incremental::{Lanes, repair_lanes};
 use std::alloc::{AllocError, Global};
 use std::marker::Model;
 

@@ -1,5 +1,5 @@
 use Rattle.std.proofs.Common.{◌≡◌, length}
-use Rattle.reach_lanes.specs.Lanes.{AreSmall}
+use Rattle.reach_incremental.specs.Lanes.{AreSmall}
 use Rattle.milestone_masks.proofs.slots.no_ranks.Given as goal
 
 abbrev pub invariant-loop : goal.invariant-loop
