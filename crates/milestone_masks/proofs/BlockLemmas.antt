@@ -18,7 +18,7 @@ use Rattle.reach_incremental.specs.Lanes.{is_one, worlds, AreLaneRanks, AreSmall
 use Rattle.reach_incremental.specs.Keys.{lane_sizes}
 use Rattle.milestone_masks.specs.declared.worlds.Milestone.{Milestone}
 use Rattle.milestone_masks.specs.declared.slots.Slot.{Slot}
-use Rattle.milestone_masks.specs.declared.slots.Block.{Block}
+use Rattle.milestone_masks.specs.declared.blocks.Block.{Block}
 use Rattle.milestone_masks.specs.Worlds.{ranks_of, size_in_world, AgreeBut}
 use Rattle.milestone_masks.specs.Held.{rows_of, extras_of, ranks_at, extra_at, milestone_of, milestones_in, has_slot, size_in_block, AgreeInLanes, AreBlocks, AreRepaired, AreSlots}
 use Rattle.milestone_masks.proofs.SlotLemmas.{get-set_same, get-set_other}

@@ -12,7 +12,7 @@ use Rattle.graph_store.proofs.ReplaceLemmas.{get_or_inside}
 use Rattle.reach_incremental.specs.Lanes.{is_one, lane, AreSmall}
 use Rattle.milestone_masks.specs.declared.worlds.Milestone.{Milestone}
 use Rattle.milestone_masks.specs.declared.slots.Slot.{Slot}
-use Rattle.milestone_masks.specs.declared.slots.Block.{Block}
+use Rattle.milestone_masks.specs.declared.blocks.Block.{Block}
 use Rattle.milestone_masks.specs.Held.{rows_of, extras_of, ranks_at, extra_at, milestone_of, milestones_in, has_slot, AreSlots, Grows, Occupies}
 use Rattle.milestone_masks.proofs.WorldLemmas.{map-insert, map-both, map-take, map-drop, All-insert}
 

@@ -11,7 +11,7 @@ use Rattle.plan_base.specs.declared.NodeId.{NodeId}
 use Rattle.reach_incremental.specs.Lanes.{lane, AreSmall}
 use Rattle.reach_incremental.proofs.LaneLemmas.{lane-at, lane-long, lane-set}
 use Rattle.milestone_masks.specs.declared.slots.Slot.{Slot}
-use Rattle.milestone_masks.specs.declared.slots.Block.{Block}
+use Rattle.milestone_masks.specs.declared.blocks.Block.{Block}
 use Rattle.milestone_masks.specs.declared.worlds.Milestone.{Milestone}
 use Rattle.std.specs.Bool.{OnTrue}
 use Rattle.milestone_masks.specs.Held.{rows_of, extras_of, ranks_at, extra_at, milestone_of, milestones_in, AreBlocks, Grows, Occupies}

@@ -9,7 +9,7 @@ use Rattle.reach_incremental.specs.Lanes.{Worlds, is_live, is_one, lane, world_o
 use Rattle.reach_incremental.specs.Keys.{lane_sizes}
 use Rattle.milestone_masks.specs.declared.worlds.Milestone.{Milestone}
 use Rattle.milestone_masks.specs.declared.slots.Slot.{Slot}
-use Rattle.milestone_masks.specs.declared.slots.Block.{Block}
+use Rattle.milestone_masks.specs.declared.blocks.Block.{Block}
 
 -- how many nodes there are, and the milestones in order
 pub record Held : Type 0 where

@@ -1,9 +1,12 @@
 //! One world for each milestone: the game with that milestone barred, and the ranks in it.
 #![tactic(auto)]
 
+mod blocks;
 mod laws;
+mod milestones;
 mod missing;
 mod ranks;
+mod slot_repairs;
 mod slots;
 mod why;
 mod worlds;

@@ -8,9 +8,9 @@ ghost use Rattle.milestone_masks.specs.Worlds.{mask_of, milestones_of, missing_i
 ghost use Rattle.milestone_masks.specs.Kept.{IsKept};
 ghost use Rattle.milestone_masks.specs.Why.{IsWhy};
 
+use crate::milestones::Milestones;
 use crate::missing::missing_of;
 use crate::ranks::WorldRanks;
-use crate::slots::Milestones;
 use crate::why::why_of;
 use graph_store::{Group, Rows};
 use index_heap::Heap;

@@ -1,7 +1,7 @@
 use Rattle.std.proofs.Common.{◌≡◌, ◌+◌, ◌*◌, ◌≤◌}
 use Rattle.reach_ranks.specs.Given.{sum_below}
 use Rattle.milestone_masks.specs.Held.{size_in_block, AreRepaired}
-use Rattle.milestone_masks.proofs.slots.repair_blocks.Given as goal
+use Rattle.milestone_masks.proofs.slot_repairs.repair_blocks.Given as goal
 
 abbrev pub invariant-loop-b : goal.invariant-loop-b
 invariant-loop-b g l = record {

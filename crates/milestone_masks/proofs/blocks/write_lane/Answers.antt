@@ -1,7 +1,7 @@
 -- One rank more is written.
 use Rattle.std.proofs.Common.{ap, List, ℕ, get_or, arith}
 use Rattle.milestone_masks.proofs.SlotLemmas.{written-all, written-more, written-none}
-use Rattle.milestone_masks.proofs.slots.write_lane.Goals as goal
+use Rattle.milestone_masks.proofs.blocks.write_lane.Goals as goal
 
 pub loop-n-init : goal.loop-n-init
 loop-n-init c = written-none c.args.l c.args.from.now c.args.to.now c.requires.small

@@ -1,6 +1,6 @@
 use Rattle.std.proofs.Common.{◌≡◌, length}
 use Rattle.reach_incremental.specs.Lanes.{AreSmall}
-use Rattle.milestone_masks.proofs.slots.no_ranks.Given as goal
+use Rattle.milestone_masks.proofs.blocks.no_ranks.Given as goal
 
 abbrev pub invariant-loop : goal.invariant-loop
 invariant-loop l = record {

@@ -2,7 +2,7 @@
 use Rattle.std.proofs.Common.{get_or, refl, length}
 use Rattle.std.proofs.lemmas.Option.{slice_get-get_or}
 use Rattle.milestone_masks.proofs.SlotLemmas.{occupied}
-use Rattle.milestone_masks.proofs.slots.occupy.Goals as goal
+use Rattle.milestone_masks.proofs.blocks.occupy.Goals as goal
 
 pub returns : goal.returns
 returns c =

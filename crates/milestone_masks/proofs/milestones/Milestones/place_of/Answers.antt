@@ -5,7 +5,7 @@ use Rattle.milestone_masks.specs.Worlds.{place_of}
 use Rattle.milestone_masks.specs.declared.slots.Slot.{Slot}
 use Rattle.std.specs.Prelude.{position, ◌==◌}
 use Rattle.milestone_masks.proofs.SlotLemmas.{place-same}
-use Rattle.milestone_masks.proofs.slots.Milestones.place_of.Goals as goal
+use Rattle.milestone_masks.proofs.milestones.Milestones.place_of.Goals as goal
 
 pub returns : goal.returns
 returns c =

@@ -1,7 +1,7 @@
 use Rattle.std.proofs.Common.{◌∙◌, ap}
 use Rattle.milestone_masks.specs.Held.{Held, milestones_in}
 use Rattle.milestone_masks.proofs.SlotLemmas.{same-held}
-use Rattle.milestone_masks.proofs.slots.Milestones.has_nodes_of.Goals as goal
+use Rattle.milestone_masks.proofs.milestones.Milestones.has_nodes_of.Goals as goal
 
 pub returns : goal.returns
 returns c =

@@ -3,10 +3,10 @@ use Rattle.std.proofs.Common.{◌∙◌, List, Some, All, sym, subst}
 use Rattle.reach_ranks.specs.Rounds.{world}
 use Rattle.reach_ranks.specs.Ranks.{AreRanks}
 use Rattle.milestone_masks.specs.declared.slots.Slot.{Slot}
-use Rattle.milestone_masks.specs.declared.slots.Block.{Block}
+use Rattle.milestone_masks.specs.declared.blocks.Block.{Block}
 use Rattle.milestone_masks.specs.Held.{milestones_in}
 use Rattle.milestone_masks.proofs.SlotLemmas.{whole-back}
-use Rattle.milestone_masks.proofs.slots.Milestones.repair_each.Goals as goal
+use Rattle.milestone_masks.proofs.milestones.Milestones.repair_each.Goals as goal
 
 pub returns-clause-ranks : goal.returns-clause-ranks
 returns-clause-ranks g c =

@@ -1,7 +1,7 @@
 -- The live lanes are those of the milestones.
 use Rattle.std.proofs.Common.{arith}
 use Rattle.milestone_masks.proofs.BlockLemmas.{lanes-agree, sizes-fit, slot-nodes, slot-ranks, slots-repaired}
-use Rattle.milestone_masks.proofs.slots.repair_slots.Goals as goal
+use Rattle.milestone_masks.proofs.slot_repairs.repair_slots.Goals as goal
 
 pub repair_blocks-requires-clause-agree : goal.repair_blocks-requires-clause-agree
 repair_blocks-requires-clause-agree g c =

@@ -1,9 +1,9 @@
 -- One block more is repaired.
 use Rattle.std.proofs.Common.{◌≡◌, ◌∙◌, Some, slice_get, get_or, arith}
 use Rattle.std.proofs.lemmas.Option.{slice_get-get_or}
-use Rattle.milestone_masks.specs.declared.slots.Block.{Block}
+use Rattle.milestone_masks.specs.declared.blocks.Block.{Block}
 use Rattle.milestone_masks.proofs.BlockLemmas.{block_sizes-more, blocks_repaired-more}
-use Rattle.milestone_masks.proofs.slots.repair_blocks.Goals as goal
+use Rattle.milestone_masks.proofs.slot_repairs.repair_blocks.Goals as goal
 
 pub loop-b-preserved : goal.loop-b-preserved
 loop-b-preserved g c =
