@@ -14,13 +14,13 @@ use Rattle.reach_ranks.specs.Rounds.{world}
 use Rattle.reach_ranks.specs.Ranks.{AreRanks, Agrees}
 use Rattle.reach_ranks.specs.Given.{size_of, sum_below}
 use Rattle.reach_ranks.proofs.SizeLemmas.{only_at, only_at-same, sum_below-le, sum_below-le_add, sum_below-only, sum_below-zero, cond-or}
-use Rattle.reach_incremental.specs.Lanes.{is_one, worlds, AreLaneRanks, AreSmall}
+use Rattle.reach_incremental.specs.Lanes.{AgreeInLanes, is_one, worlds, AreLaneRanks, AreSmall}
 use Rattle.reach_incremental.specs.Keys.{lane_sizes}
 use Rattle.milestone_masks.specs.declared.worlds.Milestone.{Milestone}
 use Rattle.milestone_masks.specs.declared.slots.Slot.{Slot}
 use Rattle.milestone_masks.specs.declared.blocks.Block.{Block}
 use Rattle.milestone_masks.specs.Worlds.{ranks_of, size_in_world, AgreeBut}
-use Rattle.milestone_masks.specs.Held.{rows_of, extras_of, ranks_at, extra_at, milestone_of, milestones_in, has_slot, size_in_block, AgreeInLanes, AreBlocks, AreRepaired, AreSlots}
+use Rattle.milestone_masks.specs.Held.{rows_of, extras_of, ranks_at, extra_at, milestone_of, milestones_in, has_slot, size_in_block, AreBlocks, AreRepaired, AreSlots}
 use Rattle.milestone_masks.proofs.SlotLemmas.{get-set_same, get-set_other}
 use Rattle.milestone_masks.proofs.OwnedLemmas.{both-tell}
 

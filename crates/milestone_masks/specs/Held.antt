@@ -80,11 +80,6 @@ pub record AreCopies (k : ℕ) (old new : List Block) : Type 0 where
   pub rows : (b : ℕ) → b < k → rows_of (slice_get new b) ≡ rows_of (slice_get old b)
   pub extras : (b : ℕ) → b < k → extras_of (slice_get new b) ≡ extras_of (slice_get old b)
 
--- every node outside the list agrees with its row in the world of each live lane
-abbrev pub AgreeInLanes : Worlds → List NodeId → List (List ℕ) → Type 0
-AgreeInLanes ws changed ranks =
-    (l : ℕ) → l < 16 → is_live ws l ≡ true → (n : ℕ) → n < length ws.rows → has_node changed n ≡ false → Agrees (world_of ws l) (lane l ranks) n
-
 -- the first blocks have the ranks of their worlds, and the others are as before
 pub record AreRepaired (rows : List Row) (barred granted : List Bool) (k : ℕ) (old new : List Block) : Type 0 where
   pub as_long : length new ≡ length old

@@ -1,7 +1,7 @@
 //! The ranks of one world.
 ghost use Rattle.std.specs.Prelude.{◌≡◌, ℕ, ◌+◌, ◌*◌, ◌<◌, ◌≤◌, None, false, All, length, replicate, slice_index, IfOk};
 ghost use Rattle.graph_store.specs.Rows.{has_node};
-ghost use Rattle.reach_ranks.specs.Rounds.{world, IsWhole};
+ghost use Rattle.reach_ranks.specs.Rounds.{world_under, IsWhole};
 ghost use Rattle.reach_ranks.specs.Ranks.{AreRanks, Agrees};
 ghost use Rattle.reach_ranks.specs.Given.{size_of};
 
@@ -9,7 +9,7 @@ use graph_store::Rows;
 use index_heap::Heap;
 use plan_base::{NodeId, Steps};
 use reach_incremental::repair;
-use reach_ranks::Ranks;
+use reach_ranks::{Marks, Ranks};
 use std::alloc::{AllocError, Global};
 use std::marker::Model;
 
@@ -71,33 +71,22 @@ impl WorldRanks {
     pub fn repair<R: Rows<L>, L>(
         &mut self,
         rows: &R,
-        barred: &[bool],
-        granted: &[bool],
-        extra: Option<NodeId>,
+        marks: Marks<'_>,
         heap: &mut Heap,
         changed: &[NodeId],
         steps: &mut Steps<L>,
     )
-        requires marks { IsWhole (world (R.rows rows.now) barred.now granted.now extra) }
+        requires marks { IsWhole (world_under (R.rows rows.now) marks) }
         requires ranks { length self.old ≡ length (R.rows rows.now) }
         requires heap { heap.old ≡ replicate (length (R.rows rows.now)) None }
         requires changed { All (λ n. n.0 < length (R.rows rows.now)) changed.now }
-        requires agree { let w = world (R.rows rows.now) barred.now granted.now extra in
+        requires agree { let w = world_under (R.rows rows.now) marks in
             (n : ℕ) → n < length w.rows → has_node changed.now n ≡ false → Agrees w self.old n }
-        ensures ranks { AreRanks (world (R.rows rows.now) barred.now granted.now extra) self.new }
+        ensures ranks { AreRanks (world_under (R.rows rows.now) marks.entry) self.new }
         ensures heap { heap.new ≡ heap.old }
         ensures steps { steps.new ≤ steps.old + 6 * size_of (R.rows rows.now) changed.now self.old self.new }
         ensures later { steps.old ≤ steps.new }
     {
-        repair(
-            &mut self.ranks,
-            rows,
-            barred,
-            granted,
-            extra,
-            heap,
-            changed,
-            steps,
-        );
+        repair(&mut self.ranks, rows, marks, heap, changed, steps);
     }
 }

@@ -3,10 +3,10 @@ ghost use Rattle.std.specs.Prelude.{◌≡◌, ℕ, ◌+◌, ◌*◌, ◌<◌, �
 ghost use Rattle.reach_ranks.specs.Rounds.{world, IsWhole};
 ghost use Rattle.reach_ranks.specs.Ranks.{AreRanks};
 ghost use Rattle.reach_ranks.specs.Given.{sum_below};
-ghost use Rattle.reach_incremental.specs.Lanes.{worlds, AreLaneRanks, AreSmall};
+ghost use Rattle.reach_incremental.specs.Lanes.{AgreeInLanes, worlds, AreLaneRanks, AreSmall};
 ghost use Rattle.reach_incremental.specs.Keys.{lane_sizes};
 ghost use Rattle.milestone_masks.specs.Worlds.{size_in_world, AgreeBut};
-ghost use Rattle.milestone_masks.specs.Held.{extras_of, milestones_in, rows_of, size_in_block, AgreeInLanes, AreBlocks, AreRepaired, AreSlots};
+ghost use Rattle.milestone_masks.specs.Held.{extras_of, milestones_in, rows_of, size_in_block, AreBlocks, AreRepaired, AreSlots};
 
 use crate::blocks::Block;
 use crate::ranks::WorldRanks;
@@ -14,7 +14,7 @@ use crate::slots::Slot;
 use graph_store::Rows;
 use index_heap::Heap;
 use plan_base::{NodeId, Steps};
-use reach_incremental::repair_lanes;
+use reach_incremental::{LaneMarks, repair_lanes};
 
 /// Repairs the ranks of the worlds of one block.
 fn repair_block<R: Rows<L>, L>(
@@ -47,9 +47,11 @@ fn repair_block<R: Rows<L>, L>(
         &mut block.ranks,
         base.as_slice(),
         rows,
-        barred,
-        granted,
-        &block.extras,
+        LaneMarks {
+            barred,
+            granted,
+            extras: &block.extras,
+        },
         heap,
         changed,
         steps,

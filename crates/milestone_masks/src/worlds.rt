@@ -15,7 +15,7 @@ use crate::why::why_of;
 use graph_store::{Group, Rows};
 use index_heap::Heap;
 use plan_base::{NoMemory, NodeId, Steps};
-use reach_ranks::Ranks;
+use reach_ranks::{Marks, Ranks};
 use std::alloc::{AllocError, AllocFailed, Global};
 use std::marker::Model;
 
@@ -252,7 +252,13 @@ impl Worlds {
         ensures later { steps.old ≤ steps.new }
     {
         let _count = rows.len();
-        self.base.repair(rows, barred, granted, None, &mut self.heap, changed, steps);
+        let marks = Marks {
+            barred,
+            granted,
+            extra: None,
+        };
+        self.base
+            .repair(rows, marks, &mut self.heap, changed, steps);
         self.milestones.repair_each(
             &self.base,
             rows,
@@ -407,7 +413,12 @@ fn add<R: Rows<L>, L>(
     let Ok(mut ranks) = base.copy(alloc) else {
         return Err(MilestoneFault::NoMemory);
     };
-    ranks.repair(rows, barred, granted, Some(node), heap, &[node], steps);
+    let marks = Marks {
+        barred,
+        granted,
+        extra: Some(node),
+    };
+    ranks.repair(rows, marks, heap, &[node], steps);
     let Ok(()) = milestones.insert(alloc, place, Milestone { node, ranks }) else {
         return Err(MilestoneFault::NoMemory);
     };

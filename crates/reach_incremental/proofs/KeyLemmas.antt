@@ -10,7 +10,7 @@ use Rattle.reach_ranks.specs.Given.{given, key_of, key_after, is_by}
 use Rattle.reach_ranks.proofs.GivenLemmas.{given-is, given-barred, is_by-trans}
 use Rattle.reach_ranks.proofs.RepairLemmas.{has_node-more, or-first}
 use Rattle.reach_incremental.specs.Lanes.{Worlds, world_of, is_live, lane}
-use Rattle.reach_incremental.specs.Keys.{least_below, lane_key, as_key, key_in_lane, right_key, RefreshesLanes, MarksLanes}
+use Rattle.reach_incremental.specs.Keys.{least_below, lane_key, as_key, key_in_lane, right_key, RefreshesLanes, GivesLaneKeys}
 use Rattle.reach_incremental.proofs.LaneLemmas.{least-same, least_key-by}
 
 -- the rank that a row gives in one lane
@@ -76,7 +76,7 @@ refresh_lanes-more ws ranks nodes i d old heap new lt long r e =
 
 -- one user more is given its key
 
-pub marks_lanes-more : (by : ℕ) (floor : List ℕ) (ranks : List (List ℕ)) (was is : List ℕ) (nodes : List NodeId) (i : ℕ) (d : NodeId) (old heap new : List (Option ℕ)) → i < length nodes → (get_or nodes i d).0 < length old → MarksLanes by floor ranks was is (take i nodes) old heap → new ≡ set heap (get_or nodes i d).0 (key_at new (get_or nodes i d).0) → is_by (key_at new (get_or nodes i d).0) (key_at heap (get_or nodes i d).0) ≡ true → ((l : ℕ) → l < 16 → eqb (get_or was l 0) (get_or is l 0) ≡ false → is_by (key_at new (get_or nodes i d).0) (key_after (eqb (get_or is l 0) by) by (get_or floor (get_or nodes i d).0 1) (key_at heap (get_or nodes i d).0) (get_or (lane l ranks) (get_or nodes i d).0 0)) ≡ true) → MarksLanes by floor ranks was is (take (i + 1) nodes) old new
+pub marks_lanes-more : (by : ℕ) (floor : List ℕ) (ranks : List (List ℕ)) (was is : List ℕ) (nodes : List NodeId) (i : ℕ) (d : NodeId) (old heap new : List (Option ℕ)) → i < length nodes → (get_or nodes i d).0 < length old → GivesLaneKeys by floor ranks was is (take i nodes) old heap → new ≡ set heap (get_or nodes i d).0 (key_at new (get_or nodes i d).0) → is_by (key_at new (get_or nodes i d).0) (key_at heap (get_or nodes i d).0) ≡ true → ((l : ℕ) → l < 16 → eqb (get_or was l 0) (get_or is l 0) ≡ false → is_by (key_at new (get_or nodes i d).0) (key_after (eqb (get_or is l 0) by) by (get_or floor (get_or nodes i d).0 1) (key_at heap (get_or nodes i d).0) (get_or (lane l ranks) (get_or nodes i d).0 0)) ≡ true) → GivesLaneKeys by floor ranks was is (take (i + 1) nodes) old new
 marks_lanes-more by floor ranks was is nodes i d old heap new lt inside m e lower each =
     let u : ℕ = (get_or nodes i d).0 in
     let key : Option ℕ = key_at new (get_or nodes i d).0 in

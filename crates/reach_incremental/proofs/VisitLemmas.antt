@@ -8,13 +8,13 @@ use Rattle.graph_store.specs.Rows.{has_node, user_count, AreUsers}
 use Rattle.index_heap.specs.Keys.{key_at, IsLeastAt}
 use Rattle.reach_ranks.specs.Rounds.{World, world, IsWhole}
 use Rattle.reach_ranks.specs.Floors.{AreAbove, IsFloor}
-use Rattle.reach_ranks.specs.Given.{given, key_of, key_after, is_by, is_same_key, next_kept, work_left, HoldsBounds, Marks}
+use Rattle.reach_ranks.specs.Given.{given, key_of, key_after, is_by, is_same_key, next_kept, work_left, HoldsBounds, GivesKeys}
 use Rattle.reach_ranks.proofs.GivenLemmas.{given-le, key_of-some, is_by-trans}
 use Rattle.reach_ranks.proofs.RepairLemmas.{given-same, not_user, sum_below-drop, lesser-of, lesser-le, over-above, work_left-after}
 use Rattle.reach_ranks.proofs.SizeLemmas.{sum_below-members}
 use Rattle.reach_ranks.proofs.MarkLemmas.{ComesTo, GoesTo, goes-right, floor-right, given-comes, given-goes, small-set, next-goes, next-comes, above-after, put-here, put-other, put-long, same_key-refl, same_key-not, sum_below-le_added, bit-le}
 use Rattle.reach_incremental.specs.Lanes.{Worlds, world_of, is_live, lane, AreLanesAbove, IsLaneFloor}
-use Rattle.reach_incremental.specs.Keys.{least_below, lane_key, as_key, key_in_lane, right_key, next_in_lane, early_keys, lane_work, left_in_lanes, HoldsLanes, MarksLanes}
+use Rattle.reach_incremental.specs.Keys.{least_below, lane_key, as_key, key_in_lane, right_key, next_in_lane, early_keys, lane_work, left_in_lanes, HoldsLanes, GivesLaneKeys}
 use Rattle.reach_incremental.proofs.LaneLemmas.{lane-long, lane-set, least-at, least-same, lane_key-is_live, lane_key-key, next-own, next-kept, next-differs, least_key-by, sum-drop}
 use Rattle.reach_incremental.proofs.KeyLemmas.{right_key-by, right_key-is}
 
@@ -58,7 +58,7 @@ early-put ws ranks heap new u k inside was not_same here others =
 
 -- the keys in one lane in which the node gets another rank
 
-pub marked : (w : World) (limit : ℕ) (floor ranks : List ℕ) (u k x : ℕ) (comes : Bool) (users : List NodeId) (put new : List (Option ℕ)) → length ranks ≡ length w.rows → length new ≡ length w.rows → ((n : ℕ) → n < length w.rows → get_or ranks n 0 ≤ limit) → u < length w.rows → x ≤ limit → AreUsers w.rows u users → Marks comes k floor (set ranks u x) users put new → ((n : ℕ) → n < length w.rows → is_by (key_at put n) (key_of (get_or (set ranks u x) n 0) (given w limit ranks n)) ≡ true) → ((n : ℕ) → n < length w.rows → (y : Option ℕ) → is_by y (key_of (get_or (set ranks u x) n 0) (given w limit ranks n)) ≡ true → is_by (key_after comes k (get_or floor n 1) y (get_or (set ranks u x) n 0)) (key_of (get_or (set ranks u x) n 0) (given w limit (set ranks u x) n)) ≡ true) → HoldsBounds w limit (set ranks u x) new
+pub marked : (w : World) (limit : ℕ) (floor ranks : List ℕ) (u k x : ℕ) (comes : Bool) (users : List NodeId) (put new : List (Option ℕ)) → length ranks ≡ length w.rows → length new ≡ length w.rows → ((n : ℕ) → n < length w.rows → get_or ranks n 0 ≤ limit) → u < length w.rows → x ≤ limit → AreUsers w.rows u users → GivesKeys comes k floor (set ranks u x) users put new → ((n : ℕ) → n < length w.rows → is_by (key_at put n) (key_of (get_or (set ranks u x) n 0) (given w limit ranks n)) ≡ true) → ((n : ℕ) → n < length w.rows → (y : Option ℕ) → is_by y (key_of (get_or (set ranks u x) n 0) (given w limit ranks n)) ≡ true → is_by (key_after comes k (get_or floor n 1) y (get_or (set ranks u x) n 0)) (key_of (get_or (set ranks u x) n 0) (given w limit (set ranks u x) n)) ≡ true) → HoldsBounds w limit (set ranks u x) new
 marked w limit floor ranks u k x comes users put new long new_long small inside le are marks before step = record {
   ranks_long = length-set ranks u x ∙ long;
   heap_long = new_long;
@@ -78,7 +78,7 @@ marked w limit floor ranks u k x comes users put new long new_long small inside 
   ];
 }
 
-pub lane-after : (w : World) (limit : ℕ) (floor ranks : List ℕ) (put new : List (Option ℕ)) (u k x : ℕ) (users : List NodeId) → length ranks ≡ length w.rows → length new ≡ length w.rows → ((n : ℕ) → n < length w.rows → get_or ranks n 0 ≤ limit) → IsFloor w limit floor → AreAbove floor ranks → u < length w.rows → key_of (get_or ranks u 0) (given w limit ranks u) ≡ Some k → x ≡ next_kept (get_or ranks u 0) k → AreUsers w.rows u users → Marks (eqb x k) k floor (set ranks u x) users put new → ((n : ℕ) → n < length w.rows → is_by (key_at put n) (key_of (get_or (set ranks u x) n 0) (given w limit ranks n)) ≡ true) → HoldsBounds w limit (set ranks u x) new
+pub lane-after : (w : World) (limit : ℕ) (floor ranks : List ℕ) (put new : List (Option ℕ)) (u k x : ℕ) (users : List NodeId) → length ranks ≡ length w.rows → length new ≡ length w.rows → ((n : ℕ) → n < length w.rows → get_or ranks n 0 ≤ limit) → IsFloor w limit floor → AreAbove floor ranks → u < length w.rows → key_of (get_or ranks u 0) (given w limit ranks u) ≡ Some k → x ≡ next_kept (get_or ranks u 0) k → AreUsers w.rows u users → GivesKeys (eqb x k) k floor (set ranks u x) users put new → ((n : ℕ) → n < length w.rows → is_by (key_at put n) (key_of (get_or (set ranks u x) n 0) (given w limit ranks n)) ≡ true) → HoldsBounds w limit (set ranks u x) new
 lane-after w limit floor ranks put new u k x users long new_long small floor_is above inside here next are marks before =
     let g : ℕ = given w limit ranks u in
     let t = key_of-some (get_or ranks u 0) g k here in
@@ -140,7 +140,7 @@ pub record Visit (ws : Worlds) (floor : List ℕ) (ranks after : List (List ℕ)
   pub new_long : length new ≡ length put
   pub lower : (n : ℕ) → is_by (key_at new n) (key_at put n) ≡ true
   pub others : (n : ℕ) → has_node users n ≡ false → key_at new n ≡ key_at put n
-  pub marks : (l : ℕ) → l < 16 → eqb (get_or (lane l ranks) u 0) (x l) ≡ false → Marks (eqb (x l) k) k floor (lane l after) users put new
+  pub marks : (l : ℕ) → l < 16 → eqb (get_or (lane l ranks) u 0) (x l) ≡ false → GivesKeys (eqb (x l) k) k floor (lane l after) users put new
 
 pub inside-of : (ws : Worlds) (floor : List ℕ) (ranks after : List (List ℕ)) (heap put new : List (Option ℕ)) (u k : ℕ) (users : List NodeId) (x : ℕ → ℕ) → Visit ws floor ranks after heap put new u k users x → u < length ws.rows
 inside-of ws floor ranks after heap put new u k users x v = omega (arith, v.least.inside, v.holds.heap_long)
@@ -176,10 +176,10 @@ pub own-key : (ws : Worlds) (floor : List ℕ) (ranks after : List (List ℕ)) (
 own-key ws floor ranks after heap put new u k users x v l own =
     lane_key-key (is_live ws l) (get_or (lane l ranks) u 0) (given (world_of ws l) (2 ^ 32 - 1) (lane l ranks) u) k own v.positive
 
-pub own-marks : (ws : Worlds) (floor : List ℕ) (ranks after : List (List ℕ)) (heap put new : List (Option ℕ)) (u k : ℕ) (users : List NodeId) (x : ℕ → ℕ) → Visit ws floor ranks after heap put new u k users x → (l : ℕ) → l < 16 → key_in_lane ws ranks u l ≡ k → Marks (eqb (x l) k) k floor (set (lane l ranks) u (x l)) users put new
+pub own-marks : (ws : Worlds) (floor : List ℕ) (ranks after : List (List ℕ)) (heap put new : List (Option ℕ)) (u k : ℕ) (users : List NodeId) (x : ℕ → ℕ) → Visit ws floor ranks after heap put new u k users x → (l : ℕ) → l < 16 → key_in_lane ws ranks u l ≡ k → GivesKeys (eqb (x l) k) k floor (set (lane l ranks) u (x l)) users put new
 own-marks ws floor ranks after heap put new u k users x v l lt own =
     subst
-    (λ (rs : List ℕ). Marks (eqb (x l) k) k floor rs users put new)
+    (λ (rs : List ℕ). GivesKeys (eqb (x l) k) k floor rs users put new)
     (v.lanes l)
     (v.marks l lt (ne_eqb (get_or (lane l ranks) u 0) (x l) (λ e. next-differs (get_or (lane l ranks) u 0) k v.positive (e ∙ own-next ws floor ranks after heap put new u k users x v l lt own))))
 
@@ -374,7 +374,7 @@ pub record Visited (ws : Worlds) (floor : List ℕ) (ranks after : List (List �
 pub key-tells : (right k : ℕ) → is_same_key (as_key right) (Some k) ≡ true → (0 < k) × (right ≡ k)
 key-tells right k h = (grind (arith, nat_tests), grind (arith, nat_tests))
 
-pub visited : (ws : Worlds) (floor : List ℕ) (ranks : List (List ℕ)) (heap popped put new : List (Option ℕ)) (u k : ℕ) (users : List NodeId) (live : List Bool) (kept by_row next : List ℕ) (right least : ℕ) → IsWhole (world ws.rows ws.barred ws.granted None) → ((l : ℕ) → l < 16 → get_or live l false ≡ is_live ws l) → HoldsLanes ws ranks heap → IsLaneFloor ws floor → AreLanesAbove ws floor ranks → IsLeastAt heap (length heap) u k → ((l : ℕ) → l < 16 → get_or kept l 0 ≡ get_or (lane l ranks) u 0) → ((l : ℕ) → l < 16 → get_or by_row l 0 ≡ given (world_of ws l) (2 ^ 32 - 1) (lane l ranks) u) → right ≡ least_below (λ l. lane_key (get_or live l false) (get_or kept l 0) (get_or by_row l 0)) 16 → is_same_key (as_key right) (Some k) ≡ true → ((l : ℕ) → l < 16 → get_or next l 0 ≡ next_in_lane (lane_key (get_or live l false) (get_or kept l 0) (get_or by_row l 0)) (get_or kept l 0) k) → ((l : ℕ) → get_or next l 0 ≤ 2 ^ 32 - 1) → least ≡ least_below (λ l. lane_key (get_or live l false) (get_or next l 0) (get_or by_row l 0)) 16 → popped ≡ set heap u None → put ≡ set popped u (as_key least) → AreUsers ws.rows u users → MarksLanes k floor (set ranks u next) kept next users put new → Visited ws floor ranks (set ranks u next) heap new
+pub visited : (ws : Worlds) (floor : List ℕ) (ranks : List (List ℕ)) (heap popped put new : List (Option ℕ)) (u k : ℕ) (users : List NodeId) (live : List Bool) (kept by_row next : List ℕ) (right least : ℕ) → IsWhole (world ws.rows ws.barred ws.granted None) → ((l : ℕ) → l < 16 → get_or live l false ≡ is_live ws l) → HoldsLanes ws ranks heap → IsLaneFloor ws floor → AreLanesAbove ws floor ranks → IsLeastAt heap (length heap) u k → ((l : ℕ) → l < 16 → get_or kept l 0 ≡ get_or (lane l ranks) u 0) → ((l : ℕ) → l < 16 → get_or by_row l 0 ≡ given (world_of ws l) (2 ^ 32 - 1) (lane l ranks) u) → right ≡ least_below (λ l. lane_key (get_or live l false) (get_or kept l 0) (get_or by_row l 0)) 16 → is_same_key (as_key right) (Some k) ≡ true → ((l : ℕ) → l < 16 → get_or next l 0 ≡ next_in_lane (lane_key (get_or live l false) (get_or kept l 0) (get_or by_row l 0)) (get_or kept l 0) k) → ((l : ℕ) → get_or next l 0 ≤ 2 ^ 32 - 1) → least ≡ least_below (λ l. lane_key (get_or live l false) (get_or next l 0) (get_or by_row l 0)) 16 → popped ≡ set heap u None → put ≡ set popped u (as_key least) → AreUsers ws.rows u users → GivesLaneKeys k floor (set ranks u next) kept next users put new → Visited ws floor ranks (set ranks u next) heap new
 visited ws floor ranks heap popped put new u k users live kept by_row next right least whole lives holds floors above is kept_is given_is right_is is_key next_is small least_is popped_is put_is are marks =
     let tells = key-tells right k is_key in
     let own_is : (l : ℕ) → l < 16 → lane_key (get_or live l false) (get_or kept l 0) (get_or by_row l 0) ≡ key_in_lane ws ranks u l =

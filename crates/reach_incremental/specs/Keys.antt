@@ -3,7 +3,7 @@ use Rattle.std.specs.Prelude.{ℕ, zero, suc, ◌+◌, ◌-◌, ◌^◌, ◌<◌
 use Rattle.plan_base.specs.declared.NodeId.{NodeId}
 use Rattle.graph_store.specs.Rows.{has_node}
 use Rattle.index_heap.specs.Keys.{key_at}
-use Rattle.reach_ranks.specs.Given.{given, lesser, next_kept, is_by, is_same_key, size_of, sum_below, work_left, HoldsBounds, Marks}
+use Rattle.reach_ranks.specs.Given.{given, lesser, next_kept, is_by, is_same_key, size_of, sum_below, work_left, HoldsBounds, GivesKeys}
 use Rattle.reach_incremental.specs.Lanes.{Worlds, world_of, is_live, lane, AreSmall}
 
 -- the least of the numbers below m, where 0 is above all others
@@ -55,11 +55,11 @@ abbrev pub next_in_lane : ℕ → ℕ → ℕ → ℕ
 next_in_lane own kept key = if own == key then next_kept kept key else kept
 
 -- the keys after a node got other ranks: no node's is later, and the users' are early enough in each lane whose rank is another
-pub record MarksLanes (key : ℕ) (floor : List ℕ) (ranks : List (List ℕ)) (was is : List ℕ) (nodes : List NodeId) (old new : List (Option ℕ)) : Type 0 where
+pub record GivesLaneKeys (key : ℕ) (floor : List ℕ) (ranks : List (List ℕ)) (was is : List ℕ) (nodes : List NodeId) (old new : List (Option ℕ)) : Type 0 where
   pub as_long : length new ≡ length old
   pub lower : (n : ℕ) → is_by (key_at new n) (key_at old n) ≡ true
   pub others : (n : ℕ) → has_node nodes n ≡ false → key_at new n ≡ key_at old n
-  pub each : (l : ℕ) → l < 16 → (slice_index was l == slice_index is l) ≡ false → Marks (slice_index is l == key) key floor (lane l ranks) nodes old new
+  pub each : (l : ℕ) → l < 16 → (slice_index was l == slice_index is l) ≡ false → GivesKeys (slice_index is l == key) key floor (lane l ranks) nodes old new
 
 -- how many nodes have a key that isn't the right one
 unfoldable pub early_keys : Worlds → List (List ℕ) → List (Option ℕ) → ℕ

@@ -5,10 +5,10 @@ ghost use Rattle.graph_store.specs.Rows.{has_node};
 ghost use Rattle.reach_ranks.specs.Rounds.{world, IsWhole};
 ghost use Rattle.reach_ranks.specs.Ranks.{AreRanks, Agrees};
 ghost use Rattle.reach_ranks.specs.Floors.{is_above};
-ghost use Rattle.reach_incremental.specs.Lanes.{is_live, is_one, lane, world_of, worlds, AreLaneRanks, AreLanesAbove, AreSmall, IsLaneFloor};
+ghost use Rattle.reach_incremental.specs.Lanes.{is_live, is_one, lane, world_of, worlds_under, base_of, AreLive, AgreeInLanes, AreLaneRanks, AreLanesAbove, AreSmall, IsLaneFloor};
 ghost use Rattle.reach_incremental.specs.Keys.{lane_sizes};
 
-use crate::lanes::Lanes;
+use crate::lanes::{LaneMarks, Lanes};
 use crate::visits::{refresh_all, settle_lanes};
 use graph_store::Rows;
 use index_heap::Heap;
@@ -75,39 +75,32 @@ fn repair_above<R: Rows<L>, L>(
     ranks: &mut [Lanes],
     floor: &[u32],
     rows: &R,
-    barred: &[bool],
-    granted: &[bool],
-    extras: &[Option<NodeId>; 16],
+    marks: LaneMarks<'_>,
     live: &[bool; 16],
     heap: &mut Heap,
     changed: &[NodeId],
     steps: &mut Steps<L>,
 )
-    requires marks { IsWhole (world (R.rows rows.now) barred.now granted.now None) }
+    requires marks { IsWhole (base_of (worlds_under (R.rows rows.now) marks)) }
     requires ranks { length ranks.old ≡ length (R.rows rows.now) }
     requires small { AreSmall ranks.old }
-    requires live { (l : ℕ) → l < 16 → slice_index_or live.now l false ≡ is_live (worlds (R.rows rows.now) barred.now granted.now extras.now) l }
-    requires some { (l : ℕ) × (l < 16) × (is_live (worlds (R.rows rows.now) barred.now granted.now extras.now) l ≡ true) }
-    requires floor { IsLaneFloor (worlds (R.rows rows.now) barred.now granted.now extras.now) floor.now }
-    requires above { AreLanesAbove (worlds (R.rows rows.now) barred.now granted.now extras.now) floor.now ranks.old }
+    requires live { AreLive (worlds_under (R.rows rows.now) marks) live.now }
+    requires some { (l : ℕ) × (l < 16) × (is_live (worlds_under (R.rows rows.now) marks) l ≡ true) }
+    requires floor { IsLaneFloor (worlds_under (R.rows rows.now) marks) floor.now }
+    requires above { AreLanesAbove (worlds_under (R.rows rows.now) marks) floor.now ranks.old }
     requires heap { heap.old ≡ replicate (length (R.rows rows.now)) None }
     requires changed { All (λ n. n.0 < length (R.rows rows.now)) changed.now }
-    requires agree { let ws = worlds (R.rows rows.now) barred.now granted.now extras.now in
-        (l : ℕ) → l < 16 → is_live ws l ≡ true → (n : ℕ) → n < length (R.rows rows.now) → has_node changed.now n ≡ false → Agrees (world_of ws l) (lane l ranks.old) n }
-    ensures ranks { AreLaneRanks (worlds (R.rows rows.now) barred.now granted.now extras.now) ranks.new }
+    requires agree { AgreeInLanes (worlds_under (R.rows rows.now) marks) changed.now ranks.old }
+    ensures ranks { AreLaneRanks (worlds_under (R.rows rows.now) marks.entry) ranks.new }
     ensures long { length ranks.new ≡ length (R.rows rows.now) }
     ensures small { AreSmall ranks.new }
     ensures heap { heap.new ≡ heap.old }
-    ensures steps { steps.new ≤ steps.old + 6 * lane_sizes (worlds (R.rows rows.now) barred.now granted.now extras.now) changed.now ranks.old ranks.new }
+    ensures steps { steps.new ≤ steps.old + 6 * lane_sizes (worlds_under (R.rows rows.now) marks.entry) changed.now ranks.old ranks.new }
     ensures later { steps.old ≤ steps.new }
 {
     let _count = rows.len();
-    refresh_all(
-        ranks, rows, barred, granted, extras, live, heap, changed, steps,
-    );
-    settle_lanes(
-        ranks, rows, barred, granted, extras, live, floor, heap, steps,
-    );
+    refresh_all(ranks, rows, marks, live, heap, changed, steps);
+    settle_lanes(ranks, rows, marks, live, floor, heap, steps);
 }
 
 /// Leaves the ranks of each live lane's world, that in which the lane's node is barred as well, of the rows and marks as
@@ -118,49 +111,33 @@ pub fn repair_lanes<R: Rows<L>, L>(
     ranks: &mut [Lanes],
     floor: &[u32],
     rows: &R,
-    barred: &[bool],
-    granted: &[bool],
-    extras: &[Option<NodeId>; 16],
+    marks: LaneMarks<'_>,
     heap: &mut Heap,
     changed: &[NodeId],
     steps: &mut Steps<L>,
 )
-    requires marks { IsWhole (world (R.rows rows.now) barred.now granted.now None) }
+    requires marks { IsWhole (base_of (worlds_under (R.rows rows.now) marks)) }
     requires ranks { length ranks.old ≡ length (R.rows rows.now) }
     requires small { AreSmall ranks.old }
-    requires floor { AreRanks (world (R.rows rows.now) barred.now granted.now None) floor.now }
+    requires floor { AreRanks (base_of (worlds_under (R.rows rows.now) marks)) floor.now }
     requires heap { heap.old ≡ replicate (length (R.rows rows.now)) None }
     requires changed { All (λ n. n.0 < length (R.rows rows.now)) changed.now }
-    requires agree { let ws = worlds (R.rows rows.now) barred.now granted.now extras.now in
-        (l : ℕ) → l < 16 → is_live ws l ≡ true → (n : ℕ) → n < length (R.rows rows.now) → has_node changed.now n ≡ false → Agrees (world_of ws l) (lane l ranks.old) n }
-    ensures ranks { AreLaneRanks (worlds (R.rows rows.now) barred.now granted.now extras.now) ranks.new }
+    requires agree { AgreeInLanes (worlds_under (R.rows rows.now) marks) changed.now ranks.old }
+    ensures ranks { AreLaneRanks (worlds_under (R.rows rows.now) marks.entry) ranks.new }
     ensures long { length ranks.new ≡ length (R.rows rows.now) }
     ensures small { AreSmall ranks.new }
     ensures heap { heap.new ≡ heap.old }
-    ensures steps { steps.new ≤ steps.old + 6 * lane_sizes (worlds (R.rows rows.now) barred.now granted.now extras.now) changed.now ranks.old ranks.new }
+    ensures steps { steps.new ≤ steps.old + 6 * lane_sizes (worlds_under (R.rows rows.now) marks.entry) changed.now ranks.old ranks.new }
     ensures later { steps.old ≤ steps.new }
 {
     let _count = rows.len();
-    let live = live_lanes(extras);
+    let live = live_lanes(marks.extras);
     if !is_any_live(&live) {
         return;
     }
     if are_above(ranks, &live, floor, changed) {
-        repair_above(
-            ranks, floor, rows, barred, granted, extras, &live, heap, changed, steps,
-        );
+        repair_above(ranks, floor, rows, marks, &live, heap, changed, steps);
     } else {
-        repair_above(
-            ranks,
-            &[],
-            rows,
-            barred,
-            granted,
-            extras,
-            &live,
-            heap,
-            changed,
-            steps,
-        );
+        repair_above(ranks, &[], rows, marks, &live, heap, changed, steps);
     }
 }

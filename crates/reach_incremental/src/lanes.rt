@@ -12,6 +12,14 @@ pub const LANES: usize = 16;
 /// The rank of one node in each of sixteen worlds, which stand in one line of a processor's memory.
 pub type Lanes = [u32; 16];
 
+/// Which nodes are barred and which are granted, and for each lane the node that is barred in its world as well.
+#[derive(Clone, Copy)]
+pub struct LaneMarks<'a> {
+    pub barred: &'a [bool],
+    pub granted: &'a [bool],
+    pub extras: &'a [Option<NodeId>; 16],
+}
+
 /// The earlier of a rank and one more than another.
 fn earlier_next(a: u32, b: u32) -> u32
     ensures { (k : ℕ) → k < 2 ^ 32 - 1 → is_one_to (k + 1) result ≡ (is_one_to (k + 1) a || is_one_to k b) }

@@ -11,7 +11,7 @@ use Rattle.reach_ranks.specs.Ranks.{is_one_to, within}
 use Rattle.reach_ranks.proofs.RoundLemmas.{admits-within}
 use Rattle.reach_ranks.proofs.RankLemmas.{one_to_none, one_to_no, one_to_yes, one_to_tells}
 use Rattle.reach_ranks.specs.Floors.{is_above, AreAbove, IsFloor}
-use Rattle.reach_ranks.specs.Given.{given, key_of, is_by, is_same_key, HoldsBounds, HoldsKeys, key_when_comes, key_when_goes, key_at_floor, key_after, next_kept, sum_below, early_keys, Marks}
+use Rattle.reach_ranks.specs.Given.{given, key_of, is_by, is_same_key, HoldsBounds, HoldsKeys, key_when_comes, key_when_goes, key_at_floor, key_after, next_kept, sum_below, early_keys, GivesKeys}
 use Rattle.reach_ranks.proofs.GivenLemmas.{one_to-given, given-le, key_of-none, key_of-some, is_by-refl, is_by-trans, is_by-none, key_of-same}
 use Rattle.reach_ranks.proofs.RepairLemmas.{given-same, not_user, sum_below-drop, lesser-of, lesser-le, over-above, or-first, has_node-more, over-is}
 use Rattle.reach_ranks.proofs.SizeLemmas.{sum_below-members, sum_below-zero}
@@ -256,7 +256,7 @@ small-set ranks u x n limit inside le was =
       | inr other ↦ omega (arith, get_or-set_other ranks u n x 0 other)
     ]
 
-pub bounds-marked : (w : World) (limit : ℕ) (floor ranks : List ℕ) (heap : List (Option ℕ)) (u k x : ℕ) (comes : Bool) (users : List NodeId) (new : List (Option ℕ)) → HoldsBounds w limit ranks heap → u < length w.rows → x ≤ limit → AreUsers w.rows u users → Marks comes k floor (set ranks u x) users (set (set heap u None) u (key_of x (given w limit ranks u))) new → ((n : ℕ) → n < length w.rows → (y : Option ℕ) → is_by y (key_of (get_or (set ranks u x) n 0) (given w limit ranks n)) ≡ true → is_by (key_after comes k (get_or floor n 1) y (get_or (set ranks u x) n 0)) (key_of (get_or (set ranks u x) n 0) (given w limit (set ranks u x) n)) ≡ true) → HoldsBounds w limit (set ranks u x) new
+pub bounds-marked : (w : World) (limit : ℕ) (floor ranks : List ℕ) (heap : List (Option ℕ)) (u k x : ℕ) (comes : Bool) (users : List NodeId) (new : List (Option ℕ)) → HoldsBounds w limit ranks heap → u < length w.rows → x ≤ limit → AreUsers w.rows u users → GivesKeys comes k floor (set ranks u x) users (set (set heap u None) u (key_of x (given w limit ranks u))) new → ((n : ℕ) → n < length w.rows → (y : Option ℕ) → is_by y (key_of (get_or (set ranks u x) n 0) (given w limit ranks n)) ≡ true → is_by (key_after comes k (get_or floor n 1) y (get_or (set ranks u x) n 0)) (key_of (get_or (set ranks u x) n 0) (given w limit (set ranks u x) n)) ≡ true) → HoldsBounds w limit (set ranks u x) new
 bounds-marked w limit floor ranks heap u k x comes users new holds inside le are marks step =
     let key : Option ℕ = key_of x (given w limit ranks u) in
     record {
@@ -278,7 +278,7 @@ bounds-marked w limit floor ranks heap u k x comes users new holds inside le are
       ];
     }
 
-pub bounds-comes : (w : World) (limit : ℕ) (floor ranks : List ℕ) (heap : List (Option ℕ)) (u k : ℕ) (users : List NodeId) (new : List (Option ℕ)) → HoldsBounds w limit ranks heap → IsFloor w limit floor → AreAbove floor (set ranks u k) → u < length w.rows → k ≤ limit → 0 < k → ((j : ℕ) → j < k → is_one_to j (get_or ranks u 0) ≡ false) → AreUsers w.rows u users → Marks true k floor (set ranks u k) users (set (set heap u None) u (key_of k (given w limit ranks u))) new → HoldsBounds w limit (set ranks u k) new
+pub bounds-comes : (w : World) (limit : ℕ) (floor ranks : List ℕ) (heap : List (Option ℕ)) (u k : ℕ) (users : List NodeId) (new : List (Option ℕ)) → HoldsBounds w limit ranks heap → IsFloor w limit floor → AreAbove floor (set ranks u k) → u < length w.rows → k ≤ limit → 0 < k → ((j : ℕ) → j < k → is_one_to j (get_or ranks u 0) ≡ false) → AreUsers w.rows u users → GivesKeys true k floor (set ranks u k) users (set (set heap u None) u (key_of k (given w limit ranks u))) new → HoldsBounds w limit (set ranks u k) new
 bounds-comes w limit floor ranks heap u k users new holds is above inside le pos earlier are marks =
     bounds-marked w limit floor ranks heap u k k true users new holds inside le are marks (λ n in_n y h.
     floor-right
@@ -295,7 +295,7 @@ bounds-comes w limit floor ranks heap u k users new holds is above inside le pos
     (is.keeps (set ranks u k) n in_n (length-set ranks u k ∙ holds.ranks_long) above)
     h)
 
-pub bounds-goes : (w : World) (limit : ℕ) (floor ranks : List ℕ) (heap : List (Option ℕ)) (u k : ℕ) (users : List NodeId) (new : List (Option ℕ)) → HoldsBounds w limit ranks heap → u < length w.rows → get_or ranks u 0 ≡ k → AreUsers w.rows u users → Marks false k floor (set ranks u 0) users (set (set heap u None) u (key_of 0 (given w limit ranks u))) new → HoldsBounds w limit (set ranks u 0) new
+pub bounds-goes : (w : World) (limit : ℕ) (floor ranks : List ℕ) (heap : List (Option ℕ)) (u k : ℕ) (users : List NodeId) (new : List (Option ℕ)) → HoldsBounds w limit ranks heap → u < length w.rows → get_or ranks u 0 ≡ k → AreUsers w.rows u users → GivesKeys false k floor (set ranks u 0) users (set (set heap u None) u (key_of 0 (given w limit ranks u))) new → HoldsBounds w limit (set ranks u 0) new
 bounds-goes w limit floor ranks heap u k users new holds inside is_k are marks =
     bounds-marked w limit floor ranks heap u k 0 false users new holds inside (omega arith) are marks (λ n in_n y h.
     goes-right y (get_or (set ranks u 0) n 0) (given w limit ranks n) (given w limit (set ranks u 0) n) k (given-goes w limit ranks u k n (omega (arith, holds.ranks_long)) is_k) h)
@@ -327,7 +327,7 @@ above-after w limit floor ranks u k x is above inside long here next =
           ∙ is.keeps ranks u inside long above
     ])
 
-pub bounds-after : (w : World) (limit : ℕ) (floor ranks : List ℕ) (heap popped put new : List (Option ℕ)) (u k x : ℕ) (comes : Bool) (users : List NodeId) → HoldsBounds w limit ranks heap → IsFloor w limit floor → AreAbove floor ranks → IsLeastAt heap (length heap) u k → key_of (get_or ranks u 0) (given w limit ranks u) ≡ Some k → x ≡ next_kept (get_or ranks u 0) k → comes ≡ eqb x k → popped ≡ set heap u None → put ≡ set popped u (key_of x (given w limit ranks u)) → AreUsers w.rows u users → Marks comes k floor (set ranks u x) users put new → HoldsBounds w limit (set ranks u x) new
+pub bounds-after : (w : World) (limit : ℕ) (floor ranks : List ℕ) (heap popped put new : List (Option ℕ)) (u k x : ℕ) (comes : Bool) (users : List NodeId) → HoldsBounds w limit ranks heap → IsFloor w limit floor → AreAbove floor ranks → IsLeastAt heap (length heap) u k → key_of (get_or ranks u 0) (given w limit ranks u) ≡ Some k → x ≡ next_kept (get_or ranks u 0) k → comes ≡ eqb x k → popped ≡ set heap u None → put ≡ set popped u (key_of x (given w limit ranks u)) → AreUsers w.rows u users → GivesKeys comes k floor (set ranks u x) users put new → HoldsBounds w limit (set ranks u x) new
 bounds-after w limit floor ranks heap popped put new u k x comes users holds floor_is above is here next comes_is popped_is put_is are marks =
     let g : ℕ = given w limit ranks u in
     let inside : u < length w.rows = omega (arith, is.inside, holds.heap_long) in
@@ -335,8 +335,8 @@ bounds-after w limit floor ranks heap popped put new u k x comes users holds flo
     let pos : 0 < k = lesser-of (get_or ranks u 0) g k t.0 t.1 in
     let le : k ≤ limit = lesser-le (get_or ranks u 0) g k limit t.1 (holds.small u inside) (given-le w limit ranks u) in
     let after : AreAbove floor (set ranks u x) = above-after w limit floor ranks u k x floor_is above inside holds.ranks_long here next in
-    let direct : Marks comes k floor (set ranks u x) users (set (set heap u None) u (key_of x g)) new =
-    subst (λ (h : List (Option ℕ)). Marks comes k floor (set ranks u x) users h new) (put_is ∙ ap (λ (h : List (Option ℕ)). set h u (key_of x g)) popped_is) marks in
+    let direct : GivesKeys comes k floor (set ranks u x) users (set (set heap u None) u (key_of x g)) new =
+    subst (λ (h : List (Option ℕ)). GivesKeys comes k floor (set ranks u x) users h new) (put_is ∙ ap (λ (h : List (Option ℕ)). set h u (key_of x g)) popped_is) marks in
     elim (cases_eq (get_or ranks u 0) k) [
       | inl under ↦
           let zero_is : x ≡ 0 = next ∙ next-goes (get_or ranks u 0) k under in
@@ -344,14 +344,14 @@ bounds-after w limit floor ranks heap popped put new u k x comes users holds flo
           subst
           (λ y. HoldsBounds w limit (set ranks u y) new)
           (sym zero_is)
-          (bounds-goes w limit floor ranks heap u k users new holds inside under are (subst (λ y. Marks false k floor (set ranks u y) users (set (set heap u None) u (key_of y g)) new) zero_is (subst (λ b. Marks b k floor (set ranks u x) users (set (set heap u None) u (key_of x g)) new) no direct)))
+          (bounds-goes w limit floor ranks heap u k users new holds inside under are (subst (λ y. GivesKeys false k floor (set ranks u y) users (set (set heap u None) u (key_of y g)) new) zero_is (subst (λ b. GivesKeys b k floor (set ranks u x) users (set (set heap u None) u (key_of x g)) new) no direct)))
       | inr over ↦
           let key_is : x ≡ k = next ∙ next-comes (get_or ranks u 0) k over in
           let yes_is : comes ≡ true = comes_is ∙ eq-eqb x k key_is in
           subst
           (λ y. HoldsBounds w limit (set ranks u y) new)
           (sym key_is)
-          (bounds-comes w limit floor ranks heap u k users new holds floor_is (subst (λ y. AreAbove floor (set ranks u y)) key_is after) inside le pos (λ j lt. over-above (get_or ranks u 0) g k j t.0 t.1 over lt) are (subst (λ y. Marks true k floor (set ranks u y) users (set (set heap u None) u (key_of y g)) new) key_is (subst (λ b. Marks b k floor (set ranks u x) users (set (set heap u None) u (key_of x g)) new) yes_is direct)))
+          (bounds-comes w limit floor ranks heap u k users new holds floor_is (subst (λ y. AreAbove floor (set ranks u y)) key_is after) inside le pos (λ j lt. over-above (get_or ranks u 0) g k j t.0 t.1 over lt) are (subst (λ y. GivesKeys true k floor (set ranks u y) users (set (set heap u None) u (key_of y g)) new) key_is (subst (λ b. GivesKeys b k floor (set ranks u x) users (set (set heap u None) u (key_of x g)) new) yes_is direct)))
     ]
 
 -- a key that isn't the right one is put right
@@ -401,7 +401,7 @@ pub bit-le : (b : Bool) → ◌≤◌ (cond b 0 1) 1
 bit-le true = omega arith
 bit-le false = omega arith
 
-pub early-after : (w : World) (limit : ℕ) (floor ranks : List ℕ) (heap popped put new : List (Option ℕ)) (u k x : ℕ) (comes : Bool) (users : List NodeId) → HoldsBounds w limit ranks heap → u < length heap → popped ≡ set heap u None → put ≡ set popped u (key_of x (given w limit ranks u)) → AreUsers w.rows u users → Marks comes k floor (set ranks u x) users put new → early_keys w limit (set ranks u x) new ≤ early_keys w limit ranks heap + user_count w.rows u
+pub early-after : (w : World) (limit : ℕ) (floor ranks : List ℕ) (heap popped put new : List (Option ℕ)) (u k x : ℕ) (comes : Bool) (users : List NodeId) → HoldsBounds w limit ranks heap → u < length heap → popped ≡ set heap u None → put ≡ set popped u (key_of x (given w limit ranks u)) → AreUsers w.rows u users → GivesKeys comes k floor (set ranks u x) users put new → early_keys w limit (set ranks u x) new ≤ early_keys w limit ranks heap + user_count w.rows u
 unfolding early_keys
 early-after w limit floor ranks heap popped put new u k x comes users holds inside popped_is put_is are marks =
     let key : Option ℕ = key_of x (given w limit ranks u) in
@@ -461,7 +461,7 @@ early-from_keys w limit ranks heap holds =
 
 -- one user more is given its key
 
-pub marks-more : (comes : Bool) (k : ℕ) (floor ranks : List ℕ) (nodes : List NodeId) (i : ℕ) (d : NodeId) (old heap new : List (Option ℕ)) → i < length nodes → (get_or nodes i d).0 < length old → Marks comes k floor ranks (take i nodes) old heap → new ≡ set heap (get_or nodes i d).0 (key_after comes k (get_or floor (get_or nodes i d).0 1) (key_at heap (get_or nodes i d).0) (get_or ranks (get_or nodes i d).0 0)) → Marks comes k floor ranks (take (i + 1) nodes) old new
+pub marks-more : (comes : Bool) (k : ℕ) (floor ranks : List ℕ) (nodes : List NodeId) (i : ℕ) (d : NodeId) (old heap new : List (Option ℕ)) → i < length nodes → (get_or nodes i d).0 < length old → GivesKeys comes k floor ranks (take i nodes) old heap → new ≡ set heap (get_or nodes i d).0 (key_after comes k (get_or floor (get_or nodes i d).0 1) (key_at heap (get_or nodes i d).0) (get_or ranks (get_or nodes i d).0 0)) → GivesKeys comes k floor ranks (take (i + 1) nodes) old new
 marks-more comes k floor ranks nodes i d old heap new lt inside m e =
     let u : ℕ = (get_or nodes i d).0 in
     let key : Option ℕ = key_after comes k (get_or floor u 1) (key_at heap u) (get_or ranks u 0) in

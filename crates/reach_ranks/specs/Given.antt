@@ -93,7 +93,7 @@ abbrev pub left_to_do : World → List ℕ → List (Option ℕ) → ℕ
 left_to_do w ranks heap = work_left w ranks + early_keys w (2 ^ 32 - 1) ranks heap
 
 -- each of the nodes has a key no later than it gets after a node got its rank k or lost it, and the other nodes keep theirs
-pub record Marks (comes : Bool) (k : ℕ) (floor ranks : List ℕ) (nodes : List NodeId) (old new : List (Option ℕ)) : Type 0 where
+pub record GivesKeys (comes : Bool) (k : ℕ) (floor ranks : List ℕ) (nodes : List NodeId) (old new : List (Option ℕ)) : Type 0 where
   pub as_long : length new ≡ length old
   pub at_nodes : (n : ℕ) → has_node nodes n ≡ true → is_by (key_at new n) (key_after comes k (slice_index_or floor n 1) (key_at old n) (slice_index ranks n)) ≡ true
   pub others : (n : ℕ) → has_node nodes n ≡ false → key_at new n ≡ key_at old n

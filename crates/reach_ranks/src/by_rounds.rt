@@ -1,9 +1,10 @@
 //! The ranks, computed from nothing, round by round, as the definition says it.
 ghost use Rattle.std.specs.Prelude.{◌≡◌, ◌+◌, ◌<◌, ◌≤◌, false, length, IfOk};
-ghost use Rattle.reach_ranks.specs.Rounds.{admits, world, IsWhole};
+ghost use Rattle.reach_ranks.specs.Rounds.{admits, world, world_under, IsWhole};
 ghost use Rattle.reach_ranks.specs.Ranks.{within, AreRanks, AreRanksTo};
 
-use crate::ranks::{Ranks, is_barred};
+use crate::marks::{Marks, is_barred};
+use crate::ranks::Ranks;
 use crate::satisfied::satisfies_row;
 use graph_store::Rows;
 use plan_base::{NoMemory, NodeId, Steps};
@@ -14,23 +15,21 @@ fn comes_in<R: Rows<L>, L>(
     ranks: &[u32],
     k: u32,
     rows: &R,
-    barred: &[bool],
-    granted: &[bool],
-    extra: Option<NodeId>,
+    marks: Marks<'_>,
     node: NodeId,
     steps: &mut Steps<L>,
 ) -> bool
     requires node { node.0 < length (R.rows rows.now) }
     requires ranks { length ranks.now ≡ length (R.rows rows.now) }
-    requires marks { IsWhole (world (R.rows rows.now) barred.now granted.now extra) }
-    ensures comes { result ≡ admits (world (R.rows rows.now) barred.now granted.now extra) (within ranks.now k) node.0 }
+    requires marks { IsWhole (world_under (R.rows rows.now) marks) }
+    ensures comes { result ≡ admits (world_under (R.rows rows.now) marks.entry) (within ranks.now k) node.0 }
     ensures later { steps.old ≤ steps.new }
 {
     let _count = rows.len();
-    if is_barred(barred, extra, node) {
+    if is_barred(marks, node) {
         return false;
     }
-    if granted[node.0 as usize] {
+    if marks.granted[node.0 as usize] {
         return true;
     }
     satisfies_row(ranks, k, rows.row(node, steps))
@@ -41,23 +40,19 @@ fn add_round<R: Rows<L>, L>(
     ranks: &mut [u32],
     k: u32,
     rows: &R,
-    barred: &[bool],
-    granted: &[bool],
-    extra: Option<NodeId>,
+    marks: Marks<'_>,
     steps: &mut Steps<L>,
 ) -> bool
-    requires before { AreRanksTo (world (R.rows rows.now) barred.now granted.now extra) k ranks.old }
-    requires marks { IsWhole (world (R.rows rows.now) barred.now granted.now extra) }
+    requires before { AreRanksTo (world_under (R.rows rows.now) marks) k ranks.old }
+    requires marks { IsWhole (world_under (R.rows rows.now) marks) }
     requires round { k < length (R.rows rows.now) }
-    ensures after { AreRanksTo (world (R.rows rows.now) barred.now granted.now extra) (k + 1) ranks.new }
+    ensures after { AreRanksTo (world_under (R.rows rows.now) marks.entry) (k + 1) ranks.new }
     ensures same { result ≡ false → ranks.new ≡ ranks.old }
     ensures later { steps.old ≤ steps.new }
 {
     let mut grew = false;
     for n in 0..rows.len() {
-        if ranks[n as usize] == 0
-            && comes_in(ranks, k, rows, barred, granted, extra, NodeId(n), steps)
-        {
+        if ranks[n as usize] == 0 && comes_in(ranks, k, rows, marks, NodeId(n), steps) {
             ranks[n as usize] = k + 1;
             grew = true;
         }
@@ -66,21 +61,14 @@ fn add_round<R: Rows<L>, L>(
 }
 
 /// Goes from no rounds to all of them.
-fn add_rounds<R: Rows<L>, L>(
-    ranks: &mut [u32],
-    rows: &R,
-    barred: &[bool],
-    granted: &[bool],
-    extra: Option<NodeId>,
-    steps: &mut Steps<L>,
-)
-    requires before { AreRanksTo (world (R.rows rows.now) barred.now granted.now extra) 0 ranks.old }
-    requires marks { IsWhole (world (R.rows rows.now) barred.now granted.now extra) }
-    ensures ranks { AreRanks (world (R.rows rows.now) barred.now granted.now extra) ranks.new }
+fn add_rounds<R: Rows<L>, L>(ranks: &mut [u32], rows: &R, marks: Marks<'_>, steps: &mut Steps<L>)
+    requires before { AreRanksTo (world_under (R.rows rows.now) marks) 0 ranks.old }
+    requires marks { IsWhole (world_under (R.rows rows.now) marks) }
+    ensures ranks { AreRanks (world_under (R.rows rows.now) marks.entry) ranks.new }
     ensures later { steps.old ≤ steps.new }
 {
     for k in 0..rows.len() {
-        if !add_round(ranks, k, rows, barred, granted, extra, steps) {
+        if !add_round(ranks, k, rows, marks, steps) {
             return;
         }
     }
@@ -106,6 +94,11 @@ pub fn ranks_by_rounds<R: Rows<L>, L>(
     ensures later { steps.old ≤ steps.new }
 {
     let mut of = vec![in alloc; 0u32; rows.len() as usize]?;
-    add_rounds(&mut of, rows, barred, granted, extra, steps);
+    let marks = Marks {
+        barred,
+        granted,
+        extra,
+    };
+    add_rounds(&mut of, rows, marks, steps);
     Ok(Ranks { of })
 }

@@ -1,12 +1,12 @@
 //! The rank that a node's row gives it.
 ghost use Rattle.std.specs.Prelude.{◌≡◌, ℕ, ◌+◌, ◌-◌, ◌^◌, ◌<◌, ◌≤◌, Some, All, length};
 ghost use Rattle.std.specs.List.{list_all, list_any};
-ghost use Rattle.reach_ranks.specs.Rounds.{is_satisfied, has_groups, world, IsWhole};
+ghost use Rattle.reach_ranks.specs.Rounds.{is_satisfied, has_groups, world_under, IsWhole};
 ghost use Rattle.reach_ranks.specs.Ranks.{is_one_to, within};
 ghost use Rattle.reach_ranks.specs.Given.{given};
 
+use crate::marks::{Marks, is_barred};
 use crate::order::{earlier, later, next_rank};
-use crate::ranks::is_barred;
 use graph_store::{Group, Row, Rows};
 use plan_base::{NodeId, Steps};
 
@@ -68,24 +68,22 @@ fn row_rank(ranks: &[u32], row: &Row) -> u32
 pub fn given_rank<R: Rows<L>, L>(
     ranks: &[u32],
     rows: &R,
-    barred: &[bool],
-    granted: &[bool],
-    extra: Option<NodeId>,
+    marks: Marks<'_>,
     node: NodeId,
     steps: &mut Steps<L>,
 ) -> u32
     requires node { node.0 < length (R.rows rows.now) }
     requires ranks { length ranks.now ≡ length (R.rows rows.now) }
-    requires marks { IsWhole (world (R.rows rows.now) barred.now granted.now extra) }
-    ensures given { result ≡ given (world (R.rows rows.now) barred.now granted.now extra) (2 ^ 32 - 1) ranks.now node.0 }
+    requires marks { IsWhole (world_under (R.rows rows.now) marks) }
+    ensures given { result ≡ given (world_under (R.rows rows.now) marks.entry) (2 ^ 32 - 1) ranks.now node.0 }
     ensures step { steps.new ≤ steps.old + 1 }
     ensures later { steps.old ≤ steps.new }
 {
     let _count = rows.len();
-    if is_barred(barred, extra, node) {
+    if is_barred(marks, node) {
         return 0;
     }
-    if granted[node.0 as usize] {
+    if marks.granted[node.0 as usize] {
         return 1;
     }
     row_rank(ranks, rows.row(node, steps))

@@ -1,13 +1,14 @@
 //! Visits: the node of the least key gets its rank, and the nodes that use it get their keys, until none has a key.
 ghost use Rattle.std.specs.Prelude.{◌≡◌, ℕ, ◌+◌, ◌*◌, ◌-◌, ◌^◌, ◌<◌, ◌≤◌, None, Some, false, true, All, length, replicate, slice_index, slice_index_or, slice_set};
 ghost use Rattle.index_heap.specs.Keys.{key_at};
-ghost use Rattle.reach_ranks.specs.Rounds.{world, IsWhole};
+ghost use Rattle.reach_ranks.specs.Rounds.{world_under, IsWhole};
 ghost use Rattle.reach_ranks.specs.Ranks.{AreRanks};
-ghost use Rattle.reach_ranks.specs.Given.{given, key_after, key_of, left_to_do, work_left, HoldsBounds, HoldsKeys, Marks, Refreshes};
+ghost use Rattle.reach_ranks.specs.Given.{given, key_after, key_of, left_to_do, work_left, HoldsBounds, HoldsKeys, GivesKeys, Refreshes};
 ghost use Rattle.reach_ranks.specs.Floors.{AreAbove, IsFloor};
 
 use crate::given::given_rank;
 use crate::keys::{floor_of, is_key, next_kept, put, right_key};
+use crate::marks::Marks;
 use graph_store::Rows;
 use index_heap::Heap;
 use plan_base::{NodeId, Steps};
@@ -16,9 +17,7 @@ use plan_base::{NodeId, Steps};
 pub fn refresh<R: Rows<L>, L>(
     ranks: &[u32],
     rows: &R,
-    barred: &[bool],
-    granted: &[bool],
-    extra: Option<NodeId>,
+    marks: Marks<'_>,
     heap: &mut Heap,
     node: NodeId,
     steps: &mut Steps<L>,
@@ -26,13 +25,13 @@ pub fn refresh<R: Rows<L>, L>(
     requires node { node.0 < length (R.rows rows.now) }
     requires ranks { length ranks.now ≡ length (R.rows rows.now) }
     requires heap { length heap.old ≡ length (R.rows rows.now) }
-    requires marks { IsWhole (world (R.rows rows.now) barred.now granted.now extra) }
-    ensures key { let by_row = given (world (R.rows rows.now) barred.now granted.now extra) (2 ^ 32 - 1) ranks.now node.0 in
+    requires marks { IsWhole (world_under (R.rows rows.now) marks) }
+    ensures key { let by_row = given (world_under (R.rows rows.now) marks.entry) (2 ^ 32 - 1) ranks.now node.0 in
         heap.new ≡ slice_set heap.old node.0 (key_of (slice_index ranks.now node.0) by_row) }
     ensures step { steps.new ≤ steps.old + 1 }
     ensures later { steps.old ≤ steps.new }
 {
-    let by_row = given_rank(ranks, rows, barred, granted, extra, node, steps);
+    let by_row = given_rank(ranks, rows, marks, node, steps);
     put(heap, node, right_key(ranks[node.0 as usize], by_row));
 }
 
@@ -40,9 +39,7 @@ pub fn refresh<R: Rows<L>, L>(
 pub fn refresh_all<R: Rows<L>, L>(
     ranks: &[u32],
     rows: &R,
-    barred: &[bool],
-    granted: &[bool],
-    extra: Option<NodeId>,
+    marks: Marks<'_>,
     heap: &mut Heap,
     nodes: &[NodeId],
     steps: &mut Steps<L>,
@@ -50,14 +47,14 @@ pub fn refresh_all<R: Rows<L>, L>(
     requires nodes { All (λ n. n.0 < length (R.rows rows.now)) nodes.now }
     requires ranks { length ranks.now ≡ length (R.rows rows.now) }
     requires heap { length heap.old ≡ length (R.rows rows.now) }
-    requires marks { IsWhole (world (R.rows rows.now) barred.now granted.now extra) }
-    ensures keys { Refreshes (world (R.rows rows.now) barred.now granted.now extra) (2 ^ 32 - 1) ranks.now nodes.now heap.old heap.new }
+    requires marks { IsWhole (world_under (R.rows rows.now) marks) }
+    ensures keys { Refreshes (world_under (R.rows rows.now) marks.entry) (2 ^ 32 - 1) ranks.now nodes.now heap.old heap.new }
     ensures small { (n : ℕ) → slice_index ranks.now n ≤ 2 ^ 32 - 1 }
     ensures steps { steps.new ≤ steps.old + length nodes.now }
     ensures later { steps.old ≤ steps.new }
 {
     for node in nodes {
-        refresh(ranks, rows, barred, granted, extra, heap, *node, steps);
+        refresh(ranks, rows, marks, heap, *node, steps);
     }
 }
 
@@ -83,7 +80,7 @@ fn key_after(comes: bool, k: u32, floor: u32, key: Option<u32>, rank: u32) -> Op
 }
 
 /// Gives a user its key after a node got its rank `k` or lost it.
-fn mark(ranks: &[u32], floor: &[u32], heap: &mut Heap, user: NodeId, comes: bool, k: u32)
+fn give_key(ranks: &[u32], floor: &[u32], heap: &mut Heap, user: NodeId, comes: bool, k: u32)
     requires node { user.0 < length heap.old }
     requires ranks { length ranks.now ≡ length heap.old }
     ensures { heap.new ≡ slice_set heap.old user.0 (key_after comes k (slice_index_or floor.now user.0 1) (key_at heap.old user.0) (slice_index ranks.now user.0)) }
@@ -97,13 +94,13 @@ fn mark(ranks: &[u32], floor: &[u32], heap: &mut Heap, user: NodeId, comes: bool
 }
 
 /// The same for each of the users.
-fn mark_all(ranks: &[u32], floor: &[u32], heap: &mut Heap, users: &[NodeId], comes: bool, k: u32)
+fn give_keys(ranks: &[u32], floor: &[u32], heap: &mut Heap, users: &[NodeId], comes: bool, k: u32)
     requires users { All (λ u. u.0 < length heap.old) users.now }
     requires ranks { length ranks.now ≡ length heap.old }
-    ensures marks { Marks comes k floor.now ranks.now users.now heap.old heap.new }
+    ensures keys { GivesKeys comes k floor.now ranks.now users.now heap.old heap.new }
 {
     for user in users {
-        mark(ranks, floor, heap, *user, comes, k);
+        give_key(ranks, floor, heap, *user, comes, k);
     }
 }
 
@@ -113,23 +110,21 @@ fn mark_all(ranks: &[u32], floor: &[u32], heap: &mut Heap, users: &[NodeId], com
 fn visit_least<R: Rows<L>, L>(
     ranks: &mut [u32],
     rows: &R,
-    barred: &[bool],
-    granted: &[bool],
-    extra: Option<NodeId>,
+    marks: Marks<'_>,
     floor: &[u32],
     heap: &mut Heap,
     steps: &mut Steps<L>,
 ) -> bool
-    requires marks { IsWhole (world (R.rows rows.now) barred.now granted.now extra) }
-    requires keys { HoldsBounds (world (R.rows rows.now) barred.now granted.now extra) (2 ^ 32 - 1) ranks.old heap.old }
-    requires floor { IsFloor (world (R.rows rows.now) barred.now granted.now extra) (2 ^ 32 - 1) floor.now }
+    requires marks { IsWhole (world_under (R.rows rows.now) marks) }
+    requires keys { HoldsBounds (world_under (R.rows rows.now) marks) (2 ^ 32 - 1) ranks.old heap.old }
+    requires floor { IsFloor (world_under (R.rows rows.now) marks) (2 ^ 32 - 1) floor.now }
     requires above { AreAbove floor.now ranks.old }
-    ensures keys { HoldsBounds (world (R.rows rows.now) barred.now granted.now extra) (2 ^ 32 - 1) ranks.new heap.new }
+    ensures keys { HoldsBounds (world_under (R.rows rows.now) marks.entry) (2 ^ 32 - 1) ranks.new heap.new }
     ensures above { AreAbove floor.now ranks.new }
     ensures none { result ≡ false → (n : ℕ) → n < length (R.rows rows.now) → key_at heap.new n ≡ None }
-    ensures steps { let w = world (R.rows rows.now) barred.now granted.now extra in
+    ensures steps { let w = world_under (R.rows rows.now) marks.entry in
         steps.new + left_to_do w ranks.new heap.new ≤ steps.old + left_to_do w ranks.old heap.old }
-    ensures nearer { let w = world (R.rows rows.now) barred.now granted.now extra in
+    ensures nearer { let w = world_under (R.rows rows.now) marks.entry in
         result ≡ true → left_to_do w ranks.new heap.new < left_to_do w ranks.old heap.old }
     ensures later { steps.old ≤ steps.new }
 {
@@ -137,7 +132,7 @@ fn visit_least<R: Rows<L>, L>(
     match heap.take_least() {
         None => false,
         Some((node, key)) => {
-            let by_row = given_rank(ranks, rows, barred, granted, extra, node, steps);
+            let by_row = given_rank(ranks, rows, marks, node, steps);
             let kept = ranks[node.0 as usize];
             if !is_key(right_key(kept, by_row), key) {
                 put(heap, node, right_key(kept, by_row));
@@ -147,7 +142,7 @@ fn visit_least<R: Rows<L>, L>(
             ranks[node.0 as usize] = next;
             put(heap, node, right_key(next, by_row));
             let users = rows.users(node, steps);
-            mark_all(ranks, floor, heap, users, next == key, key);
+            give_keys(ranks, floor, heap, users, next == key, key);
             true
         }
     }
@@ -160,43 +155,39 @@ fn visit_least<R: Rows<L>, L>(
 pub fn settle_above<R: Rows<L>, L>(
     ranks: &mut [u32],
     rows: &R,
-    barred: &[bool],
-    granted: &[bool],
-    extra: Option<NodeId>,
+    marks: Marks<'_>,
     floor: &[u32],
     heap: &mut Heap,
     steps: &mut Steps<L>,
 )
-    requires marks { IsWhole (world (R.rows rows.now) barred.now granted.now extra) }
-    requires keys { HoldsKeys (world (R.rows rows.now) barred.now granted.now extra) (2 ^ 32 - 1) ranks.old heap.old }
+    requires marks { IsWhole (world_under (R.rows rows.now) marks) }
+    requires keys { HoldsKeys (world_under (R.rows rows.now) marks) (2 ^ 32 - 1) ranks.old heap.old }
     requires few { length (R.rows rows.now) < 2 ^ 32 - 1 }
-    requires floor { IsFloor (world (R.rows rows.now) barred.now granted.now extra) (2 ^ 32 - 1) floor.now }
+    requires floor { IsFloor (world_under (R.rows rows.now) marks) (2 ^ 32 - 1) floor.now }
     requires above { AreAbove floor.now ranks.old }
-    ensures ranks { AreRanks (world (R.rows rows.now) barred.now granted.now extra) ranks.new }
+    ensures ranks { AreRanks (world_under (R.rows rows.now) marks.entry) ranks.new }
     ensures heap { heap.new ≡ replicate (length (R.rows rows.now)) None }
-    ensures steps { steps.new ≤ steps.old + work_left (world (R.rows rows.now) barred.now granted.now extra) ranks.old }
+    ensures steps { steps.new ≤ steps.old + work_left (world_under (R.rows rows.now) marks.entry) ranks.old }
     ensures later { steps.old ≤ steps.new }
 {
-    'visits: while visit_least(ranks, rows, barred, granted, extra, floor, heap, steps) {}
+    'visits: while visit_least(ranks, rows, marks, floor, heap, steps) {}
 }
 
 /// Visits nodes until none has a key.
 pub fn settle<R: Rows<L>, L>(
     ranks: &mut [u32],
     rows: &R,
-    barred: &[bool],
-    granted: &[bool],
-    extra: Option<NodeId>,
+    marks: Marks<'_>,
     heap: &mut Heap,
     steps: &mut Steps<L>,
 )
-    requires marks { IsWhole (world (R.rows rows.now) barred.now granted.now extra) }
-    requires keys { HoldsKeys (world (R.rows rows.now) barred.now granted.now extra) (2 ^ 32 - 1) ranks.old heap.old }
+    requires marks { IsWhole (world_under (R.rows rows.now) marks) }
+    requires keys { HoldsKeys (world_under (R.rows rows.now) marks) (2 ^ 32 - 1) ranks.old heap.old }
     requires few { length (R.rows rows.now) < 2 ^ 32 - 1 }
-    ensures ranks { AreRanks (world (R.rows rows.now) barred.now granted.now extra) ranks.new }
+    ensures ranks { AreRanks (world_under (R.rows rows.now) marks.entry) ranks.new }
     ensures heap { heap.new ≡ replicate (length (R.rows rows.now)) None }
-    ensures steps { steps.new ≤ steps.old + work_left (world (R.rows rows.now) barred.now granted.now extra) ranks.old }
+    ensures steps { steps.new ≤ steps.old + work_left (world_under (R.rows rows.now) marks.entry) ranks.old }
     ensures later { steps.old ≤ steps.new }
 {
-    settle_above(ranks, rows, barred, granted, extra, &[], heap, steps);
+    settle_above(ranks, rows, marks, &[], heap, steps);
 }

@@ -1,13 +1,13 @@
 -- The changed nodes alone have keys at first, and the sizes of the changes bound the work.
 use Rattle.std.proofs.Common.{arith}
-use Rattle.reach_incremental.specs.Lanes.{worlds}
+use Rattle.reach_incremental.specs.Lanes.{worlds_under}
 use Rattle.reach_incremental.proofs.RepairLemmas.{holds-start, right-start, work-size}
 use Rattle.reach_incremental.proofs.lane_repairs.repair_above.Goals as goal
 
 pub settle_lanes-requires-clause-keys : goal.settle_lanes-requires-clause-keys
 settle_lanes-requires-clause-keys g c =
     holds-start
-    (worlds (g.R.Rows.rows c.args.rows.now) c.args.barred.now c.args.granted.now c.args.extras.now)
+    (worlds_under (g.R.Rows.rows c.args.rows.now) c.args.marks)
     c.args.changed.now
     c.args.ranks.now
     c.args.heap.now
@@ -21,7 +21,7 @@ settle_lanes-requires-clause-keys g c =
 pub settle_lanes-requires-clause-right : goal.settle_lanes-requires-clause-right
 settle_lanes-requires-clause-right g c =
     right-start
-    (worlds (g.R.Rows.rows c.args.rows.now) c.args.barred.now c.args.granted.now c.args.extras.now)
+    (worlds_under (g.R.Rows.rows c.args.rows.now) c.args.marks)
     c.args.changed.now
     c.args.ranks.now
     c.args.heap.now
@@ -38,7 +38,7 @@ returns-clause-steps g c =
       c.refresh_all.ensures.steps,
       c.settle_lanes.ensures.steps,
       work-size
-          (worlds (g.R.Rows.rows c.args.rows.now) c.args.barred.now c.args.granted.now c.args.extras.now)
+          (worlds_under (g.R.Rows.rows c.args.rows.now) c.args.marks)
           c.args.changed.now
           c.args.ranks.now
           c.settle_lanes.new.ranks

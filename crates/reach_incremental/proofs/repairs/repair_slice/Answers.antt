@@ -1,6 +1,6 @@
 -- The changed nodes alone may hold keys at first, and the size of the change bounds the work.
 use Rattle.std.proofs.Common.{arith}
-use Rattle.reach_ranks.specs.Rounds.{world}
+use Rattle.reach_ranks.specs.Rounds.{world_under}
 use Rattle.reach_ranks.proofs.RepairLemmas.{holds-start}
 use Rattle.reach_ranks.proofs.SizeLemmas.{work_left-size}
 use Rattle.reach_incremental.proofs.repairs.repair_slice.Goals as goal
@@ -8,7 +8,7 @@ use Rattle.reach_incremental.proofs.repairs.repair_slice.Goals as goal
 pub settle-requires-clause-keys : goal.settle-requires-clause-keys
 settle-requires-clause-keys g c =
     holds-start
-    (world (g.R.Rows.rows c.args.rows.now) c.args.barred.now c.args.granted.now c.args.extra)
+    (world_under (g.R.Rows.rows c.args.rows.now) c.args.marks)
     4294967295
     c.args.ranks.now
     c.args.changed.now
@@ -27,7 +27,7 @@ returns-clause-steps g c =
       c.refresh_all.ensures.steps,
       c.settle.ensures.steps,
       work_left-size
-          (world (g.R.Rows.rows c.args.rows.now) c.args.barred.now c.args.granted.now c.args.extra)
+          (world_under (g.R.Rows.rows c.args.rows.now) c.args.marks)
           c.args.changed.now
           c.args.ranks.now
           c.settle.new.ranks

@@ -1,7 +1,7 @@
 -- The key is the least of the live lanes.
 use Rattle.std.proofs.Common.{◌∙◌, ℕ, Option, ap, sym, arith}
 use Rattle.std.specs.Prelude.{slice_set}
-use Rattle.reach_incremental.specs.Lanes.{worlds}
+use Rattle.reach_incremental.specs.Lanes.{worlds_under}
 use Rattle.reach_incremental.specs.Keys.{as_key}
 use Rattle.reach_incremental.proofs.LaneLemmas.{lane-at}
 use Rattle.reach_incremental.proofs.KeyLemmas.{right_key-is}
@@ -15,7 +15,7 @@ returns-clause-key g c =
     (c.as_key.ensures
     ∙ (ap (λ k. as_key k) c.least_key-least.ensures
     ∙ right_key-is
-    (worlds (g.R.Rows.rows c.args.rows.now) c.args.barred.now c.args.granted.now c.args.extras.now)
+    (worlds_under (g.R.Rows.rows c.args.rows.now) c.args.marks)
     c.args.ranks.now
     c.args.node.0
     c.args.live.now

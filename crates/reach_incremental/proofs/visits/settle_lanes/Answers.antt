@@ -2,7 +2,7 @@
 use Rattle.std.proofs.Common.{arith, length}
 use Rattle.reach_ranks.proofs.GivenLemmas.{ranks-from_none}
 use Rattle.reach_ranks.proofs.RepairLemmas.{none-everywhere, empty-from_none}
-use Rattle.reach_incremental.specs.Lanes.{lane, world_of, worlds}
+use Rattle.reach_incremental.specs.Lanes.{lane, world_of, worlds_under}
 use Rattle.reach_incremental.proofs.RepairLemmas.{early-none}
 use Rattle.reach_incremental.proofs.visits.settle_lanes.Goals as goal
 
@@ -12,7 +12,7 @@ visits-init g c = record {
   above = c.requires.above;
   steps = omega (
     arith,
-    early-none (worlds (g.R.Rows.rows c.args.rows.now) c.args.barred.now c.args.granted.now c.args.extras.now) c.args.ranks.now c.args.heap.now c.requires.right,
+    early-none (worlds_under (g.R.Rows.rows c.args.rows.now) c.args.marks) c.args.ranks.now c.args.heap.now c.requires.right,
   );
   later = omega arith;
 }
@@ -20,7 +20,7 @@ visits-init g c = record {
 pub returns-clause-ranks : goal.returns-clause-ranks
 returns-clause-ranks g c = λ l lt live.
     ranks-from_none
-    (world_of (worlds (g.R.Rows.rows c.args.rows.now) c.args.barred.now c.args.granted.now c.args.extras.now) l)
+    (world_of (worlds_under (g.R.Rows.rows c.args.rows.now) c.args.marks) l)
     (record { barred = c.requires.marks.barred; granted = c.requires.marks.granted })
     4294967295
     (lane l c.visit_least.new.ranks)

@@ -1,6 +1,6 @@
 -- The graph's size bounds the work from no ranks.
 use Rattle.std.proofs.Common.{arith}
-use Rattle.reach_ranks.specs.Rounds.{world}
+use Rattle.reach_ranks.specs.Rounds.{world_under}
 use Rattle.reach_ranks.proofs.SizeLemmas.{work_left-from_zero}
 use Rattle.reach_ranks.proofs.afresh.settle_all.Goals as goal
 
@@ -11,7 +11,7 @@ returns-clause-steps g c =
       c.refresh_each.ensures.steps,
       c.settle.ensures.steps,
       work_left-from_zero
-          (world (g.R.Rows.rows c.args.rows.now) c.args.barred.now c.args.granted.now c.args.extra)
+          (world_under (g.R.Rows.rows c.args.rows.now) c.args.marks)
           c.args.ranks.now
           c.requires.ranks,
     )

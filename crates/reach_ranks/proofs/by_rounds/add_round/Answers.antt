@@ -1,14 +1,14 @@
 -- A node that comes in gets the new round's number, and the others keep what they have.
 use Rattle.std.proofs.Common.{◌+◌, List, ℕ, sym, ◌∙◌, subst, arith}
 use Rattle.std.proofs.lemmas.Bool.{false≢true}
-use Rattle.reach_ranks.specs.Rounds.{world}
+use Rattle.reach_ranks.specs.Rounds.{world_under}
 use Rattle.reach_ranks.proofs.Between.{IsBetween, between-in, between-out, between-held}
 use Rattle.reach_ranks.proofs.by_rounds.add_round.Goals as goal
 use Rattle.reach_ranks.proofs.by_rounds.add_round.Goals.{then-ranks-n-eq0+then-comes_in, else-ranks-n-eq0, else-ranks-n-eq0-via-then-ranks-n-eq0+else-comes_in, else-ranks-n-eq0-via-else-ranks-n-eq0}
 
 pub loop-n-preserved : goal.loop-n-preserved
 loop-n-preserved g c =
-    let w0 = world (g.R.Rows.rows c.args.rows.now) c.args.barred.now c.args.granted.now c.args.extra in
+    let w0 = world_under (g.R.Rows.rows c.args.rows.now) c.args.marks in
     let old = c.loop-n.invariant.between in
     elim c.if-ranks-n-eq0.branch [
       | then-ranks-n-eq0+then-comes_in w ↦ record {

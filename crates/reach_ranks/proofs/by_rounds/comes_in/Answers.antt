@@ -1,6 +1,6 @@
 -- The three ways in which a node comes in or not.
 use Rattle.std.proofs.Common.{length, sym, ◌∙◌, ap}
-use Rattle.reach_ranks.specs.Rounds.{world, has_groups}
+use Rattle.reach_ranks.specs.Rounds.{world_under, has_groups}
 use Rattle.reach_ranks.specs.Ranks.{within}
 use Rattle.reach_ranks.proofs.RankLemmas.{admits-barred, admits-granted, admits-by_row}
 use Rattle.reach_ranks.proofs.Between.{members-of_row}
@@ -9,19 +9,19 @@ use Rattle.reach_ranks.proofs.by_rounds.comes_in.Goals as goal
 pub returns-then-is_barred-clause-comes : goal.returns-then-is_barred-clause-comes
 returns-then-is_barred-clause-comes g c =
     sym (admits-barred
-    (world (g.R.Rows.rows c.args.rows.now) c.args.barred.now c.args.granted.now c.args.extra)
+    (world_under (g.R.Rows.rows c.args.rows.now) c.args.marks)
     (within c.args.ranks.now c.args.k)
     c.args.node.0
     (sym c.is_barred.ensures ∙ c.if-is_barred.true))
 
-pub returns-then-granted-node-clause-comes : goal.returns-then-granted-node-clause-comes
-returns-then-granted-node-clause-comes g c =
+pub returns-then-marks-node-clause-comes : goal.returns-then-marks-node-clause-comes
+returns-then-marks-node-clause-comes g c =
     sym (admits-granted
-    (world (g.R.Rows.rows c.args.rows.now) c.args.barred.now c.args.granted.now c.args.extra)
+    (world_under (g.R.Rows.rows c.args.rows.now) c.args.marks)
     (within c.args.ranks.now c.args.k)
     c.args.node.0
     (sym c.is_barred.ensures ∙ c.if-is_barred.false)
-    c.if-granted-node.true)
+    c.if-marks-node.true)
 
 pub satisfies_row-requires : goal.satisfies_row-requires
 satisfies_row-requires g c =
@@ -41,8 +41,8 @@ returns-clause-comes g c =
     c.satisfies_row.ensures
     ∙ (ap (has_groups (within c.args.ranks.now c.args.k)) (sym c.row.ensures.row)
     ∙ sym (admits-by_row
-    (world (g.R.Rows.rows c.args.rows.now) c.args.barred.now c.args.granted.now c.args.extra)
+    (world_under (g.R.Rows.rows c.args.rows.now) c.args.marks)
     (within c.args.ranks.now c.args.k)
     c.args.node.0
     (sym c.is_barred.ensures ∙ c.if-is_barred.false)
-    c.if-granted-node.false))
+    c.if-marks-node.false))

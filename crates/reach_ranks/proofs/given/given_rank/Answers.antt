@@ -1,6 +1,6 @@
 -- The three ways in which a node gets its rank.
 use Rattle.std.proofs.Common.{length, sym, ◌∙◌, arith}
-use Rattle.reach_ranks.specs.Rounds.{world}
+use Rattle.reach_ranks.specs.Rounds.{world_under}
 use Rattle.reach_ranks.proofs.Between.{members-of_row}
 use Rattle.reach_ranks.proofs.GivenLemmas.{given-barred, given-granted, given-by_row}
 use Rattle.reach_ranks.proofs.given.given_rank.Goals as goal
@@ -8,22 +8,22 @@ use Rattle.reach_ranks.proofs.given.given_rank.Goals as goal
 pub returns-then-is_barred-clause-given : goal.returns-then-is_barred-clause-given
 returns-then-is_barred-clause-given g c =
     given-barred
-    (world (g.R.Rows.rows c.args.rows.now) c.args.barred.now c.args.granted.now c.args.extra)
+    (world_under (g.R.Rows.rows c.args.rows.now) c.args.marks)
     4294967295
     c.args.ranks.now
     c.args.node.0
     (sym c.is_barred.ensures ∙ c.if-is_barred.true)
 
-pub returns-then-granted-node-clause-given : goal.returns-then-granted-node-clause-given
-returns-then-granted-node-clause-given g c =
+pub returns-then-marks-node-clause-given : goal.returns-then-marks-node-clause-given
+returns-then-marks-node-clause-given g c =
     given-granted
-    (world (g.R.Rows.rows c.args.rows.now) c.args.barred.now c.args.granted.now c.args.extra)
+    (world_under (g.R.Rows.rows c.args.rows.now) c.args.marks)
     4294967295
     c.args.ranks.now
     c.args.node.0
     (omega arith)
     (sym c.is_barred.ensures ∙ c.if-is_barred.false)
-    c.if-granted-node.true
+    c.if-marks-node.true
 
 pub row_rank-requires : goal.row_rank-requires
 row_rank-requires g c =
@@ -41,7 +41,7 @@ row_rank-requires g c =
 pub returns-clause-given : goal.returns-clause-given
 returns-clause-given g c =
     given-by_row
-    (world (g.R.Rows.rows c.args.rows.now) c.args.barred.now c.args.granted.now c.args.extra)
+    (world_under (g.R.Rows.rows c.args.rows.now) c.args.marks)
     4294967295
     c.args.ranks.now
     c.args.node.0
@@ -49,6 +49,6 @@ returns-clause-given g c =
     c.row.result.now
     (omega arith)
     (sym c.is_barred.ensures ∙ c.if-is_barred.false)
-    c.if-granted-node.false
+    c.if-marks-node.false
     c.row.ensures.row
     c.row_rank.ensures

@@ -1,13 +1,13 @@
 -- One node more has its key.
 use Rattle.std.proofs.Common.{arith}
-use Rattle.reach_ranks.specs.Rounds.{world}
+use Rattle.reach_ranks.specs.Rounds.{world_under}
 use Rattle.reach_ranks.proofs.RepairLemmas.{refresh-more}
 use Rattle.reach_ranks.proofs.visits.refresh_all.Goals as goal
 
 pub loop-node-preserved : goal.loop-node-preserved
 loop-node-preserved g c = record {
   keys = refresh-more
-      (world (g.R.Rows.rows c.args.rows.now) c.args.barred.now c.args.granted.now c.args.extra)
+      (world_under (g.R.Rows.rows c.args.rows.now) c.args.marks)
       4294967295
       c.args.ranks.now
       c.args.nodes.now

@@ -1,6 +1,6 @@
 -- Right keys are kept early; with no key left the ranks are right.
 use Rattle.std.proofs.Common.{arith, length}
-use Rattle.reach_ranks.specs.Rounds.{world}
+use Rattle.reach_ranks.specs.Rounds.{world_under}
 use Rattle.reach_ranks.proofs.GivenLemmas.{ranks-from_none}
 use Rattle.reach_ranks.proofs.MarkLemmas.{bounds-from_keys, early-from_keys}
 use Rattle.reach_ranks.proofs.RepairLemmas.{none-everywhere, empty-from_none}
@@ -8,16 +8,16 @@ use Rattle.reach_ranks.proofs.visits.settle_above.Goals as goal
 
 pub visits-init : goal.visits-init
 visits-init g c = record {
-  keys = bounds-from_keys (world (g.R.Rows.rows c.args.rows.now) c.args.barred.now c.args.granted.now c.args.extra) 4294967295 c.args.ranks.now c.args.heap.now c.requires.keys;
+  keys = bounds-from_keys (world_under (g.R.Rows.rows c.args.rows.now) c.args.marks) 4294967295 c.args.ranks.now c.args.heap.now c.requires.keys;
   above = c.requires.above;
-  steps = omega (arith, early-from_keys (world (g.R.Rows.rows c.args.rows.now) c.args.barred.now c.args.granted.now c.args.extra) 4294967295 c.args.ranks.now c.args.heap.now c.requires.keys);
+  steps = omega (arith, early-from_keys (world_under (g.R.Rows.rows c.args.rows.now) c.args.marks) 4294967295 c.args.ranks.now c.args.heap.now c.requires.keys);
   later = omega arith;
 }
 
 pub returns-clause-ranks : goal.returns-clause-ranks
 returns-clause-ranks g c =
     ranks-from_none
-    (world (g.R.Rows.rows c.args.rows.now) c.args.barred.now c.args.granted.now c.args.extra)
+    (world_under (g.R.Rows.rows c.args.rows.now) c.args.marks)
     c.requires.marks
     4294967295
     c.visit_least.new.ranks

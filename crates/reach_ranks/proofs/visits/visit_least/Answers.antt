@@ -1,7 +1,7 @@
 -- A visit keeps each key early enough, and takes no more steps than it leaves fewer to do.
 use Rattle.std.proofs.Common.{◌≡◌, ℕ, Option, Some, refl, sym, ◌∙◌, ap, get_or, arith}
 use Rattle.std.specs.Prelude.{◌==◌, slice_set}
-use Rattle.reach_ranks.specs.Rounds.{world}
+use Rattle.reach_ranks.specs.Rounds.{world_under}
 use Rattle.reach_ranks.specs.Given.{given, key_of, is_same_key}
 use Rattle.reach_ranks.proofs.RepairLemmas.{work_left-after}
 use Rattle.reach_ranks.proofs.MarkLemmas.{above-after, bounds-after, early-after, early-put, same_key-is}
@@ -16,7 +16,7 @@ returns-then-not-is_key-clause-steps g c =
       arith,
       c.given_rank-by_row.ensures.step,
       early-put
-          (world (g.R.Rows.rows c.args.rows.now) c.args.barred.now c.args.granted.now c.args.extra)
+          (world_under (g.R.Rows.rows c.args.rows.now) c.args.marks)
           4294967295
           c.args.ranks.now
           c.args.heap.now
@@ -37,7 +37,7 @@ returns-then-not-is_key-clause-nearer g c = λ _.
     omega (
       arith,
       early-put
-          (world (g.R.Rows.rows c.args.rows.now) c.args.barred.now c.args.granted.now c.args.extra)
+          (world_under (g.R.Rows.rows c.args.rows.now) c.args.marks)
           4294967295
           c.args.ranks.now
           c.args.heap.now
@@ -56,14 +56,14 @@ returns-then-not-is_key-clause-nearer g c = λ _.
 pub returns-else-not-is_key-clause-keys : goal.returns-else-not-is_key-clause-keys
 returns-else-not-is_key-clause-keys g c =
     bounds-after
-    (world (g.R.Rows.rows c.args.rows.now) c.args.barred.now c.args.granted.now c.args.extra)
+    (world_under (g.R.Rows.rows c.args.rows.now) c.args.marks)
     4294967295
     c.args.floor.now
     c.args.ranks.now
     c.args.heap.now
     c.take_least.new.self
     c.put-in-Some.new.heap
-    c.mark_all.new.heap
+    c.give_keys.new.heap
     c.in-Some.node.0
     c.in-Some.key
     c.next_kept-next.result
@@ -73,13 +73,13 @@ returns-else-not-is_key-clause-keys g c =
     c.requires.floor
     c.requires.above
     c.in-Some.ensures.least
-    (right-is (get_or c.args.ranks.now c.in-Some.node.0 0) c.given_rank-by_row.result (given (world (g.R.Rows.rows c.args.rows.now) c.args.barred.now c.args.granted.now c.args.extra) 4294967295 c.args.ranks.now c.in-Some.node.0) c.right_key.result (Some c.in-Some.key) c.given_rank-by_row.ensures.given c.right_key.ensures (same_key-is c.right_key.result c.in-Some.key (sym c.is_key.ensures ∙ c.if-not-is_key.false)))
+    (right-is (get_or c.args.ranks.now c.in-Some.node.0 0) c.given_rank-by_row.result (given (world_under (g.R.Rows.rows c.args.rows.now) c.args.marks) 4294967295 c.args.ranks.now c.in-Some.node.0) c.right_key.result (Some c.in-Some.key) c.given_rank-by_row.ensures.given c.right_key.ensures (same_key-is c.right_key.result c.in-Some.key (sym c.is_key.ensures ∙ c.if-not-is_key.false)))
     c.next_kept-next.ensures
     refl
     c.in-Some.ensures.some
     (c.put-in-Some.ensures ∙ ap (λ (key : Option ℕ). slice_set c.take_least.new.self c.in-Some.node.0 key) (c.right_key-in-Some.ensures ∙ ap (λ b. key_of c.next_kept-next.result b) c.given_rank-by_row.ensures.given))
     c.users-users.ensures.users
-    c.mark_all.ensures.marks
+    c.give_keys.ensures.keys
 
 pub returns-else-not-is_key-clause-steps : goal.returns-else-not-is_key-clause-steps
 returns-else-not-is_key-clause-steps g c =
@@ -88,7 +88,7 @@ returns-else-not-is_key-clause-steps g c =
       c.given_rank-by_row.ensures.step,
       c.users-users.ensures.step,
       work_left-after
-          (world (g.R.Rows.rows c.args.rows.now) c.args.barred.now c.args.granted.now c.args.extra)
+          (world_under (g.R.Rows.rows c.args.rows.now) c.args.marks)
           c.requires.marks
           4294967295
           c.args.ranks.now
@@ -98,17 +98,17 @@ returns-else-not-is_key-clause-steps g c =
           c.next_kept-next.result
           c.requires.keys
           c.in-Some.ensures.least
-          (right-is (get_or c.args.ranks.now c.in-Some.node.0 0) c.given_rank-by_row.result (given (world (g.R.Rows.rows c.args.rows.now) c.args.barred.now c.args.granted.now c.args.extra) 4294967295 c.args.ranks.now c.in-Some.node.0) c.right_key.result (Some c.in-Some.key) c.given_rank-by_row.ensures.given c.right_key.ensures (same_key-is c.right_key.result c.in-Some.key (sym c.is_key.ensures ∙ c.if-not-is_key.false)))
+          (right-is (get_or c.args.ranks.now c.in-Some.node.0 0) c.given_rank-by_row.result (given (world_under (g.R.Rows.rows c.args.rows.now) c.args.marks) 4294967295 c.args.ranks.now c.in-Some.node.0) c.right_key.result (Some c.in-Some.key) c.given_rank-by_row.ensures.given c.right_key.ensures (same_key-is c.right_key.result c.in-Some.key (sym c.is_key.ensures ∙ c.if-not-is_key.false)))
           c.next_kept-next.ensures,
       early-after
-          (world (g.R.Rows.rows c.args.rows.now) c.args.barred.now c.args.granted.now c.args.extra)
+          (world_under (g.R.Rows.rows c.args.rows.now) c.args.marks)
           4294967295
           c.args.floor.now
           c.args.ranks.now
           c.args.heap.now
           c.take_least.new.self
           c.put-in-Some.new.heap
-          c.mark_all.new.heap
+          c.give_keys.new.heap
           c.in-Some.node.0
           c.in-Some.key
           c.next_kept-next.result
@@ -119,7 +119,7 @@ returns-else-not-is_key-clause-steps g c =
           c.in-Some.ensures.some
           (c.put-in-Some.ensures ∙ ap (λ (key : Option ℕ). slice_set c.take_least.new.self c.in-Some.node.0 key) (c.right_key-in-Some.ensures ∙ ap (λ b. key_of c.next_kept-next.result b) c.given_rank-by_row.ensures.given))
           c.users-users.ensures.users
-          c.mark_all.ensures.marks,
+          c.give_keys.ensures.keys,
     )
 
 pub returns-else-not-is_key-clause-nearer : goal.returns-else-not-is_key-clause-nearer
@@ -127,7 +127,7 @@ returns-else-not-is_key-clause-nearer g c = λ _.
     omega (
       arith,
       work_left-after
-          (world (g.R.Rows.rows c.args.rows.now) c.args.barred.now c.args.granted.now c.args.extra)
+          (world_under (g.R.Rows.rows c.args.rows.now) c.args.marks)
           c.requires.marks
           4294967295
           c.args.ranks.now
@@ -137,17 +137,17 @@ returns-else-not-is_key-clause-nearer g c = λ _.
           c.next_kept-next.result
           c.requires.keys
           c.in-Some.ensures.least
-          (right-is (get_or c.args.ranks.now c.in-Some.node.0 0) c.given_rank-by_row.result (given (world (g.R.Rows.rows c.args.rows.now) c.args.barred.now c.args.granted.now c.args.extra) 4294967295 c.args.ranks.now c.in-Some.node.0) c.right_key.result (Some c.in-Some.key) c.given_rank-by_row.ensures.given c.right_key.ensures (same_key-is c.right_key.result c.in-Some.key (sym c.is_key.ensures ∙ c.if-not-is_key.false)))
+          (right-is (get_or c.args.ranks.now c.in-Some.node.0 0) c.given_rank-by_row.result (given (world_under (g.R.Rows.rows c.args.rows.now) c.args.marks) 4294967295 c.args.ranks.now c.in-Some.node.0) c.right_key.result (Some c.in-Some.key) c.given_rank-by_row.ensures.given c.right_key.ensures (same_key-is c.right_key.result c.in-Some.key (sym c.is_key.ensures ∙ c.if-not-is_key.false)))
           c.next_kept-next.ensures,
       early-after
-          (world (g.R.Rows.rows c.args.rows.now) c.args.barred.now c.args.granted.now c.args.extra)
+          (world_under (g.R.Rows.rows c.args.rows.now) c.args.marks)
           4294967295
           c.args.floor.now
           c.args.ranks.now
           c.args.heap.now
           c.take_least.new.self
           c.put-in-Some.new.heap
-          c.mark_all.new.heap
+          c.give_keys.new.heap
           c.in-Some.node.0
           c.in-Some.key
           c.next_kept-next.result
@@ -158,13 +158,13 @@ returns-else-not-is_key-clause-nearer g c = λ _.
           c.in-Some.ensures.some
           (c.put-in-Some.ensures ∙ ap (λ (key : Option ℕ). slice_set c.take_least.new.self c.in-Some.node.0 key) (c.right_key-in-Some.ensures ∙ ap (λ b. key_of c.next_kept-next.result b) c.given_rank-by_row.ensures.given))
           c.users-users.ensures.users
-          c.mark_all.ensures.marks,
+          c.give_keys.ensures.keys,
     )
 
 pub returns-else-not-is_key-clause-above : goal.returns-else-not-is_key-clause-above
 returns-else-not-is_key-clause-above g c =
     above-after
-    (world (g.R.Rows.rows c.args.rows.now) c.args.barred.now c.args.granted.now c.args.extra)
+    (world_under (g.R.Rows.rows c.args.rows.now) c.args.marks)
     4294967295
     c.args.floor.now
     c.args.ranks.now
@@ -175,5 +175,5 @@ returns-else-not-is_key-clause-above g c =
     c.requires.above
     (omega (arith, c.requires.keys.heap_long, c.in-Some.ensures.least.inside))
     c.requires.keys.ranks_long
-    (right-is (get_or c.args.ranks.now c.in-Some.node.0 0) c.given_rank-by_row.result (given (world (g.R.Rows.rows c.args.rows.now) c.args.barred.now c.args.granted.now c.args.extra) 4294967295 c.args.ranks.now c.in-Some.node.0) c.right_key.result (Some c.in-Some.key) c.given_rank-by_row.ensures.given c.right_key.ensures (same_key-is c.right_key.result c.in-Some.key (sym c.is_key.ensures ∙ c.if-not-is_key.false)))
+    (right-is (get_or c.args.ranks.now c.in-Some.node.0 0) c.given_rank-by_row.result (given (world_under (g.R.Rows.rows c.args.rows.now) c.args.marks) 4294967295 c.args.ranks.now c.in-Some.node.0) c.right_key.result (Some c.in-Some.key) c.given_rank-by_row.ensures.given c.right_key.ensures (same_key-is c.right_key.result c.in-Some.key (sym c.is_key.ensures ∙ c.if-not-is_key.false)))
     c.next_kept-next.ensures

@@ -4,7 +4,7 @@ ghost use Rattle.index_heap.specs.Keys.{key_at};
 ghost use Rattle.reach_ranks.specs.Ranks.{is_one_to};
 ghost use Rattle.reach_ranks.specs.Given.{is_by, key_after};
 ghost use Rattle.reach_incremental.specs.Lanes.{lane};
-ghost use Rattle.reach_incremental.specs.Keys.{key_when_some_come, sooner, MarksLanes};
+ghost use Rattle.reach_incremental.specs.Keys.{key_when_some_come, sooner, GivesLaneKeys};
 
 use crate::lanes::Lanes;
 use index_heap::Heap;
@@ -115,7 +115,7 @@ fn user_key(
 }
 
 /// Gives a user its key after a node got other ranks under the key `by`.
-fn mark(
+fn give_key(
     ranks: &[Lanes],
     floor: &[u32],
     heap: &mut Heap,
@@ -142,7 +142,7 @@ fn mark(
 }
 
 /// The same for each of the users.
-pub fn mark_all(
+pub fn give_keys(
     ranks: &[Lanes],
     floor: &[u32],
     heap: &mut Heap,
@@ -153,10 +153,10 @@ pub fn mark_all(
 )
     requires users { All (λ u. u.0 < length heap.old) users.now }
     requires ranks { length ranks.now ≡ length heap.old }
-    ensures marks { MarksLanes by floor.now ranks.now was.now is.now users.now heap.old heap.new }
+    ensures keys { GivesLaneKeys by floor.now ranks.now was.now is.now users.now heap.old heap.new }
 {
     let come = does_any_come(was, is, by);
     for user in users {
-        mark(ranks, floor, heap, *user, was, is, by, come);
+        give_key(ranks, floor, heap, *user, was, is, by, come);
     }
 }

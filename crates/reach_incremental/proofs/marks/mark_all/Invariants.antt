@@ -1,6 +1,0 @@
-use Rattle.std.proofs.Common.{take}
-use Rattle.reach_incremental.specs.Keys.{MarksLanes}
-use Rattle.reach_incremental.proofs.marks.mark_all.Given as goal
-
-abbrev pub invariant-loop-user : goal.invariant-loop-user
-invariant-loop-user l = MarksLanes l.fn.by l.fn.floor l.fn.ranks l.fn.was l.fn.is (take l.user-index l.users) l.initial.heap l.heap

@@ -1,6 +1,0 @@
-use Rattle.std.proofs.Common.{take}
-use Rattle.reach_ranks.specs.Given.{Marks}
-use Rattle.reach_ranks.proofs.visits.mark_all.Given as goal
-
-abbrev pub invariant-loop-user : goal.invariant-loop-user
-invariant-loop-user l = Marks l.fn.comes l.fn.k l.fn.floor l.fn.ranks (take l.user-index l.users) l.initial.heap l.heap
