@@ -11,7 +11,7 @@ use Rattle.plan_base.specs.declared.NodeId.{NodeId}
 use Rattle.graph_store.specs.declared.Row.{Row}
 use Rattle.graph_store.proofs.TidyLemmas.{any-then}
 use Rattle.reach_ranks.specs.Rounds.{world}
-use Rattle.reach_ranks.specs.Ranks.{AreRanks, Agrees}
+use Rattle.reach_ranks.specs.Ranks.{AgreeBut, AreRanks, Agrees}
 use Rattle.reach_ranks.specs.Given.{size_of, sum_below}
 use Rattle.reach_ranks.proofs.SizeLemmas.{only_at, only_at-same, sum_below-le, sum_below-le_add, sum_below-only, sum_below-zero, cond-or}
 use Rattle.reach_incremental.specs.Lanes.{AgreeInLanes, is_one, worlds, AreLaneRanks, AreSmall}
@@ -19,7 +19,7 @@ use Rattle.reach_incremental.specs.Keys.{lane_sizes}
 use Rattle.milestone_masks.specs.declared.worlds.Milestone.{Milestone}
 use Rattle.milestone_masks.specs.declared.slots.Slot.{Slot}
 use Rattle.milestone_masks.specs.declared.blocks.Block.{Block}
-use Rattle.milestone_masks.specs.Worlds.{ranks_of, size_in_world, AgreeBut}
+use Rattle.milestone_masks.specs.Worlds.{ranks_of, size_in_world}
 use Rattle.milestone_masks.specs.Held.{rows_of, extras_of, ranks_at, extra_at, milestone_of, milestones_in, has_slot, size_in_block, AreBlocks, AreRepaired, AreSlots}
 use Rattle.milestone_masks.proofs.SlotLemmas.{get-set_same, get-set_other}
 use Rattle.milestone_masks.proofs.OwnedLemmas.{both-tell}

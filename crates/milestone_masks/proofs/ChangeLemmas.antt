@@ -8,9 +8,9 @@ use Rattle.plan_base.specs.declared.NodeId.{NodeId}
 use Rattle.graph_store.specs.declared.Row.{Row}
 use Rattle.graph_store.specs.Rows.{has_node}
 use Rattle.reach_ranks.specs.Rounds.{world, is_barred, is_granted, is_node, has_groups, IsWhole}
-use Rattle.reach_ranks.specs.Ranks.{within, AreRanks, Agrees, IsOneAboveLeast}
+use Rattle.reach_ranks.specs.Ranks.{AgreeBut, within, AreRanks, Agrees, IsOneAboveLeast}
 use Rattle.reach_ranks.proofs.RankLemmas.{Agrees-from_ranks}
-use Rattle.milestone_masks.specs.Worlds.{Kept, AgreeBut, AgreeInWorlds, AreWorlds}
+use Rattle.milestone_masks.specs.Worlds.{Kept, AgreeInWorlds, AreWorlds}
 
 -- the rows and marks of a node, as before
 pub record SameAt (rows rows' : List Row) (barred barred' granted granted' : List Bool) (n : ℕ) : Type 0 where

@@ -2,10 +2,9 @@
 use Rattle.std.specs.Prelude.{ℕ, ◌+◌, ◌<◌, ◌≤◌, ◌≡◌, ◌==◌, Bool, false, not, List, [], Option, None, Some, Result, Ok, Err, IsSome, All, filter, insert, length, map, nat_lt, position, slice_get, slice_index}
 use Rattle.plan_base.specs.declared.NodeId.{NodeId}
 use Rattle.graph_store.specs.declared.Row.{Row}
-use Rattle.graph_store.specs.Rows.{has_node}
 use Rattle.graph_store.specs.declared.Group.{Group}
 use Rattle.reach_ranks.specs.Rounds.{World, Nodes, world, reach, is_satisfied}
-use Rattle.reach_ranks.specs.Ranks.{AreRanks, Agrees}
+use Rattle.reach_ranks.specs.Ranks.{AgreeBut, AreRanks}
 use Rattle.reach_ranks.specs.Given.{size_of, sum_below}
 use Rattle.milestone_masks.specs.declared.worlds.Milestone.{Milestone}
 use Rattle.milestone_masks.specs.declared.worlds.MilestoneFault.{MilestoneFault}
@@ -29,12 +28,7 @@ pub record AreWorlds (rows : List Row) (barred granted : List Bool) (kept : Kept
   pub base : AreRanks (world rows barred granted None) kept.base
   pub each : All (λ m. AreRanks (world rows barred granted (Some m.node)) m.ranks) kept.milestones
 
--- every node outside the list agrees with its row
-pub record AgreeBut (w : World) (changed : List NodeId) (ranks : List ℕ) : Type 0 where
-  pub as_long : length ranks ≡ length w.rows
-  pub each : (n : ℕ) → n < length w.rows → has_node changed n ≡ false → Agrees w ranks n
-
--- so it is in the base world and in each milestone's world
+-- every node outside the list agrees with its row in the base world and in each milestone's world
 pub record AgreeInWorlds (rows : List Row) (barred granted : List Bool) (changed : List NodeId) (kept : Kept) : Type 0 where
   pub base : AgreeBut (world rows barred granted None) changed kept.base
   pub each : All (λ m. AgreeBut (world rows barred granted (Some m.node)) changed m.ranks) kept.milestones

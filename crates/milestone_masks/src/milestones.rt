@@ -2,9 +2,9 @@
 ghost use Rattle.std.specs.Prelude.{◌≡◌, ◌+◌, ◌*◌, ◌<◌, ◌≤◌, None, Some, [], All, insert, length, map, remove, replicate, slice_get, slice_index, IfOk, OnErr, OnOk};
 ghost use Rattle.std.specs.Bool.{OnTrue};
 ghost use Rattle.reach_ranks.specs.Rounds.{world, IsWhole};
-ghost use Rattle.reach_ranks.specs.Ranks.{AreRanks};
+ghost use Rattle.reach_ranks.specs.Ranks.{AgreeBut, AreRanks};
 ghost use Rattle.reach_ranks.specs.Given.{sum_below};
-ghost use Rattle.milestone_masks.specs.Worlds.{place_of, size_in_world, AgreeBut};
+ghost use Rattle.milestone_masks.specs.Worlds.{place_of, size_in_world};
 
 use crate::blocks::{Block, copy_blocks};
 use crate::ranks::WorldRanks;

@@ -1,8 +1,7 @@
 //! The ranks of one world.
-ghost use Rattle.std.specs.Prelude.{◌≡◌, ℕ, ◌+◌, ◌*◌, ◌<◌, ◌≤◌, None, false, All, length, replicate, slice_index, IfOk};
-ghost use Rattle.graph_store.specs.Rows.{has_node};
+ghost use Rattle.std.specs.Prelude.{◌≡◌, ◌+◌, ◌*◌, ◌<◌, ◌≤◌, None, All, length, replicate, slice_index, IfOk};
 ghost use Rattle.reach_ranks.specs.Rounds.{world_under, IsWhole};
-ghost use Rattle.reach_ranks.specs.Ranks.{AreRanks, Agrees};
+ghost use Rattle.reach_ranks.specs.Ranks.{AgreeBut, AreRanks};
 ghost use Rattle.reach_ranks.specs.Given.{size_of};
 
 use graph_store::Rows;
@@ -77,16 +76,14 @@ impl WorldRanks {
         steps: &mut Steps<L>,
     )
         requires marks { IsWhole (world_under (R.rows rows.now) marks) }
-        requires ranks { length self.old ≡ length (R.rows rows.now) }
         requires heap { heap.old ≡ replicate (length (R.rows rows.now)) None }
         requires changed { All (λ n. n.0 < length (R.rows rows.now)) changed.now }
-        requires agree { let w = world_under (R.rows rows.now) marks in
-            (n : ℕ) → n < length w.rows → has_node changed.now n ≡ false → Agrees w self.old n }
+        requires agree { AgreeBut (world_under (R.rows rows.now) marks) changed.now self.old }
         ensures ranks { AreRanks (world_under (R.rows rows.now) marks.entry) self.new }
         ensures heap { heap.new ≡ heap.old }
         ensures steps { steps.new ≤ steps.old + 6 * size_of (R.rows rows.now) changed.now self.old self.new }
         ensures later { steps.old ≤ steps.new }
     {
-        repair(&mut self.ranks, rows, marks, heap, changed, steps);
+        repair(&mut self.ranks.of, rows, marks, heap, changed, steps);
     }
 }

@@ -1,11 +1,11 @@
 //! Repairs of the ranks in all blocks.
 ghost use Rattle.std.specs.Prelude.{◌≡◌, ℕ, ◌+◌, ◌*◌, ◌<◌, ◌≤◌, None, Some, All, length, map, replicate, slice_get};
 ghost use Rattle.reach_ranks.specs.Rounds.{world, IsWhole};
-ghost use Rattle.reach_ranks.specs.Ranks.{AreRanks};
+ghost use Rattle.reach_ranks.specs.Ranks.{AgreeBut, AreRanks};
 ghost use Rattle.reach_ranks.specs.Given.{sum_below};
 ghost use Rattle.reach_incremental.specs.Lanes.{AgreeInLanes, worlds, AreLaneRanks, AreSmall};
 ghost use Rattle.reach_incremental.specs.Keys.{lane_sizes};
-ghost use Rattle.milestone_masks.specs.Worlds.{size_in_world, AgreeBut};
+ghost use Rattle.milestone_masks.specs.Worlds.{size_in_world};
 ghost use Rattle.milestone_masks.specs.Held.{extras_of, milestones_in, rows_of, size_in_block, AreBlocks, AreRepaired, AreSlots};
 
 use crate::blocks::Block;

@@ -1,17 +1,16 @@
 //! Ranks repaired after a change.
-ghost use Rattle.std.specs.Prelude.{◌≡◌, ℕ, ◌+◌, ◌*◌, ◌<◌, ◌≤◌, None, false, All, length, replicate};
-ghost use Rattle.graph_store.specs.Rows.{has_node};
+ghost use Rattle.std.specs.Prelude.{◌≡◌, ◌+◌, ◌*◌, ◌<◌, ◌≤◌, None, All, length, replicate};
 ghost use Rattle.reach_ranks.specs.Rounds.{world_under, IsWhole};
-ghost use Rattle.reach_ranks.specs.Ranks.{AreRanks, Agrees};
+ghost use Rattle.reach_ranks.specs.Ranks.{AgreeBut, AreRanks};
 ghost use Rattle.reach_ranks.specs.Given.{size_of};
 
 use graph_store::Rows;
 use index_heap::Heap;
 use plan_base::{NodeId, Steps};
-use reach_ranks::{Marks, Ranks, refresh_all, settle};
+use reach_ranks::{Marks, refresh_all, settle};
 
-/// What `repair` does, to a slice of ranks.
-fn repair_slice<R: Rows<L>, L>(
+/// Leaves the ranks of the rows and marks as they are now, after a change of the nodes' rows and marks.
+pub fn repair<R: Rows<L>, L>(
     ranks: &mut [u32],
     rows: &R,
     marks: Marks<'_>,
@@ -20,11 +19,9 @@ fn repair_slice<R: Rows<L>, L>(
     steps: &mut Steps<L>,
 )
     requires marks { IsWhole (world_under (R.rows rows.now) marks) }
-    requires ranks { length ranks.old ≡ length (R.rows rows.now) }
     requires heap { heap.old ≡ replicate (length (R.rows rows.now)) None }
     requires changed { All (λ n. n.0 < length (R.rows rows.now)) changed.now }
-    requires agree { let w = world_under (R.rows rows.now) marks in
-        (n : ℕ) → n < length w.rows → has_node changed.now n ≡ false → Agrees w ranks.old n }
+    requires agree { AgreeBut (world_under (R.rows rows.now) marks) changed.now ranks.old }
     ensures ranks { AreRanks (world_under (R.rows rows.now) marks.entry) ranks.new }
     ensures heap { heap.new ≡ heap.old }
     ensures steps { steps.new ≤ steps.old + 6 * size_of (R.rows rows.now) changed.now ranks.old ranks.new }
@@ -33,27 +30,4 @@ fn repair_slice<R: Rows<L>, L>(
     let _count = rows.len();
     refresh_all(ranks, rows, marks, heap, changed, steps);
     settle(ranks, rows, marks, heap, steps);
-}
-
-/// Leaves the ranks of the rows and marks as they are now, after a change of the nodes' rows and marks.
-pub fn repair<R: Rows<L>, L>(
-    ranks: &mut Ranks,
-    rows: &R,
-    marks: Marks<'_>,
-    heap: &mut Heap,
-    changed: &[NodeId],
-    steps: &mut Steps<L>,
-)
-    requires marks { IsWhole (world_under (R.rows rows.now) marks) }
-    requires ranks { length ranks.old.of.items ≡ length (R.rows rows.now) }
-    requires heap { heap.old ≡ replicate (length (R.rows rows.now)) None }
-    requires changed { All (λ n. n.0 < length (R.rows rows.now)) changed.now }
-    requires agree { let w = world_under (R.rows rows.now) marks in
-        (n : ℕ) → n < length w.rows → has_node changed.now n ≡ false → Agrees w ranks.old.of.items n }
-    ensures ranks { AreRanks (world_under (R.rows rows.now) marks.entry) ranks.new.of.items }
-    ensures heap { heap.new ≡ heap.old }
-    ensures steps { steps.new ≤ steps.old + 6 * size_of (R.rows rows.now) changed.now ranks.old.of.items ranks.new.of.items }
-    ensures later { steps.old ≤ steps.new }
-{
-    repair_slice(&mut ranks.of, rows, marks, heap, changed, steps);
 }

@@ -3,7 +3,7 @@ use Rattle.std.proofs.Common.{arith}
 use Rattle.reach_ranks.specs.Rounds.{world_under}
 use Rattle.reach_ranks.proofs.RepairLemmas.{holds-start}
 use Rattle.reach_ranks.proofs.SizeLemmas.{work_left-size}
-use Rattle.reach_incremental.proofs.repairs.repair_slice.Goals as goal
+use Rattle.reach_incremental.proofs.repairs.repair.Goals as goal
 
 pub settle-requires-clause-keys : goal.settle-requires-clause-keys
 settle-requires-clause-keys g c =
@@ -14,10 +14,10 @@ settle-requires-clause-keys g c =
     c.args.changed.now
     c.args.heap.now
     c.refresh_all.new.heap
-    c.requires.ranks
+    c.requires.agree.as_long
     c.refresh_all.ensures.small
     c.requires.heap
-    c.requires.agree
+    c.requires.agree.each
     c.refresh_all.ensures.keys
 
 pub returns-clause-steps : goal.returns-clause-steps
