@@ -1,11 +1,9 @@
 -- The milestones as they are kept: the ranks of each in one lane of a block.
-use Rattle.std.specs.Prelude.{ℕ, ◌<◌, ◌≤◌, ◌≡◌, ◌==◌, ◌&&◌, Bool, true, false, List, [], Option, None, Some, All, length, map, slice_get, slice_index_or}
+use Rattle.std.specs.Prelude.{ℕ, ◌<◌, ◌≤◌, ◌≡◌, ◌==◌, ◌&&◌, Bool, true, List, [], Option, None, Some, All, length, map, slice_get, slice_index_or}
 use Rattle.std.specs.List.{list_any}
 use Rattle.plan_base.specs.declared.NodeId.{NodeId}
 use Rattle.graph_store.specs.declared.Row.{Row}
-use Rattle.graph_store.specs.Rows.{has_node}
-use Rattle.reach_ranks.specs.Ranks.{Agrees}
-use Rattle.reach_incremental.specs.Lanes.{Worlds, is_live, is_one, lane, world_of, worlds, AreLaneRanks, AreSmall}
+use Rattle.reach_incremental.specs.Lanes.{is_one, lane, worlds, AreLaneRanks, AreSmall}
 use Rattle.reach_incremental.specs.Keys.{lane_sizes}
 use Rattle.milestone_masks.specs.declared.worlds.Milestone.{Milestone}
 use Rattle.milestone_masks.specs.declared.slots.Slot.{Slot}

@@ -1,5 +1,5 @@
 -- The worlds of the milestones.
-use Rattle.std.specs.Prelude.{ℕ, ◌+◌, ◌<◌, ◌≤◌, ◌≡◌, ◌==◌, Bool, false, not, List, [], Option, None, Some, Result, Ok, Err, IsSome, All, filter, insert, length, map, nat_lt, position, slice_get, slice_index}
+use Rattle.std.specs.Prelude.{ℕ, ◌+◌, ◌<◌, ◌≤◌, ◌≡◌, ◌==◌, Bool, not, List, [], Option, None, Some, Result, Ok, Err, IsSome, All, filter, insert, length, map, nat_lt, position, slice_get, slice_index}
 use Rattle.plan_base.specs.declared.NodeId.{NodeId}
 use Rattle.graph_store.specs.declared.Row.{Row}
 use Rattle.graph_store.specs.declared.Group.{Group}

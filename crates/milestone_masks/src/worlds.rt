@@ -2,7 +2,7 @@
 ghost use Rattle.std.specs.Bool.{OnTrue};
 ghost use Rattle.std.specs.Prelude.{◌≡◌, ◌≢◌, ℕ, ◌+◌, ◌*◌, ◌-◌, ◌^◌, ◌<◌, ◌≤◌, ◌↔◌, ◌∷◌, ◌++◌, if◌then◌else◌, List, None, Some, [], not, All, filter, insert, length, map, min, remove, replicate, slice_get, slice_index, IfErr, IfOk, IsTrue, OnErr, OnOk};
 ghost use Rattle.reach_ranks.specs.Rounds.{world, IsWhole};
-ghost use Rattle.reach_ranks.specs.Ranks.{AgreeBut, AreRanks};
+ghost use Rattle.reach_ranks.specs.Ranks.{AreRanks};
 ghost use Rattle.reach_ranks.specs.Given.{size_of, sum_below};
 ghost use Rattle.milestone_masks.specs.Worlds.{mask_of, milestones_of, missing_in, place_of, ranked, size_in_world, size_of_all, AddAnswer, AddsWorld, AgreeInWorlds, AreWorlds};
 ghost use Rattle.milestone_masks.specs.Kept.{IsKept};
