@@ -13,7 +13,7 @@ ghost use Rattle.number_rows.specs.Tops.{top_at, AreWithin};
 
 use crate::long::{Long, short_form};
 use crate::tops::{
-    LIMIT, combine, combine_lowered, common_factor, content, divide_all, greatest, keeps_within,
+    LIMIT, combine, combine_lowered, common_factor, content, divide_all, fitting_bound,
     long_product, product_keeps_within, quotient, turn_all,
 };
 use fractions::Ratio;
@@ -285,54 +285,28 @@ impl Row {
         let common = common_factor(top.unsigned_abs(), pivot_row.bottom);
         let scale = pivot_row.bottom / common;
         let factor = quotient(top, common);
-        if !keeps_within(
+        let Some(bound) = fitting_bound(
+            &self.tops,
             self.bound,
+            self.tight,
             scale,
             pivot_row.bound,
             factor.unsigned_abs(),
             self.bottom,
-        ) {
+        ) else {
             return false;
-        }
+        };
         self.bound = combine(
             &mut self.tops,
             scale as i64,
             &pivot_row.tops,
             factor,
-            self.bound,
+            bound,
             pivot_row.bound,
         );
         self.tight = false;
         self.bottom = self.bottom * scale;
         true
-    }
-
-    // Makes the bound of a short row as small as it may be.
-    fn tighten(&mut self)
-        ensures { self.new ≡ self.old }
-    {
-        if !self.short {
-            return;
-        }
-        self.bound = greatest(&self.tops);
-        self.tight = true;
-    }
-
-    // The same as `reduce_short`, also where the bound has to be made smaller first.
-    fn reduce_within(&mut self, enter: usize, pivot_row: &Row) -> bool
-        requires inside { enter < length self.old.items }
-        requires width { length self.old.items ≡ length pivot_row.now.items }
-        ensures done { OnTrue result (IsReducedRow self.old.items (number_at self.old.items enter) pivot_row.now.items self.new.items) }
-        ensures not { OnFalse result (self.new ≡ self.old) }
-    {
-        if self.reduce_short(enter, pivot_row) {
-            return true;
-        }
-        if self.tight {
-            return false;
-        }
-        self.tighten();
-        self.reduce_short(enter, pivot_row)
     }
 
     // The same where what all numbers that this makes have in common brings them within the limits.
@@ -450,7 +424,7 @@ impl Row {
         if self.is_zero(enter) {
             return Ok(Ok(()));
         }
-        if self.reduce_within(enter, pivot_row) {
+        if self.reduce_short(enter, pivot_row) {
             return Ok(Ok(()));
         }
         if self.reduce_over(enter, pivot_row) {

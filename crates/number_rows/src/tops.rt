@@ -29,12 +29,9 @@ pub fn common_divisor(first: u64, second: u64) -> u64
     if b == 0 { a } else { 1 }
 }
 
-// The greatest common divisor, which is mostly the second number, else found by shifts and subtractions, whose steps have no
-// branch that depends on the numbers. To the caller it is a guess.
+// The greatest common divisor of two numbers other than 0, found by shifts and subtractions, whose steps have no branch that
+// depends on the numbers. To the caller it is a guess.
 fn likely_divisor(first: u64, second: u64) -> u64 {
-    if second > 0 && first % second == 0 {
-        return second;
-    }
     let shift = (first | second).trailing_zeros() % 64;
     let mut a = first >> (first.trailing_zeros() % 64);
     let mut b = second >> (second.trailing_zeros() % 64);
@@ -50,13 +47,17 @@ fn likely_divisor(first: u64, second: u64) -> u64 {
     0
 }
 
-/// What two numbers have in common: the greatest common divisor, guessed and then tried.
+/// What two numbers have in common: the greatest common divisor, which is mostly the second number, else guessed and then
+/// tried.
 pub fn common_factor(first: u64, second: u64) -> u64
     ensures positive { 0 < second → 0 < result }
     ensures first { result ∣ first }
     ensures second { result ∣ second }
 {
     if first == 0 {
+        return second;
+    }
+    if second > 0 && first % second == 0 {
         return second;
     }
     let guess = likely_divisor(first, second);
@@ -264,6 +265,38 @@ pub fn keeps_within(bound: u64, scale: u64, other_bound: u64, factor: u64, botto
     first + second < LIMIT as u128 && bottom < LIMIT as u128
 }
 
+/// A bound of numbers that keeps such products within the limit: the one that is known, or the least one, which is looked for
+/// where the known one isn't that.
+pub fn fitting_bound(
+    tops: &[i64],
+    bound: u64,
+    tight: bool,
+    scale: u64,
+    other_bound: u64,
+    factor: u64,
+    bottom: u64,
+) -> Option<u64>
+    requires within { AreWithin tops.now bound }
+    requires bound { bound < 2 ^ 62 }
+    requires scale { scale < 2 ^ 62 }
+    requires other_bound { other_bound < 2 ^ 62 }
+    requires factor { factor < 2 ^ 62 }
+    requires bottom { bottom < 2 ^ 62 }
+    ensures { IfSome result (λ b. AreWithin tops.now b × (b < 2 ^ 62) × (b * scale + other_bound * factor < 2 ^ 62) × (bottom * scale < 2 ^ 62)) }
+{
+    if keeps_within(bound, scale, other_bound, factor, bottom) {
+        return Some(bound);
+    }
+    if tight {
+        return None;
+    }
+    let least = greatest(tops);
+    if keeps_within(least, scale, other_bound, factor, bottom) {
+        return Some(least);
+    }
+    None
+}
+
 // One number times a scale, less another times a factor, of any numbers below the limit.
 fn long_combined(top: i64, scale: i64, other: i64, factor: i64) -> i128
     requires top { unsigned_abs top < 2 ^ 62 }
@@ -293,8 +326,11 @@ pub fn likely_inverse(odd: u64) -> u64 {
 fn likely_quotient(number: i128, shift: u32, inverse: u64) -> i64
     requires { shift < 64 }
 {
-    let part = (number.cast_unsigned() >> shift) % (1 << 64);
-    (part as u64).wrapping_mul(inverse).cast_signed()
+    let whole = number.cast_unsigned();
+    let part = if shift == 0 { whole } else { whole >> shift };
+    ((part % (1 << 64)) as u64)
+        .wrapping_mul(inverse)
+        .cast_signed()
 }
 
 // What a division of a number's magnitude leaves.

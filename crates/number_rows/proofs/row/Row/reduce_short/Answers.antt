@@ -6,7 +6,6 @@ use Rattle.number_rows.specs.Changed.{Numbers}
 use Rattle.number_rows.specs.Row.{kept, IsKept}
 use Rattle.number_rows.specs.Tops.{top_at, IsCombined}
 use Rattle.number_rows.proofs.Kept.{length_shown}
-use Rattle.std.proofs.lemmas.Bool.{OnTrue_at}
 use Rattle.std.proofs.lemmas.Nat.Gcd.{le_of_dvd}
 use Rattle.std.proofs.Math.Nat.{div-le_self}
 use Rattle.fractions.specs.Fraction.{lower_pos}
@@ -28,9 +27,9 @@ factor c =
     factor_is c.index-top.result.now (top_at r.tops.items c.args.enter) c.quotient-factor.result c.unsigned_abs.result c.common_factor-common.result (get_or_read r.tops.items c.args.enter c.index-top.result.now inside c.index-top.ensures (pos 0))
     (omega (arith, c.self.invariant.within c.args.enter inside, c.self.invariant.bound_small)) c.unsigned_abs.ensures.value c.common_factor-common.ensures.first c.quotient-factor.ensures.value c.quotient-factor.ensures.small
 
-pub keeps_within-requires-clause-factor : goal.keeps_within-requires-clause-factor
-keeps_within-requires-clause-factor c =
-    let f = factor (goal.at.keeps_within-requires-clause-factor c).After-quotient-factor in
+pub fitting_bound-requires-clause-factor : goal.fitting_bound-requires-clause-factor
+fitting_bound-requires-clause-factor c =
+    let f = factor (goal.at.fitting_bound-requires-clause-factor c).After-quotient-factor in
     omega (arith, c.unsigned_abs-2.ensures.value, ap unsigned_abs (back c.quotient-factor.result (omega (arith, f.1))), f.1)
 
 pub invariant_of-self : goal.invariant_of-self
@@ -45,7 +44,7 @@ invariant_of-self c =
       same_length = λ e. len ∙ c.self.invariant.same_length e;
       room_is = c.self.invariant.room_is ∙ sym len;
       positive = pos_product r.bottom a c.self.invariant.positive (lower_pos p.bottom c.common_factor-common.result c.pivot_row.invariant.positive c.common_factor-common.ensures.second);
-      bottom_small = (OnTrue_at c.if-not-keeps_within.false c.keeps_within.ensures).1;
+      bottom_small = c.in-Some.ensures.3;
       bound_small = d.ensures.small;
       within = d.ensures.within;
     })
@@ -61,7 +60,7 @@ returns-clause-done c =
     let inside : c.args.enter < length r.tops.items = omega (arith, c.requires.inside, length_shown r.short r.bottom r.tops.items r.numbers.items c.args.self.now c.self.view_is c.self.invariant.same_length) in
     let len : length d.new.tops ≡ length r.tops.items = d.ensures.combined.length_is ∙ ap (λ (ts : List ℤ). length ts) c.deref_mut.ensures.value in
     let t : IsCombined r.tops.items (pos a) p.tops.items c.quotient-factor.result d.new.tops =
-    combined_plain c.deref_mut.result.now r.tops.items p.tops.items c.deref.result.now d.new.tops _ c.quotient-factor.result a c.deref_mut.ensures.value c.deref.ensures.value
+    combined_plain c.deref_mut.result.now r.tops.items p.tops.items c.deref-2.result.now d.new.tops _ c.quotient-factor.result a c.deref_mut.ensures.value c.deref-2.ensures.value
     (scale_back a (omega (arith, div-le_self p.bottom g, c.pivot_row.invariant.bottom_small))) (back c.quotient-factor.result (omega (arith, f.1))) d.ensures.combined in
     reduced_row r.short p.short r.bottom p.bottom r.bound p.bound a g (r.bottom * a) c.quotient-factor.result r.tops.items d.new.tops p.tops.items r.numbers.items p.numbers.items c.args.self.now _ c.args.pivot_row.now c.args.enter
     c.self.view_is c.if-not-self.false c.self.invariant c.pivot_row.view_is c.if-not-pivot_row.false c.pivot_row.invariant c.requires.width inside (c.common_factor-common.ensures.positive c.pivot_row.invariant.positive) c.common_factor-common.ensures.second (λ i. a) f.0 (combined_tops r.bottom a c.quotient-factor.result r.tops.items p.tops.items d.new.tops t)
