@@ -7,6 +7,7 @@ use Rattle.std.proofs.lemmas.List.{get_or-set_same, get_or-set_other, get_or-rep
 use Rattle.std.proofs.Math.Nat.{mul-le-mul_right, dvd-mul_left, dvd-mul_right, one-dvd, div-mul_cancel, mul_assoc, mul_comm}
 use Rattle.fractions.specs.Fraction.{Fraction, frac, int_div-mul, lower_pos}
 use Rattle.fractions.specs.Fracs.{pos_product}
+use Rattle.fractions.specs.Ring.{int, nat, ◌⊗◌, ◌⊖◌, same_value}
 use Rattle.fractions.specs.Gcd.{gcd, gcd_is, gcd_pos, gcd-zero}
 use Rattle.fractions.proofs.Printed.{gcd-one}
 use Rattle.linear_table.specs.Plans.{number_at}
@@ -93,6 +94,18 @@ combined_more old s other f tops k t lt e h =
           (λ j q. get_or-set_other tops k j t (pos 0) (λ e. omega arith) ∙ h.done j q)
           (get_or-set_same tops k t (pos 0) lt ∙ e);
       rest = λ j q. get_or-set_other tops k j t (pos 0) (λ e. omega arith) ∙ h.rest j (omega arith);
+    }
+
+-- where the scale is 1 and the other number is 0, nothing changes
+stays : (t f : ℤ) → t *ℤ pos 1 -ℤ pos 0 *ℤ f ≡ t
+stays t f = same_value (int t ⊗ nat 1 ⊖ nat 0 ⊗ int f) (int t) (omega arith)
+
+pub combined_skip : (old : List ℤ) (s : ℤ) (other : List ℤ) (f : ℤ) (tops : List ℤ) (k : ℕ) → s ≡ pos 1 → top_at other k ≡ pos 0 → IsCombinedBelow old s other f tops k → IsCombinedBelow old s other f tops (k + 1)
+combined_skip old s other f tops k es eo h =
+    let same : top_at old k *ℤ s -ℤ top_at other k *ℤ f ≡ top_at old k = ap (λ a. top_at old k *ℤ a -ℤ top_at other k *ℤ f) es ∙ (ap (λ a. top_at old k *ℤ pos 1 -ℤ a *ℤ f) eo ∙ stays (top_at old k) f) in
+    record {
+      done = below_more (λ j. top_at tops j ≡ top_at old j *ℤ s -ℤ top_at other j *ℤ f) k h.done (h.rest k (omega arith) ∙ sym same);
+      rest = λ j q. h.rest j (omega arith);
     }
 
 -- the bounds of two numbers that are combined

@@ -1,7 +1,7 @@
 //! Whole numbers of 64 bits that stand over one denominator.
 
 ghost use Rattle.std.specs.Prelude.{◌≡◌, ℕ, ◌<◌, ◌≤◌, ◌+◌, ◌*◌, ◌%◌, ◌^◌, ℤ, pos, ◌*ℤ◌, ◌-ℤ◌, neg_ℤ, int_div, unsigned_abs, length, IfSome};
-ghost use Rattle.std.specs.Bool.{OnTrue};
+ghost use Rattle.std.specs.Bool.{OnTrue, OnFalse};
 ghost use Rattle.std.specs.Int.{◌∣◌};
 ghost use Rattle.fractions.specs.Fraction.{frac};
 ghost use Rattle.fractions.specs.Gcd.{gcd};
@@ -167,6 +167,13 @@ fn combined_bound(bound: u64, scale: u64, other_bound: u64, factor: u64) -> u64
     bound * scale + other_bound * factor
 }
 
+// Whether a number may change where it is taken times the scale, less the other times a factor.
+fn may_change(scale: i64, other: i64) -> bool
+    ensures { OnFalse result ((scale ≡ pos 1) × (other ≡ pos 0)) }
+{
+    scale != 1 || other != 0
+}
+
 // Makes of each number that number times the scale, less the other row's times the factor.
 fn combine_each(tops: &mut [i64], scale: i64, others: &[i64], factor: i64)
     requires lengths { length tops.old ≡ length others.now }
@@ -176,8 +183,10 @@ fn combine_each(tops: &mut [i64], scale: i64, others: &[i64], factor: i64)
     ensures { IsCombined tops.old scale others.now factor tops.new }
 {
     for k in 0..tops.len() {
-        let top = combined(tops[k], scale, others[k], factor);
-        tops[k] = top;
+        if may_change(scale, others[k]) {
+            let top = combined(tops[k], scale, others[k], factor);
+            tops[k] = top;
+        }
     }
 }
 
@@ -359,7 +368,7 @@ pub fn exact_quotient(number: i128, divisor: u64, shift: u32, inverse: u64) -> O
 }
 
 // One number times a scale, less another times a factor, divided by a divisor, where that leaves no rest and is below the
-// limit.
+// limit. Where many are 0, these are looked for first: else the test would cost more than it spares.
 fn combined_over(
     top: i64,
     scale: i64,
@@ -368,6 +377,7 @@ fn combined_over(
     divisor: u64,
     shift: u32,
     inverse: u64,
+    sparse: bool,
 ) -> Option<i64>
     requires top { unsigned_abs top < 2 ^ 62 }
     requires scale { unsigned_abs scale < 2 ^ 62 }
@@ -377,7 +387,7 @@ fn combined_over(
     requires shift { shift < 64 }
     ensures { IfSome result (λ q. (q *ℤ pos divisor ≡ top *ℤ scale -ℤ other *ℤ factor) × (unsigned_abs q < 2 ^ 62)) }
 {
-    if top == 0 && other == 0 {
+    if sparse && top == 0 && other == 0 {
         return Some(0);
     }
     exact_quotient(
@@ -386,6 +396,17 @@ fn combined_over(
         shift,
         inverse,
     )
+}
+
+// Whether two rows are both 0 at most places. To the caller it is a guess.
+fn are_sparse(tops: &[i64], others: &[i64]) -> bool
+    requires { length tops.now ≡ length others.now }
+{
+    let mut filled = 0u64;
+    for k in 0..tops.len() {
+        filled = filled.wrapping_add(if (tops[k] | others[k]) == 0 { 0 } else { 1 });
+    }
+    filled < tops.len() as u64 / 3
 }
 
 // How far quotients by a divisor were written, and how great their magnitudes are at most.
@@ -404,6 +425,7 @@ fn combine_from(
     others: &[i64],
     factor: i64,
     divisor: u64,
+    sparse: bool,
     from: Reached,
 ) -> Reached
     requires quotients { length quotients.old ≡ length tops.now }
@@ -428,7 +450,7 @@ fn combine_from(
     let mut most = from.bound;
     for k in from.place..tops.len() {
         let Some(quotient) = combined_over(
-            tops[k], scale, others[k], factor, divisor, shift, inverse,
+            tops[k], scale, others[k], factor, divisor, shift, inverse, sparse,
         ) else {
             return Reached {
                 place: k,
@@ -503,9 +525,12 @@ pub fn combine_lowered(
     ensures lowered { IfSome result (λ r. IsLowered tops.now scale others.now factor bottom r.divisor r.bound quotients.new) }
 {
     let mut divisor = bottom / common_factor(common, bottom);
+    let sparse = are_sparse(tops, others);
     let mut from = Reached { place: 0, bound: 0 };
     for _try in 0..64 {
-        let reached = combine_from(quotients, tops, scale, others, factor, divisor, from);
+        let reached = combine_from(
+            quotients, tops, scale, others, factor, divisor, sparse, from,
+        );
         let place = reached.place;
         if place == tops.len() {
             return Some(Lowered {
