@@ -8,3 +8,5 @@ pub mod Signs
 pub mod Exchanged
 pub mod Broad
 pub mod Wider
+pub mod Places
+pub mod Filled

@@ -1,11 +1,12 @@
 -- Lists of whole numbers, changed place by place.
-use Rattle.std.specs.Prelude.{◌≡◌, ℕ, ◌+◌, ◌*◌, ◌/◌, ◌<◌, ◌≤◌, ◌^◌, ℤ, pos, ◌*ℤ◌, ◌-ℤ◌, neg_ℤ, int_div, unsigned_abs, List, length, replicate}
+use Rattle.std.specs.Prelude.{◌≡◌, ◌⊎◌, ℕ, ◌+◌, ◌*◌, ◌/◌, ◌<◌, ◌≤◌, ◌^◌, ℤ, pos, ◌*ℤ◌, ◌-ℤ◌, neg_ℤ, int_div, unsigned_abs, List, length, replicate}
 use Rattle.std.specs.Int.{◌∣◌, w64}
-use Rattle.std.proofs.Common.{refl, sym, ap, subst, ◌∙◌, arith, set, below_more, to_z, of_z}
+use Rattle.std.proofs.Common.{refl, sym, ap, subst, inl, inr, ◌∙◌, arith, set, below_more, to_z, of_z}
+use Rattle.std.proofs.lemmas.Bool.{cases_lt}
 use Rattle.std.proofs.lemmas.Int.{ints, unsigned_abs-mul, to_z-of_z, fits_signed_from_abs}
 use Rattle.std.proofs.lemmas.List.{get_or-set_same, get_or-set_other, get_or-replicate}
-use Rattle.std.proofs.Math.Nat.{mul-le-mul_right, dvd-mul_left, dvd-mul_right, one-dvd, div-mul_cancel, mul_assoc, mul_comm}
-use Rattle.fractions.specs.Fraction.{Fraction, frac, int_div-mul, lower_pos}
+use Rattle.std.proofs.Math.Nat.{mul-le-mul_right, dvd-mul_left, dvd-mul_right, one-dvd, dvd-zero, div-mul_cancel, mul_assoc, mul_comm}
+use Rattle.fractions.specs.Fraction.{Fraction, frac, int_div-mul, lower_pos, mul_cancel}
 use Rattle.fractions.specs.Fracs.{pos_product}
 use Rattle.fractions.specs.Ring.{int, nat, ◌⊗◌, ◌⊖◌, same_value}
 use Rattle.fractions.specs.Gcd.{gcd, gcd_is, gcd_pos, gcd-zero}
@@ -100,13 +101,19 @@ combined_more old s other f tops k t lt e h =
 stays : (t f : ℤ) → t *ℤ pos 1 -ℤ pos 0 *ℤ f ≡ t
 stays t f = same_value (int t ⊗ nat 1 ⊖ nat 0 ⊗ int f) (int t) (omega arith)
 
-pub combined_skip : (old : List ℤ) (s : ℤ) (other : List ℤ) (f : ℤ) (tops : List ℤ) (k : ℕ) → s ≡ pos 1 → top_at other k ≡ pos 0 → IsCombinedBelow old s other f tops k → IsCombinedBelow old s other f tops (k + 1)
-combined_skip old s other f tops k es eo h =
-    let same : top_at old k *ℤ s -ℤ top_at other k *ℤ f ≡ top_at old k = ap (λ a. top_at old k *ℤ a -ℤ top_at other k *ℤ f) es ∙ (ap (λ a. top_at old k *ℤ pos 1 -ℤ a *ℤ f) eo ∙ stays (top_at old k) f) in
-    record {
-      done = below_more (λ j. top_at tops j ≡ top_at old j *ℤ s -ℤ top_at other j *ℤ f) k h.done (h.rest k (omega arith) ∙ sym same);
-      rest = λ j q. h.rest j (omega arith);
-    }
+pub combined_end : (old : List ℤ) (s : ℤ) (other : List ℤ) (f : ℤ) (tops : List ℤ) (a b : ℕ) → s ≡ pos 1 → ((k : ℕ) → a ≤ k → k < b → top_at other k ≡ pos 0) → IsCombinedBelow old s other f tops a → (j : ℕ) → j < b → top_at tops j ≡ top_at old j *ℤ s -ℤ top_at other j *ℤ f
+combined_end old s other f tops a b es none h j q = here (cases_lt j a)
+  where
+    same : top_at other j ≡ pos 0 → top_at old j *ℤ s -ℤ top_at other j *ℤ f ≡ top_at old j
+    same eo = ap (λ x. top_at old j *ℤ x -ℤ top_at other j *ℤ f) es ∙ (ap (λ x. top_at old j *ℤ pos 1 -ℤ x *ℤ f) eo ∙ stays (top_at old j) f)
+
+    here : (j < a) ⊎ (a ≤ j) → top_at tops j ≡ top_at old j *ℤ s -ℤ top_at other j *ℤ f
+    here (inl before) = h.done j before
+    here (inr after) = h.rest j after ∙ sym (same (none j after q))
+
+pub combined_gap : (old : List ℤ) (s : ℤ) (other : List ℤ) (f : ℤ) (tops : List ℤ) (a b : ℕ) → s ≡ pos 1 → a ≤ b → ((k : ℕ) → a ≤ k → k < b → top_at other k ≡ pos 0) → IsCombinedBelow old s other f tops a → IsCombinedBelow old s other f tops b
+combined_gap old s other f tops a b es le none h =
+    record { done = combined_end old s other f tops a b es none h; rest = λ j q. h.rest j (omega (arith, q, le)) }
 
 -- the bounds of two numbers that are combined
 pub bounded : (a b m n s f : ℕ) → a ≤ m → b ≤ n → m * s + n * f < 2 ^ 62 → a * s + b * f < 2 ^ 62
@@ -197,6 +204,12 @@ by_one t d e =
     let h : int_div t (pos 1) *ℤ pos 1 ≡ t = int_div-mul t 1 (one-dvd (unsigned_abs t)) in
     let q : t ≡ int_div t (pos 1) = omega (arith, ints, h) in
     subst (λ (n : ℕ). t ≡ int_div t (pos n)) (sym e) q
+
+-- and 0 divided by a number is 0
+pub nothing_by : (t : ℤ) (d : ℕ) → 0 < d → t ≡ pos 0 → pos 0 ≡ int_div t (pos d)
+nothing_by t d pd e =
+    let z : int_div t (pos d) *ℤ pos d ≡ pos 0 *ℤ pos d = int_div-mul t d (subst (λ (x : ℤ). d ∣ unsigned_abs x) (sym e) (dvd-zero d)) ∙ (e ∙ sym (same_value (nat 0 ⊗ nat d) (nat 0) (omega arith))) in
+    sym (mul_cancel (int_div t (pos d)) (pos 0) d pd z)
 
 -- ---- numbers before a place, each times a factor
 pub record IsRaisedBelow (old : List ℤ) (factor : ℤ) (tops : List ℤ) (k : ℕ) : Type 0 where

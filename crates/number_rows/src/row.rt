@@ -8,6 +8,7 @@ ghost use Rattle.fractions.specs.Limits.{IsNarrow};
 ghost use Rattle.linear_table.specs.Plans.{number_at};
 ghost use Rattle.linear_table.specs.Wide.{LessFits};
 ghost use Rattle.number_rows.specs.Changed.{AreNarrow, IsDividedRow, IsReducedRow};
+ghost use Rattle.number_rows.specs.Places.{AreFilled};
 ghost use Rattle.number_rows.specs.Row.{kept};
 ghost use Rattle.number_rows.specs.Tops.{top_at, AreWithin};
 
@@ -198,6 +199,23 @@ impl Row {
         }
     }
 
+    /// The places at which the numbers aren't 0, in rising order.
+    ///
+    /// # Errors
+    ///
+    /// `NoMemory` where memory could not be had.
+    pub fn filled_places(&self, alloc: Global) -> Result<Vec<usize>, NoMemory>
+        ensures { IfOk result (λ places. AreFilled places.items self.now.items) }
+    {
+        let mut places = Vec::with_capacity(alloc, self.len())?;
+        for k in 0..self.len() {
+            if !self.is_zero(k) {
+                places.push(k)?;
+            }
+        }
+        Ok(places)
+    }
+
     /// How the quotients of two numbers of two rows compare, where both rows are short.
     pub fn compare_short(&self, other: &Row, value: usize, enter: usize) -> Option<Ordering>
         requires inside { (value < length self.now.items) × (enter < length self.now.items) }
@@ -269,9 +287,10 @@ impl Row {
     }
 
     // Takes its number at `enter` times the pivot's row from a row, where both are short and stay within the limits.
-    fn reduce_short(&mut self, enter: usize, pivot_row: &Row) -> bool
+    fn reduce_short(&mut self, enter: usize, pivot_row: &Row, places: &[usize]) -> bool
         requires inside { enter < length self.old.items }
         requires width { length self.old.items ≡ length pivot_row.now.items }
+        requires places { AreFilled places.now pivot_row.now.items }
         ensures done { OnTrue result (IsReducedRow self.old.items (number_at self.old.items enter) pivot_row.now.items self.new.items) }
         ensures not { OnFalse result (self.new ≡ self.old) }
     {
@@ -301,6 +320,7 @@ impl Row {
             scale as i64,
             &pivot_row.tops,
             factor,
+            places,
             bound,
             pivot_row.bound,
         );
@@ -404,27 +424,30 @@ impl Row {
         Ok(reduced)
     }
 
-    /// Takes its number at `enter` times the pivot's row from a row, or says which number that makes wide.
+    /// Takes its number at `enter` times the pivot's row from a row, or says which number that makes wide. The pivot's row isn't 0
+    /// at the places.
     ///
     /// # Errors
     ///
     /// `NoMemory` where the row gets past the limit of short ones, and memory for that could not be had.
-    pub fn reduce(
+    pub fn reduce_at(
         &mut self,
         alloc: Global,
         enter: usize,
         pivot_row: &Row,
+        places: &[usize],
     ) -> Result<Result<(), usize>, NoMemory>
         requires inside { enter < length self.old.items }
         requires width { length self.old.items ≡ length pivot_row.now.items }
         requires narrow { AreNarrow self.old.items }
+        requires places { AreFilled places.now pivot_row.now.items }
         ensures ok { IfOk result (λ reduced. OnOk reduced (IsReducedRow self.old.items (number_at self.old.items enter) pivot_row.now.items self.new.items)) }
         ensures err { IfOk result (λ reduced. IfErr reduced (λ k. (k < length self.old.items) × ¬ LessFits (number_at self.old.items k) (number_at self.old.items enter) (number_at pivot_row.now.items k))) }
     {
         if self.is_zero(enter) {
             return Ok(Ok(()));
         }
-        if self.reduce_short(enter, pivot_row) {
+        if self.reduce_short(enter, pivot_row, places) {
             return Ok(Ok(()));
         }
         if self.reduce_over(enter, pivot_row) {

@@ -1,10 +1,11 @@
 //! Whole numbers of 64 bits that stand over one denominator.
 
 ghost use Rattle.std.specs.Prelude.{◌≡◌, ℕ, ◌<◌, ◌≤◌, ◌+◌, ◌*◌, ◌%◌, ◌^◌, ℤ, pos, ◌*ℤ◌, ◌-ℤ◌, neg_ℤ, int_div, unsigned_abs, length, IfSome};
-ghost use Rattle.std.specs.Bool.{OnTrue, OnFalse};
+ghost use Rattle.std.specs.Bool.{OnTrue};
 ghost use Rattle.std.specs.Int.{◌∣◌};
 ghost use Rattle.fractions.specs.Fraction.{frac};
 ghost use Rattle.fractions.specs.Gcd.{gcd};
+ghost use Rattle.number_rows.specs.Places.{HoldsBut};
 ghost use Rattle.number_rows.specs.Tops.{top_at, AreWithin, DividesAll, IsDividedBy, IsCombined, IsCombinedOver, IsTurned, IsLowered, AreOver, DividesInto, AreWithinBelow, IsOverBelow};
 
 use fractions::Ratio;
@@ -97,6 +98,9 @@ pub fn quotient(top: i64, divisor: u64) -> i64
     if divisor == 1 {
         return top;
     }
+    if top == 0 {
+        return 0;
+    }
     top / divisor as i64
 }
 
@@ -167,13 +171,6 @@ fn combined_bound(bound: u64, scale: u64, other_bound: u64, factor: u64) -> u64
     bound * scale + other_bound * factor
 }
 
-// Whether a number may change where it is taken times the scale, less the other times a factor.
-fn may_change(scale: i64, other: i64) -> bool
-    ensures { OnFalse result ((scale ≡ pos 1) × (other ≡ pos 0)) }
-{
-    scale != 1 || other != 0
-}
-
 // Makes of each number that number times the scale, less the other row's times the factor.
 fn combine_each(tops: &mut [i64], scale: i64, others: &[i64], factor: i64)
     requires lengths { length tops.old ≡ length others.now }
@@ -183,35 +180,57 @@ fn combine_each(tops: &mut [i64], scale: i64, others: &[i64], factor: i64)
     ensures { IsCombined tops.old scale others.now factor tops.new }
 {
     for k in 0..tops.len() {
-        if may_change(scale, others[k]) {
-            let top = combined(tops[k], scale, others[k], factor);
-            tops[k] = top;
-        }
+        let top = combined(tops[k], scale, others[k], factor);
+        tops[k] = top;
     }
 }
 
-// The same, with steps of their own where the scale is 1, as it mostly is.
-fn combine_by(tops: &mut [i64], scale: i64, others: &[i64], factor: i64)
+// The same where the scale is 1: only the numbers at the places change at which the other row isn't 0. All before `from` are
+// done.
+fn combine_at(tops: &mut [i64], scale: i64, others: &[i64], factor: i64, places: &[usize])
     requires lengths { length tops.old ≡ length others.now }
     requires tops { (k : ℕ) → k < length tops.old → unsigned_abs (top_at tops.old k) < 2 ^ 62 }
     requires others { (k : ℕ) → k < length others.now → unsigned_abs (top_at others.now k) < 2 ^ 62 }
     requires fits { (k : ℕ) → k < length tops.old → unsigned_abs (top_at tops.old k) * unsigned_abs scale + unsigned_abs (top_at others.now k) * unsigned_abs factor < 2 ^ 62 }
+    requires one { scale ≡ pos 1 }
+    requires places { HoldsBut (λ k. top_at others.now k ≡ pos 0) 0 places.now (length others.now) }
+    ensures { IsCombined tops.old scale others.now factor tops.new }
+{
+    let mut from = 0;
+    let mut rest = places;
+    while let [place, later @ ..] = rest {
+        let k = *place;
+        let top = combined(tops[k], scale, others[k], factor);
+        tops[k] = top;
+        from = k + 1;
+        rest = later;
+    }
+}
+
+// The same for any scale.
+fn combine_by(tops: &mut [i64], scale: i64, others: &[i64], factor: i64, places: &[usize])
+    requires lengths { length tops.old ≡ length others.now }
+    requires tops { (k : ℕ) → k < length tops.old → unsigned_abs (top_at tops.old k) < 2 ^ 62 }
+    requires others { (k : ℕ) → k < length others.now → unsigned_abs (top_at others.now k) < 2 ^ 62 }
+    requires fits { (k : ℕ) → k < length tops.old → unsigned_abs (top_at tops.old k) * unsigned_abs scale + unsigned_abs (top_at others.now k) * unsigned_abs factor < 2 ^ 62 }
+    requires places { HoldsBut (λ k. top_at others.now k ≡ pos 0) 0 places.now (length others.now) }
     ensures { IsCombined tops.old scale others.now factor tops.new }
 {
     if scale == 1 {
-        combine_each(tops, 1, others, factor);
+        combine_at(tops, 1, others, factor, places);
     } else {
         combine_each(tops, scale, others, factor);
     }
 }
 
-/// Makes of each number that number times the scale, less the other row's times the factor. Says how great their
-/// magnitudes are at most, as the bounds tell it.
+/// Makes of each number that number times the scale, less the other row's times the factor. The other row isn't 0 at the
+/// places. Says how great their magnitudes are at most, as the bounds tell it.
 pub fn combine(
     tops: &mut [i64],
     scale: i64,
     others: &[i64],
     factor: i64,
+    places: &[usize],
     bound: u64,
     other_bound: u64,
 ) -> u64
@@ -221,6 +240,7 @@ pub fn combine(
     requires bound_small { bound < 2 ^ 62 }
     requires other_bound_small { other_bound < 2 ^ 62 }
     requires fits { bound * unsigned_abs scale + other_bound * unsigned_abs factor < 2 ^ 62 }
+    requires places { HoldsBut (λ k. top_at others.now k ≡ pos 0) 0 places.now (length others.now) }
     ensures combined { IsCombined tops.old scale others.now factor tops.new }
     ensures within { AreWithin tops.new result }
     ensures small { result < 2 ^ 62 }
@@ -231,7 +251,7 @@ pub fn combine(
         other_bound,
         factor.unsigned_abs(),
     );
-    combine_by(tops, scale, others, factor);
+    combine_by(tops, scale, others, factor, places);
     most
 }
 

@@ -23,10 +23,10 @@ returns-in-Err-2-clause-err c =
     wide_row c.args.rows.now c.args.row c.args.enter c.in-Err-2.spot.row c.in-Err-2.spot.place c.replace-pivot_row.result c.replace-pivot_row.new.dest c.divide.new.self
     (taken (goal.at.returns-in-Err-2-clause-err c).After-replace-pivot_row) c.in_default.ensures.ok e.0 e.1 e.2 e.3
 
-pub reduce-requires-clause-width : goal.reduce-requires-clause-width
-reduce-requires-clause-width c =
+pub reduce_at-requires-clause-width : goal.reduce_at-requires-clause-width
+reduce_at-requires-clause-width c =
     divided_width c.args.rows.now c.args.cost.now.items c.args.row c.args.enter c.replace-pivot_row.result c.divide.new.self
-    (taken (goal.at.reduce-requires-clause-width c).After-replace-pivot_row) c.in_default.ensures.ok c.requires.cost_width
+    (taken (goal.at.reduce_at-requires-clause-width c).After-replace-pivot_row) c.in_default.ensures.ok c.requires.cost_width
 
 pub returns-in-Err-3-clause-err : goal.returns-in-Err-3-clause-err
 returns-in-Err-3-clause-err c =
@@ -36,6 +36,6 @@ returns-in-Err-3-clause-err c =
 
 pub returns-clause-ok : goal.returns-clause-ok
 returns-clause-ok c =
-    pivoted_rows c.args.rows.now c.reduce_rows.new.rows c.args.cost.now.items c.reduce.new.self.items c.args.row c.args.enter c.replace-pivot_row.result c.replace-pivot_row.new.dest c.divide.new.self c.requires.inside
+    pivoted_rows c.args.rows.now c.reduce_rows.new.rows c.args.cost.now.items c.reduce_at.new.self.items c.args.row c.args.enter c.replace-pivot_row.result c.replace-pivot_row.new.dest c.divide.new.self c.requires.inside
     (taken (goal.at.returns-clause-ok c).After-replace-pivot_row) c.in_default.ensures.ok
     (where_ok c.in_ok-spot.field-0 c.in_default-2.field-0 c.in_default-2.is c.in_ok-spot.ensures.ok) (where_ok c.in_ok-place.field-0 c.in_default-3.field-0 c.in_default-3.is c.in_ok-place.ensures.ok)

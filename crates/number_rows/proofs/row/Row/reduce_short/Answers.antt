@@ -11,6 +11,7 @@ use Rattle.std.proofs.Math.Nat.{div-le_self}
 use Rattle.fractions.specs.Fraction.{lower_pos}
 use Rattle.fractions.specs.Fracs.{pos_product}
 use Rattle.number_rows.proofs.Lists.{back}
+use Rattle.number_rows.proofs.Filled.{filled_tops}
 use Rattle.number_rows.proofs.Exchanged.{reduced_row, combined_tops, factor_is, scale_back, combined_plain}
 use Rattle.number_rows.proofs.row.Row.reduce_short.Goals.{After-quotient-factor}
 use Rattle.number_rows.proofs.row.Row.reduce_short.Goals as goal
@@ -31,6 +32,11 @@ pub fitting_bound-requires-clause-factor : goal.fitting_bound-requires-clause-fa
 fitting_bound-requires-clause-factor c =
     let f = factor (goal.at.fitting_bound-requires-clause-factor c).After-quotient-factor in
     omega (arith, c.unsigned_abs-2.ensures.value, ap unsigned_abs (back c.quotient-factor.result (omega (arith, f.1))), f.1)
+
+pub combine-self-inside-requires-clause-places : goal.combine-self-inside-requires-clause-places
+combine-self-inside-requires-clause-places c =
+    let p = c.pivot_row.inside in
+    filled_tops p.short p.bottom p.bound p.tops.items p.numbers.items c.args.pivot_row.now _ c.args.places.now c.pivot_row.view_is c.if-not-pivot_row.false c.pivot_row.invariant c.deref-2.ensures.value c.requires.places
 
 pub invariant_of-self : goal.invariant_of-self
 invariant_of-self c =

@@ -1,0 +1,19 @@
+-- The places of a row's numbers are those of the whole numbers that it keeps.
+use Rattle.std.specs.Prelude.{◌≡◌, ℕ, ℤ, pos, Bool, true, List, length}
+use Rattle.std.proofs.Common.{sym, subst, ◌∙◌}
+use Rattle.fractions.specs.Fraction.{Fraction, zero_fraction}
+use Rattle.linear_table.specs.Plans.{number_at}
+use Rattle.number_rows.specs.Changed.{Numbers}
+use Rattle.number_rows.specs.Places.{HoldsBut, AreFilled}
+use Rattle.number_rows.specs.Row.{kept, IsKept}
+use Rattle.number_rows.specs.Tops.{top_at}
+use Rattle.number_rows.proofs.Kept.{short_at, length_shown}
+use Rattle.number_rows.proofs.Places.{but_map}
+use Rattle.number_rows.proofs.Signs.{top_none}
+
+pub filled_tops : {room : ℕ} (s : Bool) (b bound : ℕ) (ts : List ℤ) (ns : List Fraction) (xs : Numbers) (ws : List ℤ) (places : List ℕ) → record { items = kept s b ts ns } ≡ xs → s ≡ true → IsKept s b bound ts ns room → ws ≡ ts → AreFilled places xs.items → HoldsBut (λ k. top_at ws k ≡ pos 0) 0 places (length ws)
+filled_tops s b bound ts ns xs ws places ex es h ew filled =
+    subst (λ (l : List ℤ). HoldsBut (λ k. top_at l k ≡ pos 0) 0 places (length l)) (sym ew)
+    (but_map (λ k. number_at xs.items k ≡ zero_fraction) (λ k. top_at ts k ≡ pos 0) 0 places (length ts)
+    (λ k q e. top_none (top_at ts k) b h.positive (sym (short_at s b ts ns xs k ex es q) ∙ e))
+    (subst (λ (n : ℕ). HoldsBut (λ k. number_at xs.items k ≡ zero_fraction) 0 places n) (length_shown s b ts ns xs ex h.same_length) filled))
