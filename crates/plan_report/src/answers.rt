@@ -6,7 +6,8 @@ ghost use Rattle.plan_report.specs.Questions.{history_words, list_lines, mask_li
 
 use crate::nodes::node_word;
 use crate::questions::{
-    forbidden_line, group_lines, mask_end, node_lines, ranked_lines, why_lines,
+    forbidden_line, push_group_lines, push_mask_end, push_node_lines, push_ranked_lines,
+    push_why_lines,
 };
 use crate::words::kind_word;
 use game_types::Game;
@@ -51,10 +52,11 @@ pub fn list_text(
     requires { IsSound game.now }
     ensures { IfOk result (λ text. string_bytes text ≡ reply_text line (list_lines game.now kind nodes.now)) }
 {
-    let further = ranked_lines(alloc, game, nodes)?;
     let kind = kind_word(kind);
     let count = nodes.len();
-    Ok(format!(in alloc; "{line} list {kind} {count}\n{further}")?)
+    let mut text = format!(in alloc; "{line} list {kind} {count}\n")?;
+    push_ranked_lines(alloc, &mut text, game, nodes)?;
+    Ok(text)
 }
 
 /// The reply that lists the nodes which support one; there are none where it is not reached.
@@ -76,8 +78,9 @@ pub fn why_text(
     if nodes.is_empty() {
         return Ok(format!(in alloc; "{line} why {node} no\n")?);
     }
-    let further = why_lines(alloc, game, nodes)?;
-    Ok(format!(in alloc; "{line} why {node}\n{further}")?)
+    let mut text = format!(in alloc; "{line} why {node}\n")?;
+    push_why_lines(alloc, &mut text, game, nodes)?;
+    Ok(text)
 }
 
 /// The reply that lists the groups of a node which are not satisfied.
@@ -102,8 +105,9 @@ pub fn missing_text(
         return Ok(format!(in alloc; "{line} missing {node} none\n")?);
     }
     let forbidden = forbidden_line(forbidden);
-    let groups = group_lines(alloc, game, groups)?;
-    Ok(format!(in alloc; "{line} missing {node}\n{forbidden}{groups}")?)
+    let mut text = format!(in alloc; "{line} missing {node}\n{forbidden}")?;
+    push_group_lines(alloc, &mut text, game, groups)?;
+    Ok(text)
 }
 
 /// The reply that names the milestones without which a node is not reached.
@@ -123,8 +127,9 @@ pub fn mask_text(
     ensures { IfOk result (λ text. string_bytes text ≡ reply_text line (mask_line game.now node reached milestones.now ∷ [])) }
 {
     let node = node_word(alloc, game, node)?;
-    let words = mask_end(alloc, game, reached, milestones)?;
-    Ok(format!(in alloc; "{line} mask {node}{words}")?)
+    let mut text = format!(in alloc; "{line} mask {node}")?;
+    push_mask_end(alloc, &mut text, game, reached, milestones)?;
+    Ok(text)
 }
 
 /// The reply that lists all milestones.
@@ -141,9 +146,10 @@ pub fn milestones_text(
     requires { IsSound game.now }
     ensures { IfOk result (λ text. string_bytes text ≡ reply_text line (milestones_lines game.now nodes.now)) }
 {
-    let further = node_lines(alloc, game, nodes)?;
     let count = nodes.len();
-    Ok(format!(in alloc; "{line} milestones {count}\n{further}")?)
+    let mut text = format!(in alloc; "{line} milestones {count}\n")?;
+    push_node_lines(alloc, &mut text, game, nodes)?;
+    Ok(text)
 }
 
 // The end of a line: how many tables there are, and how many entries are done and undone.

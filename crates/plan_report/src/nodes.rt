@@ -1,11 +1,11 @@
 // The nodes and the goods of a game as words.
-ghost use Rattle.std.specs.Prelude.{◌≡◌, ◌+◌, ◌<◌, ◌-◌, IfOk, string_bytes};
+ghost use Rattle.std.specs.Prelude.{◌≡◌, ◌+◌, ◌<◌, ◌-◌, ◌++◌, IfOk, OnOk, string_bytes};
 ghost use Rattle.plan_base.specs.Shape.{first_of};
 ghost use Rattle.game_types.specs.Nodes.{shape_of};
 ghost use Rattle.game_types.specs.Sound.{IsSound};
 ghost use Rattle.plan_report.specs.Nodes.{good_word, kind_at, name_at, node_word};
 
-use crate::words::object_word;
+use crate::words::{object_word, push_object_word};
 use game_types::Game;
 use plan_base::{GoodId, Kind, NodeId};
 use std::alloc::{AllocError, Global};
@@ -24,14 +24,29 @@ fn kind_and_name(game: &Game, node: NodeId) -> (Kind, &str)
     }
 }
 
-/// The word of a node.
+/// Puts the word of a node behind a text.
 #[tactic(auto, unfolding(crate::specs::Nodes::node_word))]
+pub fn push_node_word(
+    alloc: Global,
+    text: &mut String,
+    game: &Game,
+    node: NodeId,
+) -> Result<(), AllocError>
+    requires { IsSound game.now }
+    ensures { OnOk result (string_bytes text.new ≡ string_bytes text.old ++ node_word game.now node) }
+{
+    let (kind, name) = kind_and_name(game, node);
+    push_object_word(alloc, text, kind, name)
+}
+
+/// The word of a node.
 pub fn node_word(alloc: Global, game: &Game, node: NodeId) -> Result<String, AllocError>
     requires { IsSound game.now }
     ensures { IfOk result (λ text. string_bytes text ≡ node_word game.now node) }
 {
-    let (kind, name) = kind_and_name(game, node);
-    object_word(alloc, kind, name)
+    let mut text = String::new(alloc);
+    push_node_word(alloc, &mut text, game, node)?;
+    Ok(text)
 }
 
 // The name of a technology, empty past the last.

@@ -1,128 +1,213 @@
 // The further lines of the replies to questions about nodes.
-ghost use Rattle.std.specs.Prelude.{◌≡◌, ◌∷◌, [], IfOk, map, string_bytes};
+ghost use Rattle.std.specs.Prelude.{◌≡◌, ◌∷◌, ◌++◌, [], true, OnOk, codes, map, string_bytes, if◌then◌else◌};
 ghost use Rattle.game_types.specs.Sound.{IsSound};
 ghost use Rattle.plan_report.specs.Layout.{further_line, further_text, line_then, spaced};
 ghost use Rattle.plan_report.specs.Nodes.{node_word};
 ghost use Rattle.plan_report.specs.Questions.{forbidden_lines, group_line, mask_words, ranked_line, why_line};
 
-use crate::nodes::node_word;
+use crate::nodes::push_node_word;
 use game_types::Game;
 use plan_base::{Items, NoMemory, NodeId};
 use std::alloc::Global;
 
-// Nodes, each behind a space.
-fn spaced_nodes(alloc: Global, game: &Game, nodes: &[NodeId]) -> Result<String, NoMemory>
-    requires { IsSound game.now }
-    ensures { IfOk result (λ text. string_bytes text ≡ spaced (map (node_word game.now) nodes.now)) }
-{
-    let mut text = String::new(alloc);
-    for node in nodes {
-        let word = node_word(alloc, game, *node)?;
-        write!(text, " {word}")?;
-    }
-    Ok(text)
-}
-
-/// The end of a line: nodes, each behind a space.
-#[tactic(auto, using(crate::proofs::Texts::line_words))]
-pub fn nodes_end(alloc: Global, game: &Game, nodes: &[NodeId]) -> Result<String, NoMemory>
-    requires { IsSound game.now }
-    ensures { IfOk result (λ text. string_bytes text ≡ line_then (map (node_word game.now) nodes.now) []) }
-{
-    let words = spaced_nodes(alloc, game, nodes)?;
-    Ok(format!(in alloc; "{words}\n")?)
-}
-
-/// A line for each node.
-pub fn node_lines(alloc: Global, game: &Game, nodes: &[NodeId]) -> Result<String, NoMemory>
-    requires { IsSound game.now }
-    ensures { IfOk result (λ text. string_bytes text ≡ further_text (map (λ node. node_word game.now node ∷ []) nodes.now)) }
-{
-    let mut text = String::new(alloc);
-    for node in nodes {
-        let word = node_word(alloc, game, *node)?;
-        write!(text, "  {word}\n")?;
-    }
-    Ok(text)
-}
-
-/// A line for each node with its rank.
-pub fn ranked_lines(alloc: Global, game: &Game, nodes: &[(NodeId, u32)]) -> Result<String, NoMemory>
-    requires { IsSound game.now }
-    ensures { IfOk result (λ text. string_bytes text ≡ further_text (map (ranked_line game.now) nodes.now)) }
-{
-    let mut text = String::new(alloc);
-    for (node, rank) in nodes {
-        let word = node_word(alloc, game, *node)?;
-        write!(text, "  {word} rank {rank}\n")?;
-    }
-    Ok(text)
-}
-
-// A node that supports another.
-fn why_line(
+// Puts a space and a node behind a text.
+fn push_spaced_node(
     alloc: Global,
+    text: &mut String,
+    game: &Game,
+    node: NodeId,
+) -> Result<(), NoMemory>
+    requires { IsSound game.now }
+    ensures { OnOk result (string_bytes text.new ≡ string_bytes text.old ++ 32 ∷ node_word game.now node) }
+{
+    text.push_str(" ")?;
+    push_node_word(alloc, text, game, node)?;
+    Ok(())
+}
+
+// Puts nodes behind a text, each behind a space.
+fn push_nodes(
+    alloc: Global,
+    text: &mut String,
+    game: &Game,
+    nodes: &[NodeId],
+) -> Result<(), NoMemory>
+    requires { IsSound game.now }
+    ensures { OnOk result (string_bytes text.new ≡ string_bytes text.old ++ spaced (map (node_word game.now) nodes.now)) }
+{
+    for node in nodes {
+        push_spaced_node(alloc, text, game, *node)?;
+    }
+    Ok(())
+}
+
+// Puts the end of a line behind a text: nodes, each behind a space.
+fn push_nodes_end(
+    alloc: Global,
+    text: &mut String,
+    game: &Game,
+    nodes: &[NodeId],
+) -> Result<(), NoMemory>
+    requires { IsSound game.now }
+    ensures { OnOk result (string_bytes text.new ≡ string_bytes text.old ++ line_then (map (node_word game.now) nodes.now) []) }
+{
+    push_nodes(alloc, text, game, nodes)?;
+    text.push_str("\n")?;
+    Ok(())
+}
+
+// Puts the line of a node behind a text.
+fn push_node_line(
+    alloc: Global,
+    text: &mut String,
+    game: &Game,
+    node: NodeId,
+) -> Result<(), NoMemory>
+    requires { IsSound game.now }
+    ensures { OnOk result (string_bytes text.new ≡ string_bytes text.old ++ further_line (node_word game.now node ∷ [])) }
+{
+    text.push_str("  ")?;
+    push_node_word(alloc, text, game, node)?;
+    text.push_str("\n")?;
+    Ok(())
+}
+
+/// Puts a line for each node behind a text.
+pub fn push_node_lines(
+    alloc: Global,
+    text: &mut String,
+    game: &Game,
+    nodes: &[NodeId],
+) -> Result<(), NoMemory>
+    requires { IsSound game.now }
+    ensures { OnOk result (string_bytes text.new ≡ string_bytes text.old ++ further_text (map (λ node. node_word game.now node ∷ []) nodes.now)) }
+{
+    for node in nodes {
+        push_node_line(alloc, text, game, *node)?;
+    }
+    Ok(())
+}
+
+// Puts the line of a node with its rank behind a text.
+fn push_ranked_line(
+    alloc: Global,
+    text: &mut String,
+    game: &Game,
+    node: NodeId,
+    rank: u32,
+) -> Result<(), NoMemory>
+    requires { IsSound game.now }
+    ensures { OnOk result (string_bytes text.new ≡ string_bytes text.old ++ further_line (ranked_line game.now (node, rank))) }
+{
+    text.push_str("  ")?;
+    push_node_word(alloc, text, game, node)?;
+    write!(text, " rank {rank}\n")?;
+    Ok(())
+}
+
+/// Puts a line for each node with its rank behind a text.
+pub fn push_ranked_lines(
+    alloc: Global,
+    text: &mut String,
+    game: &Game,
+    nodes: &[(NodeId, u32)],
+) -> Result<(), NoMemory>
+    requires { IsSound game.now }
+    ensures { OnOk result (string_bytes text.new ≡ string_bytes text.old ++ further_text (map (ranked_line game.now) nodes.now)) }
+{
+    for (node, rank) in nodes {
+        push_ranked_line(alloc, text, game, *node, *rank)?;
+    }
+    Ok(())
+}
+
+// Puts the line of a node that supports another and is granted behind a text.
+fn push_granted_line(
+    alloc: Global,
+    text: &mut String,
+    game: &Game,
+    node: NodeId,
+    rank: u32,
+) -> Result<(), NoMemory>
+    requires { IsSound game.now }
+    ensures { OnOk result (string_bytes text.new ≡ string_bytes text.old ++ further_line (why_line game.now (node, rank, true))) }
+{
+    text.push_str("  ")?;
+    push_node_word(alloc, text, game, node)?;
+    write!(text, " rank {rank} granted\n")?;
+    Ok(())
+}
+
+// Puts the line of a node that supports another behind a text.
+fn push_why_line(
+    alloc: Global,
+    text: &mut String,
     game: &Game,
     node: NodeId,
     rank: u32,
     granted: bool,
-) -> Result<String, NoMemory>
+) -> Result<(), NoMemory>
     requires { IsSound game.now }
-    ensures { IfOk result (λ text. string_bytes text ≡ further_line (why_line game.now (node, rank, granted))) }
+    ensures { OnOk result (string_bytes text.new ≡ string_bytes text.old ++ further_line (why_line game.now (node, rank, granted))) }
 {
-    let word = node_word(alloc, game, node)?;
     if granted {
-        Ok(format!(in alloc; "  {word} rank {rank} granted\n")?)
+        push_granted_line(alloc, text, game, node, rank)
     } else {
-        Ok(format!(in alloc; "  {word} rank {rank}\n")?)
+        push_ranked_line(alloc, text, game, node, rank)
     }
 }
 
-/// A line for each node that supports another.
-pub fn why_lines(
+/// Puts a line for each node that supports another behind a text.
+pub fn push_why_lines(
     alloc: Global,
+    text: &mut String,
     game: &Game,
     nodes: &[(NodeId, u32, bool)],
-) -> Result<String, NoMemory>
+) -> Result<(), NoMemory>
     requires { IsSound game.now }
-    ensures { IfOk result (λ text. string_bytes text ≡ further_text (map (why_line game.now) nodes.now)) }
+    ensures { OnOk result (string_bytes text.new ≡ string_bytes text.old ++ further_text (map (why_line game.now) nodes.now)) }
 {
-    let mut text = String::new(alloc);
     for (node, rank, granted) in nodes {
-        let line = why_line(alloc, game, *node, *rank, *granted)?;
-        text.push_str(line.as_str())?;
+        push_why_line(alloc, text, game, *node, *rank, *granted)?;
     }
-    Ok(text)
+    Ok(())
 }
 
-// A group of nodes of which all are needed, or any.
-fn group_line(alloc: Global, game: &Game, all: bool, members: &[NodeId]) -> Result<String, NoMemory>
-    requires { IsSound game.now }
-    ensures { IfOk result (λ text. string_bytes text ≡ further_line (group_line game.now (all, members.now))) }
+fn group_word(all: bool) -> &'static str
+    ensures { result.now ≡ (if all then codes "  all" else codes "  any") }
 {
-    let members = nodes_end(alloc, game, members)?;
-    if all {
-        Ok(format!(in alloc; "  all{members}")?)
-    } else {
-        Ok(format!(in alloc; "  any{members}")?)
-    }
+    if all { "  all" } else { "  any" }
 }
 
-/// A line for each group.
-pub fn group_lines(
+// Puts the line of a group of nodes, of which all are needed or any, behind a text.
+fn push_group_line(
     alloc: Global,
+    text: &mut String,
+    game: &Game,
+    all: bool,
+    members: &[NodeId],
+) -> Result<(), NoMemory>
+    requires { IsSound game.now }
+    ensures { OnOk result (string_bytes text.new ≡ string_bytes text.old ++ further_line (group_line game.now (all, members.now))) }
+{
+    text.push_str(group_word(all))?;
+    push_nodes_end(alloc, text, game, members)
+}
+
+/// Puts a line for each group behind a text.
+pub fn push_group_lines(
+    alloc: Global,
+    text: &mut String,
     game: &Game,
     groups: &[(bool, Items<NodeId>)],
-) -> Result<String, NoMemory>
+) -> Result<(), NoMemory>
     requires { IsSound game.now }
-    ensures { IfOk result (λ text. string_bytes text ≡ further_text (map (group_line game.now) groups.now)) }
+    ensures { OnOk result (string_bytes text.new ≡ string_bytes text.old ++ further_text (map (group_line game.now) groups.now)) }
 {
-    let mut text = String::new(alloc);
     for (all, members) in groups {
-        let line = group_line(alloc, game, *all, members.as_slice())?;
-        text.push_str(line.as_str())?;
+        push_group_line(alloc, text, game, *all, members.as_slice())?;
     }
-    Ok(text)
+    Ok(())
 }
 
 /// The line which says that a node is barred, where it is.
@@ -132,21 +217,24 @@ pub fn forbidden_line(forbidden: bool) -> &'static str
     if forbidden { "  forbidden\n" } else { "" }
 }
 
-/// The end of a line: the milestones without which a node is not reached, each behind a space.
-pub fn mask_end(
+/// Puts the end of a line behind a text: the milestones without which a node is not reached, each behind a space.
+pub fn push_mask_end(
     alloc: Global,
+    text: &mut String,
     game: &Game,
     reached: bool,
     milestones: &[NodeId],
-) -> Result<String, NoMemory>
+) -> Result<(), NoMemory>
     requires { IsSound game.now }
-    ensures { IfOk result (λ text. string_bytes text ≡ line_then (mask_words game.now reached milestones.now) []) }
+    ensures { OnOk result (string_bytes text.new ≡ string_bytes text.old ++ line_then (mask_words game.now reached milestones.now) []) }
 {
     if !reached {
-        Ok(String::from_str(alloc, " unreached\n")?)
+        text.push_str(" unreached\n")?;
+        Ok(())
     } else if milestones.is_empty() {
-        Ok(String::from_str(alloc, " none\n")?)
+        text.push_str(" none\n")?;
+        Ok(())
     } else {
-        nodes_end(alloc, game, milestones)
+        push_nodes_end(alloc, text, game, milestones)
     }
 }

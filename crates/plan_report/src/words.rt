@@ -1,5 +1,5 @@
 //! Words as they are printed.
-ghost use Rattle.std.specs.Prelude.{◌≡◌, ◌++◌, not, IfOk, OnOk, encode_utf8, string_bytes};
+ghost use Rattle.std.specs.Prelude.{◌≡◌, ◌++◌, ◌∷◌, not, IfOk, OnOk, encode_utf8, string_bytes};
 ghost use Rattle.std.specs.List.{flat_map, list_all};
 ghost use Rattle.script_reader.specs.Fields.{kind_word};
 ghost use Rattle.plan_report.specs.Words.{in_quotes, is_bare, needs_quotes, object_word, printed_word, quoted};
@@ -82,11 +82,48 @@ pub fn printed_word(alloc: Global, word: &str) -> Result<String, AllocError>
     }
 }
 
-/// The name of an object as it is printed: its kind, a colon and its name, with the quotes round the whole word.
-pub fn object_word(alloc: Global, kind: Kind, name: &str) -> Result<String, AllocError>
-    ensures { IfOk result (λ text. string_bytes text ≡ object_word kind name.now) }
+// Puts the name of an object behind a text as it is.
+fn push_bare_object(text: &mut String, kind: Kind, name: &str) -> Result<(), AllocError>
+    ensures { OnOk result (string_bytes text.new ≡ string_bytes text.old ++ (kind_word kind ++ 58 ∷ name.now)) }
+{
+    text.push_str(kind_word(kind))?;
+    text.push_str(":")?;
+    text.push_str(name)
+}
+
+// The name of an object between quotes.
+fn quoted_object(alloc: Global, kind: Kind, name: &str) -> Result<String, AllocError>
+    ensures { IfOk result (λ text. string_bytes text ≡ quoted (kind_word kind ++ 58 ∷ name.now)) }
 {
     let kind = kind_word(kind);
     let word = format!(in alloc; "{kind}:{name}")?;
-    printed_word(alloc, word.as_str())
+    quoted(alloc, word.as_str())
+}
+
+#[tactic(auto, using(crate::proofs::WordLemmas::bare_object, crate::proofs::WordLemmas::quoted_object))]
+/// Puts the name of an object behind a text as it is printed: its kind, a colon and its name, with the quotes round the whole word.
+pub fn push_object_word(
+    alloc: Global,
+    text: &mut String,
+    kind: Kind,
+    name: &str,
+) -> Result<(), AllocError>
+    ensures { OnOk result (string_bytes text.new ≡ string_bytes text.old ++ object_word kind name.now) }
+{
+    // No kind has a byte that needs quotes.
+    if need_no_quotes(name.as_bytes()) {
+        push_bare_object(text, kind, name)
+    } else {
+        let word = quoted_object(alloc, kind, name)?;
+        text.push_str(word.as_str())
+    }
+}
+
+/// The name of an object as it is printed.
+pub fn object_word(alloc: Global, kind: Kind, name: &str) -> Result<String, AllocError>
+    ensures { IfOk result (λ text. string_bytes text ≡ object_word kind name.now) }
+{
+    let mut text = String::new(alloc);
+    push_object_word(alloc, &mut text, kind, name)?;
+    Ok(text)
 }

@@ -1,8 +1,0 @@
-use Rattle.std.proofs.Common.{string_bytes}
-use Rattle.plan_report.specs.Layout.{further_line}
-use Rattle.plan_report.specs.Questions.{ranked_line}
-use Rattle.plan_report.proofs.Texts.{TextSoFar}
-use Rattle.plan_report.proofs.questions.ranked_lines.Given as goal
-
-abbrev pub invariant-loop-node : goal.invariant-loop-node
-invariant-loop-node l = TextSoFar further_line (ranked_line l.game) l.nodes l.node-index (string_bytes l.text)
