@@ -5,7 +5,7 @@ ghost use Rattle.game_types.specs.Nodes.{shape_of};
 ghost use Rattle.game_types.specs.Sound.{IsSound};
 ghost use Rattle.plan_report.specs.Nodes.{good_word, kind_at, name_at, node_word};
 
-use crate::words::{object_word, push_object_word};
+use crate::words::push_object_word;
 use game_types::Game;
 use plan_base::{GoodId, Kind, NodeId};
 use std::alloc::{AllocError, Global};
@@ -61,19 +61,39 @@ fn tech_name(game: &Game, index: u32) -> &str
     }
 }
 
-/// The word of a good of a table: an item, a fluid, electric power or a technology.
+/// Puts the word of a good of a table behind a text: an item, a fluid, electric power or a technology.
 #[tactic(auto, unfolding(crate::specs::Nodes::good_word))]
-pub fn good_word(alloc: Global, game: &Game, good: GoodId) -> Result<String, AllocError>
+pub fn push_good_word(
+    alloc: Global,
+    text: &mut String,
+    game: &Game,
+    good: GoodId,
+) -> Result<(), AllocError>
     requires { IsSound game.now }
-    ensures { IfOk result (λ text. string_bytes text ≡ good_word game.now good) }
+    ensures { OnOk result (string_bytes text.new ≡ string_bytes text.old ++ good_word game.now good) }
 {
     let shape = game.shape();
     let power = shape.items + shape.fluids;
     if good.0 < power {
-        node_word(alloc, game, NodeId(3 + good.0))
+        push_node_word(alloc, text, game, NodeId(3 + good.0))
     } else if good.0 == power {
-        object_word(alloc, Kind::Special, "electricity")
+        push_object_word(alloc, text, Kind::Special, "electricity")
     } else {
-        object_word(alloc, Kind::Tech, tech_name(game, good.0 - (power + 1)))
+        push_object_word(
+            alloc,
+            text,
+            Kind::Tech,
+            tech_name(game, good.0 - (power + 1)),
+        )
     }
+}
+
+/// The word of a good of a table.
+pub fn good_word(alloc: Global, game: &Game, good: GoodId) -> Result<String, AllocError>
+    requires { IsSound game.now }
+    ensures { IfOk result (λ text. string_bytes text ≡ good_word game.now good) }
+{
+    let mut text = String::new(alloc);
+    push_good_word(alloc, &mut text, game, good)?;
+    Ok(text)
 }

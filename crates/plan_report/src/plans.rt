@@ -1,5 +1,5 @@
 // The further lines of what the solver says of a table.
-ghost use Rattle.std.specs.Prelude.{◌≡◌, ◌∷◌, ◌++◌, [], IfOk, codes, map, slice_index_or, string_bytes};
+ghost use Rattle.std.specs.Prelude.{◌≡◌, ◌∷◌, ◌++◌, [], IfOk, OnOk, codes, map, slice_index_or, string_bytes};
 ghost use Rattle.std.specs.List.{flat_map, zip};
 ghost use Rattle.fractions.specs.Print.{printed};
 ghost use Rattle.game_types.specs.Sound.{IsSound};
@@ -7,7 +7,8 @@ ghost use Rattle.plan_report.specs.Nodes.{good_word};
 ghost use Rattle.plan_report.specs.Layout.{further_line, further_text, line_then};
 ghost use Rattle.plan_report.specs.Plans.{column_kind, column_name, exchange_line, figure_word, place_line, price_line, price_lines, row_line, stream_lines, total_line, use_words};
 
-use crate::numbers::number_end;
+use crate::nodes::push_good_word;
+use crate::words::push_printed_word;
 use crate::{good_word, printed_word};
 use fractions::Ratio;
 use game_types::Game;
@@ -16,50 +17,69 @@ use plan_base::{GoodId, NoMemory, Text};
 use plan_lines::Figures;
 use std::alloc::Global;
 
-// A figure, or that it is past the limits of fractions.
-fn figure_word(alloc: Global, figure: Option<Ratio>) -> Result<Text, NoMemory>
-    ensures { IfOk result (λ text. text ≡ figure_word figure) }
+// Puts a number behind a text.
+fn push_number(alloc: Global, text: &mut String, number: &Ratio) -> Result<(), NoMemory>
+    ensures { OnOk result (string_bytes text.new ≡ string_bytes text.old ++ printed number.now) }
+{
+    let number = number.print(alloc)?;
+    text.push_str(number.as_str())?;
+    Ok(())
+}
+
+// Puts a figure, or that it is past the limits of fractions, behind a text.
+fn push_figure_word(alloc: Global, text: &mut String, figure: Option<Ratio>) -> Result<(), NoMemory>
+    ensures { OnOk result (string_bytes text.new ≡ string_bytes text.old ++ figure_word figure) }
 {
     match figure {
-        Some(figure) => figure.print(alloc),
-        None => Text::copy(alloc, "wide"),
+        Some(figure) => push_number(alloc, text, &figure),
+        None => {
+            text.push_str("wide")?;
+            Ok(())
+        }
     }
 }
 
-// A word and a figure, each behind a space, before the end of their line.
-fn figure_end(
+// Puts a word and a figure behind a text.
+fn push_figure(
     alloc: Global,
+    text: &mut String,
     word: &str,
     figure: Option<Ratio>,
-    end: String,
-) -> Result<String, NoMemory>
-    ensures { IfOk result (λ text. string_bytes text ≡ 32 ∷ (word.now ++ 32 ∷ (figure_word figure ++ string_bytes end))) }
+) -> Result<(), NoMemory>
+    ensures { OnOk result (string_bytes text.new ≡ string_bytes text.old ++ (word.now ++ figure_word figure)) }
 {
-    let figure = figure_word(alloc, figure)?;
-    Ok(format!(in alloc; " {word} {}{end}", figure.as_str())?)
+    text.push_str(word)?;
+    push_figure_word(alloc, text, figure)
 }
 
-// The end of a line: power, drain, beacons and pollution.
-fn use_words(alloc: Global, figures: &Figures) -> Result<String, NoMemory>
-    ensures { IfOk result (λ text. string_bytes text ≡ line_then (use_words figures.now) []) }
+// Puts the end of a line behind a text: power, drain, beacons and pollution.
+fn push_use_words(alloc: Global, text: &mut String, figures: &Figures) -> Result<(), NoMemory>
+    ensures { OnOk result (string_bytes text.new ≡ string_bytes text.old ++ line_then (use_words figures.now) []) }
 {
-    let end = String::from_str(alloc, "\n")?;
-    let end = figure_end(alloc, "pollution", figures.pollution, end)?;
-    let end = figure_end(alloc, "beacons", figures.beacons, end)?;
-    let end = figure_end(alloc, "drain", figures.drain, end)?;
-    figure_end(alloc, "power", figures.power, end)
+    push_figure(alloc, text, " power ", figures.power)?;
+    push_figure(alloc, text, " drain ", figures.drain)?;
+    push_figure(alloc, text, " beacons ", figures.beacons)?;
+    push_figure(alloc, text, " pollution ", figures.pollution)?;
+    text.push_str("\n")?;
+    Ok(())
 }
 
-// A row of a plan at its rate.
-fn row_line(alloc: Global, label: &str, rate: &Ratio, figures: &Figures) -> Result<String, NoMemory>
-    ensures { IfOk result (λ text. string_bytes text ≡ further_line (row_line (label.now, (rate.now, figures.now)))) }
+// Puts a row of a plan at its rate behind a text.
+fn push_row_line(
+    alloc: Global,
+    text: &mut String,
+    label: &str,
+    rate: &Ratio,
+    figures: &Figures,
+) -> Result<(), NoMemory>
+    ensures { OnOk result (string_bytes text.new ≡ string_bytes text.old ++ further_line (row_line (label.now, (rate.now, figures.now)))) }
 {
-    let end = use_words(alloc, figures)?;
-    let end = figure_end(alloc, "count", figures.count, end)?;
-    let end = figure_end(alloc, "machines", figures.machines, end)?;
-    let end = number_end(alloc, "rate", rate, end)?;
-    let label = printed_word(alloc, label)?;
-    Ok(format!(in alloc; "  row {label}{end}")?)
+    text.push_str("  row ")?;
+    push_printed_word(alloc, text, label)?;
+    push_figure(alloc, text, " rate ", Some(*rate))?;
+    push_figure(alloc, text, " machines ", figures.machines)?;
+    push_figure(alloc, text, " count ", figures.count)?;
+    push_use_words(alloc, text, figures)
 }
 
 /// A line for each row of a plan.
@@ -73,44 +93,49 @@ pub fn row_lines(
 {
     let mut text = String::new(alloc);
     for (label, (rate, figures)) in labels.iter().zip(rates.iter().zip(rows)) {
-        let line = row_line(alloc, label.as_str(), rate, figures)?;
-        text.push_str(line.as_str())?;
+        push_row_line(alloc, &mut text, label.as_str(), rate, figures)?;
     }
     Ok(text)
 }
 
-// A good and a number behind a word.
-fn good_line(
+// Puts a good and a number behind a text and a word.
+fn push_good_line(
     alloc: Global,
+    text: &mut String,
     game: &Game,
     word: &str,
     good: GoodId,
     number: &Ratio,
-) -> Result<String, NoMemory>
+) -> Result<(), NoMemory>
     requires { IsSound game.now }
-    ensures { IfOk result (λ text. string_bytes text ≡ further_line (word.now ∷ good_word game.now good ∷ printed number.now ∷ [])) }
+    ensures { OnOk result (string_bytes text.new ≡ string_bytes text.old ++ further_line (word.now ∷ good_word game.now good ∷ printed number.now ∷ [])) }
 {
-    let good = good_word(alloc, game, good)?;
-    let number = number.print(alloc)?;
-    let number = number.as_str();
-    Ok(format!(in alloc; "  {word} {good} {number}\n")?)
+    text.push_str("  ")?;
+    text.push_str(word)?;
+    text.push_str(" ")?;
+    push_good_word(alloc, text, game, good)?;
+    text.push_str(" ")?;
+    push_number(alloc, text, number)?;
+    text.push_str("\n")?;
+    Ok(())
 }
 
-// The line of an import or a surplus at its rate. A row has its line elsewhere, and a single good has none.
-fn stream_line(
+// Puts the line of an import or a surplus at its rate behind a text. A row has its line elsewhere, and a single good has none.
+fn push_stream_line(
     alloc: Global,
+    text: &mut String,
     game: &Game,
     column: &Column,
     rate: &Ratio,
-) -> Result<String, NoMemory>
+) -> Result<(), NoMemory>
     requires { IsSound game.now }
-    ensures { IfOk result (λ text. string_bytes text ≡ further_text (stream_lines game.now (column.now, rate.now))) }
+    ensures { OnOk result (string_bytes text.new ≡ string_bytes text.old ++ further_text (stream_lines game.now (column.now, rate.now))) }
 {
     match column {
-        Column::Import(good) => good_line(alloc, game, "import", *good, rate),
-        Column::Surplus(good) => good_line(alloc, game, "surplus", *good, rate),
-        Column::Line(_) => Ok(String::new(alloc)),
-        Column::Unit(_) => Ok(String::new(alloc)),
+        Column::Import(good) => push_good_line(alloc, text, game, "import", *good, rate),
+        Column::Surplus(good) => push_good_line(alloc, text, game, "surplus", *good, rate),
+        Column::Line(_) => Ok(()),
+        Column::Unit(_) => Ok(()),
     }
 }
 
@@ -126,8 +151,7 @@ pub fn stream_lines(
 {
     let mut text = String::new(alloc);
     for (column, rate) in columns.iter().zip(rates) {
-        let line = stream_line(alloc, game, column, rate)?;
-        text.push_str(line.as_str())?;
+        push_stream_line(alloc, &mut text, game, column, rate)?;
     }
     Ok(text)
 }
@@ -144,8 +168,7 @@ pub fn price_lines(
 {
     let mut text = String::new(alloc);
     for (good, price) in goods.iter().zip(prices) {
-        let line = good_line(alloc, game, "price", *good, price)?;
-        text.push_str(line.as_str())?;
+        push_good_line(alloc, &mut text, game, "price", *good, price)?;
     }
     Ok(text)
 }
@@ -154,8 +177,9 @@ pub fn price_lines(
 pub fn total_line(alloc: Global, total: &Figures) -> Result<String, NoMemory>
     ensures { IfOk result (λ text. string_bytes text ≡ further_line (total_line total.now)) }
 {
-    let used = use_words(alloc, total)?;
-    Ok(format!(in alloc; "  total{used}")?)
+    let mut text = String::from_str(alloc, "  total")?;
+    push_use_words(alloc, &mut text, total)?;
+    Ok(text)
 }
 
 fn column_kind(column: Column) -> &'static str

@@ -70,16 +70,33 @@ fn quoted(alloc: Global, word: &str) -> Result<String, AllocError>
     Ok(text)
 }
 
-/// The word as it is printed: as it is, or between quotes where a reader of words would not take it as one word as it is.
+// Puts the word between quotes behind a text.
+fn push_quoted(alloc: Global, text: &mut String, word: &str) -> Result<(), AllocError>
+    ensures { OnOk result (string_bytes text.new ≡ string_bytes text.old ++ quoted word.now) }
+{
+    let word = quoted(alloc, word)?;
+    text.push_str(word.as_str())
+}
+
+/// Puts the word behind a text as it is printed: as it is, or between quotes where a reader of words would not take it as one word as it is.
 #[tactic(auto, unfolding(crate::specs::Words::printed_word))]
+pub fn push_printed_word(alloc: Global, text: &mut String, word: &str) -> Result<(), AllocError>
+    ensures { OnOk result (string_bytes text.new ≡ string_bytes text.old ++ printed_word word.now) }
+{
+    if is_bare(word.as_bytes()) {
+        text.push_str(word)
+    } else {
+        push_quoted(alloc, text, word)
+    }
+}
+
+/// The word as it is printed.
 pub fn printed_word(alloc: Global, word: &str) -> Result<String, AllocError>
     ensures { IfOk result (λ text. string_bytes text ≡ printed_word word.now) }
 {
-    if is_bare(word.as_bytes()) {
-        String::from_str(alloc, word)
-    } else {
-        quoted(alloc, word)
-    }
+    let mut text = String::new(alloc);
+    push_printed_word(alloc, &mut text, word)?;
+    Ok(text)
 }
 
 // Puts the name of an object behind a text as it is.
