@@ -1,8 +1,9 @@
-//! What the programs that read a dump and a script have in common: their words, their files, the lines and the ends.
+//! What the programs that read a dump and a script have in common: their words, their files, the planner that is lent them, the lines and the ends.
 #![tactic(auto)]
 
 mod ends;
 mod files;
+mod lending;
 mod lines;
 mod sink;
 mod store;
@@ -18,7 +19,8 @@ pub const NO_SCRIPT: &str = "/dev/null";
 
 pub use ends::{End, Names, RunEnd, end_by, end_of_run, ended, written};
 pub use files::whole_file;
-pub use lines::{LINES, answered, loaded};
+pub use lending::{Work, loaded, with_loaded};
+pub use lines::{LINES, answered, carry_line, close_batch};
 pub use sink::WatchedSink;
 pub use store::WatchedStore;
 pub use telling::{said_of, said_of_store};

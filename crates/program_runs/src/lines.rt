@@ -1,39 +1,13 @@
-//! The planner of a dump, and what it answers.
+//! What a planner answers to a line.
 
-use crate::ends::{Names, RunEnd};
-use crate::telling::said_of_store;
-use line_answers::{reading_of, reply_to};
+use line_answers::{is_refusal, reading_of, reply_to};
 use plan_base::{NoMemory, Steps};
-use plan_io::HostStore;
-use plan_lines::Reply;
+use plan_lines::{Command, Reply};
 use planner_core::Planner;
-use run_inputs::{Ready, read_files};
 use std::alloc::Global;
-use std::rt::Files;
 
 /// The most lines that a script may have.
 pub const LINES: u32 = 100_000;
-
-/// The planner of a dump with its script, from their files.
-///
-/// # Errors
-///
-/// What ends a run before a line is answered. Of a file that could not be read, the cause is that of the first call that failed.
-pub fn loaded<R: Files, L>(
-    rt: &R,
-    alloc: Global,
-    names: Names<'_>,
-    steps: &mut Steps<L>,
-) -> Result<Ready, RunEnd> {
-    let mut store = HostStore::make(alloc, rt);
-    match read_files(alloc, names.dump, names.script, &mut store, steps) {
-        Ok(ready) => Ok(ready),
-        Err(status) => Err(RunEnd {
-            status,
-            unread: said_of_store(alloc, store.fault()),
-        }),
-    }
-}
 
 /// The reply to a line.
 ///
@@ -49,4 +23,31 @@ pub fn answered<L>(
 ) -> Result<Reply, NoMemory> {
     let reading = reading_of(alloc, line)?;
     reply_to(planner, number, reading, steps)
+}
+
+/// Carries out a line with nothing told of it. Answers whether it is refused.
+///
+/// # Errors
+///
+/// `NoMemory` where memory could not be had.
+pub fn carry_line<L>(
+    alloc: Global,
+    planner: &mut Planner,
+    number: u32,
+    line: &[u8],
+    steps: &mut Steps<L>,
+) -> Result<bool, NoMemory> {
+    let reply = answered(alloc, planner, number, line, steps)?;
+    Ok(is_refusal(&reply))
+}
+
+/// Closes a batch that is open. What it holds isn't done.
+///
+/// # Errors
+///
+/// `NoMemory` where memory could not be had.
+pub fn close_batch<L>(planner: &mut Planner, steps: &mut Steps<L>) -> Result<(), NoMemory> {
+    let number = 0;
+    let _reply = planner.step(number, Command::Cancel, steps)?;
+    Ok(())
 }
