@@ -1,19 +1,15 @@
 //! From the files of a run to the catalog.
 
 use catalog_text::{ShownFields, catalog_text, read_shown};
-use line_answers::is_refusal;
 use plan_base::{NoMemory, Steps};
-use plan_lines::Command;
 use planner_core::Planner;
-use program_runs::{End, Names, answered, end_by, end_of_run, loaded, whole_file, written};
-use run_inputs::{DUMP_LIMIT, Long, Ready, Status};
+use program_runs::{
+    End, Names, Work, carry_line, close_batch, end_by, end_of_run, whole_file, with_loaded, written,
+};
+use run_inputs::{DUMP_LIMIT, Long, Status};
 use script_lines::{Lines, has_many_lines};
 use std::alloc::Global;
 use std::rt::Files;
-
-// Marks the counter of the program.
-#[derive(Drop)]
-struct Program;
 
 // Carries out a line. Answers whether it is refused.
 fn take_line<L>(
@@ -23,8 +19,8 @@ fn take_line<L>(
     line: &[u8],
     steps: &mut Steps<L>,
 ) -> Result<bool, Status> {
-    match answered(alloc, planner, number, line, steps) {
-        Ok(reply) => Ok(is_refusal(&reply)),
+    match carry_line(alloc, planner, number, line, steps) {
+        Ok(refused) => Ok(refused),
         Err(NoMemory) => Err(Status::NoMemory),
     }
 }
@@ -47,10 +43,16 @@ fn take_lines<L>(
     Ok(refused)
 }
 
-// Closes a batch that is open. What it holds isn't done.
-fn close_batch<L>(planner: &mut Planner, steps: &mut Steps<L>) -> Result<(), Status> {
-    match planner.step(0, Command::Cancel, steps) {
-        Ok(_) => Ok(()),
+// Carries out the lines of a script, and closes a batch that they leave open. Answers whether some line is refused.
+fn take_script<L>(
+    alloc: Global,
+    planner: &mut Planner,
+    script: &[u8],
+    steps: &mut Steps<L>,
+) -> Result<bool, Status> {
+    let refused = take_lines(alloc, planner, script, steps)?;
+    match close_batch(planner, steps) {
+        Ok(()) => Ok(refused),
         Err(NoMemory) => Err(Status::NoMemory),
     }
 }
@@ -77,23 +79,9 @@ fn text_behind<L>(
     shown: &ShownFields,
     steps: &mut Steps<L>,
 ) -> Result<(String, bool), Status> {
-    let refused = take_lines(alloc, planner, script, steps)?;
-    close_batch(planner, steps)?;
+    let refused = take_script(alloc, planner, script, steps)?;
     let text = text_of(alloc, planner, shown, steps)?;
     Ok((text, refused))
-}
-
-fn text_of_ready<L>(
-    alloc: Global,
-    ready: Ready,
-    shown: &ShownFields,
-    steps: &mut Steps<L>,
-) -> Result<(String, bool), Status> {
-    let Ready {
-        mut planner,
-        script,
-    } = ready;
-    text_behind(alloc, &mut planner, script.as_slice(), shown, steps)
 }
 
 // What is shown of the things of a dump; nothing where it can't be read again.
@@ -104,39 +92,48 @@ fn shown_in<R: Files>(rt: &R, alloc: Global, dump: &str) -> Result<ShownFields, 
     }
 }
 
-// Writes the catalog of what was loaded.
-fn written_ready<R: Files + Print, L>(
+// The catalog of a dump of this name, behind the lines of a script.
+#[derive(Drop)]
+struct Catalog<'a> {
+    dump: &'a str,
+}
+
+impl<R: Files> Work<R> for Catalog<'_> {
+    type Made = Result<(String, bool), Status>;
+
+    fn make<L>(
+        &self,
+        rt: &R,
+        alloc: Global,
+        planner: &mut Planner,
+        script: Vec<u8>,
+        steps: &mut Steps<L>,
+    ) -> Result<(String, bool), Status> {
+        match shown_in(rt, alloc, self.dump) {
+            Ok(shown) => text_behind(alloc, planner, script.as_slice(), &shown, steps),
+            Err(NoMemory) => Err(Status::NoMemory),
+        }
+    }
+}
+
+// Writes a catalog.
+fn written_catalog<R: Files + Print>(
     rt: &R,
     alloc: Global,
-    ready: Ready,
-    shown: &ShownFields,
+    made: Result<(String, bool), Status>,
     names: Names<'_>,
-    steps: &mut Steps<L>,
 ) -> End {
-    match text_of_ready(alloc, ready, shown, steps) {
+    match made {
         Ok((text, refused)) => written(rt, alloc, text.as_bytes(), u8::from(refused), names),
         Err(status) => end_by(rt, alloc, &status, names),
     }
 }
 
-fn shown_end<R: Files + Print, L>(
-    rt: &R,
-    alloc: Global,
-    ready: Ready,
-    names: Names<'_>,
-    steps: &mut Steps<L>,
-) -> End {
-    match shown_in(rt, alloc, names.dump) {
-        Ok(shown) => written_ready(rt, alloc, ready, &shown, names, steps),
-        Err(NoMemory) => end_by(rt, alloc, &Status::NoMemory, names),
-    }
-}
-
 /// Writes the catalog of the game of a dump behind the lines of a script.
 pub fn catalog_of<R: Files + Print>(rt: &R, alloc: Global, names: Names<'_>) -> End {
-    let mut steps = Steps::new(Program);
-    match loaded(rt, alloc, names, &mut steps) {
-        Ok(ready) => shown_end(rt, alloc, ready, names, &mut steps),
+    let work = Catalog { dump: names.dump };
+    match with_loaded(rt, alloc, names, &work) {
+        Ok(made) => written_catalog(rt, alloc, made, names),
         Err(end) => end_of_run(rt, alloc, end, names),
     }
 }
