@@ -5,16 +5,12 @@ use catalog_text::{ShownFields, read_shown};
 use plan_base::{NoMemory, Steps};
 use plan_io::HostSink;
 use planner_core::Planner;
-use program_runs::{End, Names, RunEnd, end_of_run, loaded, whole_file};
-use run_inputs::{DUMP_LIMIT, Long, Ready, Status, tell};
+use program_runs::{End, Names, RunEnd, Work, end_of_run, whole_file, with_loaded};
+use run_inputs::{DUMP_LIMIT, Long, Status, tell};
 use session_lines::{Session, SessionEnd, serve};
 use std::alloc::Global;
 use std::io::Input;
 use std::rt::Files;
-
-// Marks the counter of the program.
-#[derive(Drop)]
-struct Program;
 
 // What is shown of the things of a dump; nothing where it can't be read again.
 fn shown_in<R: Files>(rt: &R, alloc: Global, dump: &str) -> Result<ShownFields, NoMemory> {
@@ -51,39 +47,36 @@ fn serve_lent<R: Print + Input, L>(
     status_by(serve(alloc, planner, &mut session, &mut input, &mut out, steps))
 }
 
-fn serve_ready<R: Print + Input, L>(
-    rt: &R,
-    alloc: Global,
-    ready: Ready,
-    shown: ShownFields,
-    steps: &mut Steps<L>,
-) -> Status {
-    let Ready {
-        mut planner,
-        script: _,
-    } = ready;
-    serve_lent(rt, alloc, &mut planner, shown, steps)
+// A session over the dump of this name.
+#[derive(Drop)]
+struct Serving<'a> {
+    dump: &'a str,
 }
 
-fn shown_status<R: Files + Print + Input, L>(
-    rt: &R,
-    alloc: Global,
-    ready: Ready,
-    names: Names<'_>,
-    steps: &mut Steps<L>,
-) -> Status {
-    match shown_in(rt, alloc, names.dump) {
-        Ok(shown) => serve_ready(rt, alloc, ready, shown, steps),
-        Err(NoMemory) => Status::NoMemory,
+impl<R: Files + Print + Input> Work<R> for Serving<'_> {
+    type Made = Status;
+
+    fn make<L>(
+        &self,
+        rt: &R,
+        alloc: Global,
+        planner: &mut Planner,
+        _script: Vec<u8>,
+        steps: &mut Steps<L>,
+    ) -> Status {
+        match shown_in(rt, alloc, self.dump) {
+            Ok(shown) => serve_lent(rt, alloc, planner, shown, steps),
+            Err(NoMemory) => Status::NoMemory,
+        }
     }
 }
 
 // How the session ends. Of standard input it isn't told why it could not be read.
 fn end_of<R: Files + Print + Input>(rt: &R, alloc: Global, names: Names<'_>) -> RunEnd {
-    let mut steps = Steps::new(Program);
-    match loaded(rt, alloc, names, &mut steps) {
-        Ok(ready) => RunEnd {
-            status: shown_status(rt, alloc, ready, names, &mut steps),
+    let work = Serving { dump: names.dump };
+    match with_loaded(rt, alloc, names, &work) {
+        Ok(status) => RunEnd {
+            status,
             unread: None,
         },
         Err(end) => end,
