@@ -15,19 +15,15 @@ use fractions::Ratio;
 use plan_base::{NoMemory, Steps, Text};
 use planner_core::Planner;
 use program_runs::{
-    End, NO_SCRIPT, Names, VERSION, end_by, end_by_words, end_of_run, ended, loaded, program_words,
-    written,
+    End, NO_SCRIPT, Names, VERSION, Work, end_by, end_by_words, end_of_run, ended, program_words,
+    with_loaded, written,
 };
-use run_inputs::{Long, Ready, SCRIPT_LIMIT, Status};
+use run_inputs::{Long, SCRIPT_LIMIT, Status};
 use std::alloc::Global;
 use std::process::ExitCode;
 use std::rt::Files;
 use wish_answers::{Failure, whole_script};
 use wish_words::{Asked, command, read_asked};
-
-// Marks the counter of the program.
-#[derive(Drop)]
-struct Program;
 
 // The files that are asked for, an empty one where no script is.
 fn names_of<'a>(asked: &Asked<'a>) -> Names<'a> {
@@ -60,35 +56,65 @@ fn add_lines<L>(
     )
 }
 
-// Puts the lines of the wish behind a script, and lets the planner go.
-fn add_last_lines<L>(
-    alloc: Global,
-    planner: Planner,
-    script: &mut Vec<u8>,
-    asked: &Asked<'_>,
-    belt: Option<Ratio>,
-    said: &mut String,
-    steps: &mut Steps<L>,
-) -> Result<(), Failure> {
-    let mut planner = planner;
-    add_lines(alloc, &mut planner, script, asked, belt, said, steps)
+// Why there are no lines, and what is said of it.
+#[derive(Drop)]
+struct Unmade {
+    failure: Failure,
+    said: String,
 }
 
 // The script with the lines of the wish behind its own.
 fn script_for<L>(
     alloc: Global,
-    ready: Ready,
+    planner: &mut Planner,
+    mut script: Vec<u8>,
     asked: &Asked<'_>,
     belt: Option<Ratio>,
-    said: &mut String,
     steps: &mut Steps<L>,
-) -> Result<Vec<u8>, Failure> {
-    let Ready {
-        planner,
-        mut script,
-    } = ready;
-    add_last_lines(alloc, planner, &mut script, asked, belt, said, steps)?;
-    Ok(script)
+) -> Result<Vec<u8>, Unmade> {
+    let mut said = String::new(alloc);
+    match add_lines(alloc, planner, &mut script, asked, belt, &mut said, steps) {
+        Ok(()) => Ok(script),
+        Err(failure) => Err(Unmade { failure, said }),
+    }
+}
+
+// The lines for a wish, with the items a second on the belt that its words name.
+#[derive(Drop)]
+struct WishLines<'a, 'w> {
+    asked: &'a Asked<'w>,
+    belt: Option<Ratio>,
+}
+
+impl<R> Work<R> for WishLines<'_, '_> {
+    type Made = Result<Vec<u8>, Unmade>;
+
+    fn make<L>(
+        &self,
+        _rt: &R,
+        alloc: Global,
+        planner: &mut Planner,
+        script: Vec<u8>,
+        steps: &mut Steps<L>,
+    ) -> Result<Vec<u8>, Unmade> {
+        script_for(alloc, planner, script, self.asked, self.belt, steps)
+    }
+}
+
+// Writes a script that was made.
+fn written_script<R: Files + Print>(
+    rt: &R,
+    alloc: Global,
+    made: Result<Vec<u8>, Unmade>,
+    names: Names<'_>,
+) -> End {
+    match made {
+        Ok(script) if script.len() > SCRIPT_LIMIT => {
+            end_by(rt, alloc, &Status::TooLong(Long::ScriptBytes), names)
+        }
+        Ok(script) => written(rt, alloc, script.as_slice(), 0, names),
+        Err(Unmade { failure, said }) => end_by_failure(rt, alloc, failure, said.as_str(), names),
+    }
 }
 
 // The run that words ask for, with the items a second on the belt that they name.
@@ -99,18 +125,10 @@ fn wish_run<R: Files + Print>(
     belt: Option<Ratio>,
 ) -> End {
     let names = names_of(asked);
-    let mut steps = Steps::new(Program);
-    let ready = match loaded(rt, alloc, names, &mut steps) {
-        Ok(ready) => ready,
-        Err(end) => return end_of_run(rt, alloc, end, names),
-    };
-    let mut said = String::new(alloc);
-    match script_for(alloc, ready, asked, belt, &mut said, &mut steps) {
-        Ok(script) if script.len() > SCRIPT_LIMIT => {
-            end_by(rt, alloc, &Status::TooLong(Long::ScriptBytes), names)
-        }
-        Ok(script) => written(rt, alloc, script.as_slice(), 0, names),
-        Err(failure) => end_by_failure(rt, alloc, failure, said.as_str(), names),
+    let work = WishLines { asked, belt };
+    match with_loaded(rt, alloc, names, &work) {
+        Ok(made) => written_script(rt, alloc, made, names),
+        Err(end) => end_of_run(rt, alloc, end, names),
     }
 }
 
