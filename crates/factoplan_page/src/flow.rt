@@ -11,25 +11,12 @@ use plan_charts::{Shown, chart_of, dot_text};
 use plan_lines::{Command, Figures, RefusalCode, Reply};
 use planner_core::Planner;
 use production_table::Table;
-use program_runs::{LINES, answered};
-use run_inputs::Ready;
+use program_runs::{LINES, carry_line, close_batch};
 use script_lines::{split_line, trim_return};
 use std::alloc::Global;
 
 // The most exchanges of columns.
 const BUDGET: u32 = 20_000;
-
-// Answers a line.
-fn answer_line<L>(
-    alloc: Global,
-    planner: &mut Planner,
-    number: u32,
-    line: &[u8],
-    steps: &mut Steps<L>,
-) -> Result<(), NoMemory> {
-    let _reply = answered(alloc, planner, number, line, steps)?;
-    Ok(())
-}
 
 // Answers each line.
 fn answer_lines<L>(
@@ -47,15 +34,8 @@ fn answer_lines<L>(
         number += 1;
         let (line, more) = split_line(rest);
         rest = more;
-        answer_line(alloc, planner, number, trim_return(line), steps)?;
+        let _refused = carry_line(alloc, planner, number, trim_return(line), steps)?;
     }
-    Ok(())
-}
-
-// Closes a batch that is open. What it holds isn't done.
-fn close_batch<L>(planner: &mut Planner, steps: &mut Steps<L>) -> Result<(), NoMemory> {
-    let number = 0;
-    let _reply = planner.step(number, Command::Cancel, steps)?;
     Ok(())
 }
 
@@ -200,8 +180,13 @@ fn graph_of(alloc: Global, planner: &Planner, reply: &Reply) -> Result<String, P
     }
 }
 
-// The graph of the plan of a table behind the last line of a script.
-fn flow_in<L>(
+/// The graph of the plan of a table behind the last line of a script, for which the table is solved anew.
+///
+/// # Errors
+///
+/// `NoTable` where there is no such table, `NoPlan` where it has no plan, `Unsolved` where that isn't found within 20,000 exchanges of
+/// columns and the limits of numbers; `TooManyLines` where the script has more than 100,000 lines; or `NoMemory`.
+pub fn flow_of<L>(
     alloc: Global,
     planner: &mut Planner,
     script: &[u8],
@@ -212,23 +197,4 @@ fn flow_in<L>(
     close_batch(planner, steps)?;
     let reply = solved(alloc, planner, name, steps)?;
     graph_of(alloc, planner, &reply)
-}
-
-/// The graph of the plan of a table behind the last line of a script, for which the table is solved anew.
-///
-/// # Errors
-///
-/// `NoTable` where there is no such table, `NoPlan` where it has no plan, `Unsolved` where that isn't found within 20,000 exchanges of
-/// columns and the limits of numbers; `TooManyLines` where the script has more than 100,000 lines; or `NoMemory`.
-pub fn flow_of<L>(
-    alloc: Global,
-    ready: Ready,
-    name: &str,
-    steps: &mut Steps<L>,
-) -> Result<String, PageFault> {
-    let Ready {
-        mut planner,
-        script,
-    } = ready;
-    flow_in(alloc, &mut planner, script.as_slice(), name, steps)
 }

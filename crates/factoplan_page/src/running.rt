@@ -1,21 +1,18 @@
 //! The runs of the program, from its words to its end.
 
 use crate::asked::{asked_files, asked_icons, asked_table, flow_command, flow_words, page_command};
-use crate::fault::end_by_fault;
+use crate::fault::{PageFault, end_by_fault};
 use crate::flow::flow_of;
 use crate::pictures::add_pictures;
 use crate::session::page_of;
 use clap::ArgMatches;
 use plan_base::{NoMemory, Steps, Text};
 use plan_pages::Page;
-use program_runs::{End, Names, end_by, end_by_words, end_of_run, loaded, written};
-use run_inputs::{Ready, Status};
+use planner_core::Planner;
+use program_runs::{End, Names, Work, end_by, end_by_words, end_of_run, with_loaded, written};
+use run_inputs::Status;
 use std::alloc::Global;
 use std::rt::Files;
-
-// Marks the counter of the program.
-#[derive(Drop)]
-struct Program;
 
 // What a page is made of besides the planner: the files of the run, and a folder of pictures.
 #[derive(Clone, Copy)]
@@ -50,39 +47,76 @@ fn written_page<R: Files + Print>(
     }
 }
 
-// Writes the page of what was loaded.
+// The page of a script, and whether some line of it was refused.
+#[derive(Drop)]
+struct ScriptPage;
+
+impl<R> Work<R> for ScriptPage {
+    type Made = Result<(Page, bool), PageFault>;
+
+    fn make<L>(
+        &self,
+        _rt: &R,
+        alloc: Global,
+        planner: &mut Planner,
+        script: Vec<u8>,
+        steps: &mut Steps<L>,
+    ) -> Result<(Page, bool), PageFault> {
+        page_of(alloc, planner, script.as_slice(), steps)
+    }
+}
+
+// The graph of the table of this name behind a script.
+#[derive(Drop)]
+struct TableGraph<'a> {
+    table: &'a str,
+}
+
+impl<R> Work<R> for TableGraph<'_> {
+    type Made = Result<String, PageFault>;
+
+    fn make<L>(
+        &self,
+        _rt: &R,
+        alloc: Global,
+        planner: &mut Planner,
+        script: Vec<u8>,
+        steps: &mut Steps<L>,
+    ) -> Result<String, PageFault> {
+        flow_of(alloc, planner, script.as_slice(), self.table, steps)
+    }
+}
+
+// Writes a page that was made.
 fn page_end<R: Files + Print>(
     rt: &R,
     alloc: Global,
-    ready: Ready,
+    made: Result<(Page, bool), PageFault>,
     wanted: Wanted<'_>,
-    steps: &mut Steps<Program>,
 ) -> End {
-    match page_of(alloc, ready, steps) {
+    match made {
         Ok((page, refused)) => written_page(rt, alloc, page, refused, wanted),
         Err(fault) => end_by_fault(rt, alloc, fault, wanted.names),
     }
 }
 
-// Writes the graph of a table of what was loaded.
+// Writes a graph that was made.
 fn flow_end<R: Files + Print>(
     rt: &R,
     alloc: Global,
-    ready: Ready,
+    made: Result<String, PageFault>,
     names: Names<'_>,
-    table: &str,
-    steps: &mut Steps<Program>,
 ) -> End {
-    match flow_of(alloc, ready, table, steps) {
+    match made {
         Ok(text) => written(rt, alloc, text.as_bytes(), 0, names),
         Err(fault) => end_by_fault(rt, alloc, fault, names),
     }
 }
 
 fn page_run<R: Files + Print>(rt: &R, alloc: Global, wanted: Wanted<'_>) -> End {
-    let mut steps = Steps::new(Program);
-    match loaded(rt, alloc, wanted.names, &mut steps) {
-        Ok(ready) => page_end(rt, alloc, ready, wanted, &mut steps),
+    let work = ScriptPage;
+    match with_loaded(rt, alloc, wanted.names, &work) {
+        Ok(made) => page_end(rt, alloc, made, wanted),
         Err(end) => end_of_run(rt, alloc, end, wanted.names),
     }
 }
@@ -96,9 +130,9 @@ fn page_asked<R: Files + Print>(rt: &R, alloc: Global, matches: &ArgMatches<'_>)
 }
 
 fn flow_run<R: Files + Print>(rt: &R, alloc: Global, names: Names<'_>, table: &str) -> End {
-    let mut steps = Steps::new(Program);
-    match loaded(rt, alloc, names, &mut steps) {
-        Ok(ready) => flow_end(rt, alloc, ready, names, table, &mut steps),
+    let work = TableGraph { table };
+    match with_loaded(rt, alloc, names, &work) {
+        Ok(made) => flow_end(rt, alloc, made, names),
         Err(end) => end_of_run(rt, alloc, end, names),
     }
 }

@@ -12,7 +12,6 @@ use plan_pages::Page;
 use planner_core::Planner;
 use production_table::Table;
 use program_runs::{LINES, answered};
-use run_inputs::Ready;
 use script_lines::{split_line, trim_return};
 use std::alloc::Global;
 use std::str::from_utf8;
@@ -136,8 +135,12 @@ fn add_lines<L>(
     Ok(refused)
 }
 
-// The page of a script over its planner, and whether some line was refused.
-fn page_in<L>(
+/// The page of a script over its planner, and whether some line was refused.
+///
+/// # Errors
+///
+/// `TooManyLines` where the script has more than 100,000 lines, or `NoMemory`.
+pub fn page_of<L>(
     alloc: Global,
     planner: &mut Planner,
     script: &[u8],
@@ -146,21 +149,4 @@ fn page_in<L>(
     let mut page = Page::new(alloc);
     let refused = add_lines(alloc, planner, script, &mut page, steps)?;
     Ok((page, refused))
-}
-
-/// The page of a script over its planner, and whether some line was refused.
-///
-/// # Errors
-///
-/// `TooManyLines` where the script has more than 100,000 lines, or `NoMemory`.
-pub fn page_of<L>(
-    alloc: Global,
-    ready: Ready,
-    steps: &mut Steps<L>,
-) -> Result<(Page, bool), PageFault> {
-    let Ready {
-        mut planner,
-        script,
-    } = ready;
-    page_in(alloc, &mut planner, script.as_slice(), steps)
 }
