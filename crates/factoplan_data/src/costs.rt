@@ -3,14 +3,13 @@ ghost use Rattle.game_types.specs.Sound.{IsSound};
 
 use crate::estimates::costs_of;
 use crate::fault::{PlanFault, end_by_fault};
-use crate::lines::{carry_out, close_batch};
+use crate::lines::carry_out;
 use crate::texts::{csv_text, json_text};
 use carried_lines::reached_nodes;
 use game_types::Game;
 use plan_base::{NoMemory, Steps};
 use planner_core::Planner;
-use program_runs::{End, Names, written};
-use run_inputs::Ready;
+use program_runs::{End, Names, Work, close_batch, written};
 use std::alloc::Global;
 use std::rt::Files;
 
@@ -58,29 +57,35 @@ fn text_behind<L>(
     Ok((text, refused))
 }
 
-fn text_of_ready<L>(
-    alloc: Global,
-    ready: Ready,
-    form: Form,
-    steps: &mut Steps<L>,
-) -> Result<(Vec<u8>, bool), PlanFault> {
-    let Ready {
-        mut planner,
-        script,
-    } = ready;
-    text_behind(alloc, &mut planner, script.as_slice(), form, steps)
+/// The costs behind a script, as text, and whether some line of it is refused.
+#[derive(Drop)]
+pub struct CostText {
+    pub form: Form,
 }
 
-/// Writes the costs behind a script, and answers how the run ends.
-pub fn costs_end<R: Files + Print, L>(
+impl<R> Work<R> for CostText {
+    type Made = Result<(Vec<u8>, bool), PlanFault>;
+
+    fn make<L>(
+        &self,
+        _rt: &R,
+        alloc: Global,
+        planner: &mut Planner,
+        script: Vec<u8>,
+        steps: &mut Steps<L>,
+    ) -> Result<(Vec<u8>, bool), PlanFault> {
+        text_behind(alloc, planner, script.as_slice(), self.form, steps)
+    }
+}
+
+/// Writes the text of costs, and answers how the run ends.
+pub fn costs_end<R: Files + Print>(
     rt: &R,
     alloc: Global,
-    ready: Ready,
+    made: Result<(Vec<u8>, bool), PlanFault>,
     names: Names<'_>,
-    form: Form,
-    steps: &mut Steps<L>,
 ) -> End {
-    match text_of_ready(alloc, ready, form, steps) {
+    match made {
         Ok((text, refused)) => written(rt, alloc, text.as_slice(), u8::from(refused), names),
         Err(fault) => end_by_fault(rt, alloc, fault, names),
     }

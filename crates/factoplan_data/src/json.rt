@@ -6,9 +6,9 @@ use line_answers::{is_refusal, reading_of, reply_to};
 use plan_base::{NoMemory, Steps};
 use plan_lines::Reply;
 use planner_core::Planner;
-use program_runs::{End, Names, end_by};
+use program_runs::{End, Names, Work, end_by};
 use report_json::line_text;
-use run_inputs::{Long, Ready, Status};
+use run_inputs::{Long, Status};
 use script_lines::{Lines, has_many_lines};
 use std::alloc::Global;
 use std::io;
@@ -94,28 +94,33 @@ fn write_lines<R: Print, L>(
     Ok(refused)
 }
 
-fn write_ready<R: Print, L>(
-    rt: &R,
-    alloc: Global,
-    ready: Ready,
-    steps: &mut Steps<L>,
-) -> Result<bool, Status> {
-    let Ready {
-        mut planner,
-        script,
-    } = ready;
-    write_lines(rt, alloc, &mut planner, script.as_slice(), steps)
+/// The replies to a script, which are written while it is carried out. What is left is whether some line is refused.
+#[derive(Drop)]
+pub struct ReplyLines;
+
+impl<R: Print> Work<R> for ReplyLines {
+    type Made = Result<bool, Status>;
+
+    fn make<L>(
+        &self,
+        rt: &R,
+        alloc: Global,
+        planner: &mut Planner,
+        script: Vec<u8>,
+        steps: &mut Steps<L>,
+    ) -> Result<bool, Status> {
+        write_lines(rt, alloc, planner, script.as_slice(), steps)
+    }
 }
 
-/// Writes the replies to a script over its planner, and answers how the run ends.
-pub fn json_end<R: Files + Print, L>(
+/// How a run ends whose replies were written so.
+pub fn json_end<R: Files>(
     rt: &R,
     alloc: Global,
-    ready: Ready,
+    made: Result<bool, Status>,
     names: Names<'_>,
-    steps: &mut Steps<L>,
 ) -> End {
-    match write_ready(rt, alloc, ready, steps) {
+    match made {
         Ok(refused) => End::quiet(u8::from(refused)),
         Err(status) => end_by(rt, alloc, &status, names),
     }

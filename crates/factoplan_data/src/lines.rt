@@ -1,25 +1,11 @@
 //! The lines of a script, carried out with nothing told of them.
 
 use crate::fault::PlanFault;
-use line_answers::is_refusal;
-use plan_base::{NoMemory, Steps};
-use plan_lines::Command;
+use plan_base::Steps;
 use planner_core::Planner;
-use program_runs::answered;
+use program_runs::carry_line;
 use script_lines::{Lines, has_many_lines};
 use std::alloc::Global;
-
-// Carries out a line. Answers whether it is refused.
-fn carry_line<L>(
-    alloc: Global,
-    planner: &mut Planner,
-    number: u32,
-    line: &[u8],
-    steps: &mut Steps<L>,
-) -> Result<bool, NoMemory> {
-    let reply = answered(alloc, planner, number, line, steps)?;
-    Ok(is_refusal(&reply))
-}
 
 /// Carries out the lines of a script. Answers whether some line is refused.
 ///
@@ -41,15 +27,4 @@ pub fn carry_out<L>(
         refused |= carry_line(alloc, planner, line.number, line.bytes, steps)?;
     }
     Ok(refused)
-}
-
-/// Closes a batch that is open. What it holds isn't done.
-///
-/// # Errors
-///
-/// `NoMemory` where memory could not be had.
-pub fn close_batch<L>(planner: &mut Planner, steps: &mut Steps<L>) -> Result<(), NoMemory> {
-    let number = 0;
-    let _reply = planner.step(number, Command::Cancel, steps)?;
-    Ok(())
 }

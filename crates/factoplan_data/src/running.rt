@@ -3,26 +3,22 @@ use crate::asked::{
     asked_files, asked_form, asked_table, costs_command, csv_command, files_of_costs,
     first_command, json_command, words_behind,
 };
-use crate::costs::{Form, costs_end};
-use crate::json::json_end;
-use crate::table::table_end;
+use crate::costs::{CostText, Form, costs_end};
+use crate::json::{ReplyLines, json_end};
+use crate::table::{TableText, table_end};
 use clap::ArgMatches;
-use plan_base::{NoMemory, Steps, Text};
-use program_runs::{End, Names, end_by_words, end_of_run, loaded};
+use plan_base::{NoMemory, Text};
+use program_runs::{End, Names, end_by_words, end_of_run, with_loaded};
 use std::alloc::Global;
 use std::rt::Files;
-
-// Marks the counter of the program.
-#[derive(Drop)]
-struct Program;
 
 // The number of an end by wrong words.
 const WRONG_WORDS: u8 = 2;
 
 fn json_run<R: Files + Print>(rt: &R, alloc: Global, names: Names<'_>) -> End {
-    let mut steps = Steps::new(Program);
-    match loaded(rt, alloc, names, &mut steps) {
-        Ok(ready) => json_end(rt, alloc, ready, names, &mut steps),
+    let work = ReplyLines;
+    match with_loaded(rt, alloc, names, &work) {
+        Ok(made) => json_end(rt, alloc, made, names),
         Err(end) => end_of_run(rt, alloc, end, names),
     }
 }
@@ -38,9 +34,9 @@ fn json<R: Files + Print + Eprint>(rt: &R, alloc: Global, words: &[Text]) -> Res
 }
 
 fn csv_run<R: Files + Print>(rt: &R, alloc: Global, names: Names<'_>, table: &str) -> End {
-    let mut steps = Steps::new(Program);
-    match loaded(rt, alloc, names, &mut steps) {
-        Ok(ready) => table_end(rt, alloc, ready, names, table, &mut steps),
+    let work = TableText { table };
+    match with_loaded(rt, alloc, names, &work) {
+        Ok(made) => table_end(rt, alloc, made, names),
         Err(end) => end_of_run(rt, alloc, end, names),
     }
 }
@@ -60,9 +56,9 @@ fn csv<R: Files + Print + Eprint>(rt: &R, alloc: Global, words: &[Text]) -> Resu
 }
 
 fn costs_run<R: Files + Print>(rt: &R, alloc: Global, names: Names<'_>, form: Form) -> End {
-    let mut steps = Steps::new(Program);
-    match loaded(rt, alloc, names, &mut steps) {
-        Ok(ready) => costs_end(rt, alloc, ready, names, form, &mut steps),
+    let work = CostText { form };
+    match with_loaded(rt, alloc, names, &work) {
+        Ok(made) => costs_end(rt, alloc, made, names),
         Err(end) => end_of_run(rt, alloc, end, names),
     }
 }

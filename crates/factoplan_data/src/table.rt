@@ -3,7 +3,7 @@ ghost use Rattle.std.specs.Prelude.{◌<◌, IfSome, length};
 ghost use Rattle.game_types.specs.Sound.{IsSound};
 
 use crate::fault::{PlanFault, end_by_fault};
-use crate::lines::{carry_out, close_batch};
+use crate::lines::carry_out;
 use game_types::Game;
 use linear_table::{Column, SolveAnswer};
 use plan_base::{GoodId, NoMemory, Steps, Text};
@@ -11,8 +11,7 @@ use plan_lines::{Command, Figures, RefusalCode, Reply};
 use plan_records::{Solved, plan_text};
 use planner_core::Planner;
 use production_table::Table;
-use program_runs::{End, Names, written};
-use run_inputs::Ready;
+use program_runs::{End, Names, Work, close_batch, written};
 use std::alloc::Global;
 use std::rt::Files;
 
@@ -143,29 +142,35 @@ fn table_text<L>(
     text_of(alloc, planner, &reply)
 }
 
-fn text_of_ready<L>(
-    alloc: Global,
-    ready: Ready,
-    name: &str,
-    steps: &mut Steps<L>,
-) -> Result<Vec<u8>, PlanFault> {
-    let Ready {
-        mut planner,
-        script,
-    } = ready;
-    table_text(alloc, &mut planner, script.as_slice(), name, steps)
+/// The plan of the table of this name behind a script, as text.
+#[derive(Drop)]
+pub struct TableText<'a> {
+    pub table: &'a str,
 }
 
-/// Writes the plan of a table behind a script, and answers how the run ends.
-pub fn table_end<R: Files + Print, L>(
+impl<R> Work<R> for TableText<'_> {
+    type Made = Result<Vec<u8>, PlanFault>;
+
+    fn make<L>(
+        &self,
+        _rt: &R,
+        alloc: Global,
+        planner: &mut Planner,
+        script: Vec<u8>,
+        steps: &mut Steps<L>,
+    ) -> Result<Vec<u8>, PlanFault> {
+        table_text(alloc, planner, script.as_slice(), self.table, steps)
+    }
+}
+
+/// Writes the text of a plan, and answers how the run ends.
+pub fn table_end<R: Files + Print>(
     rt: &R,
     alloc: Global,
-    ready: Ready,
+    made: Result<Vec<u8>, PlanFault>,
     names: Names<'_>,
-    table: &str,
-    steps: &mut Steps<L>,
 ) -> End {
-    match text_of_ready(alloc, ready, table, steps) {
+    match made {
         Ok(text) => written(rt, alloc, text.as_slice(), 0, names),
         Err(fault) => end_by_fault(rt, alloc, fault, names),
     }
