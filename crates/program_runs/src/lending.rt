@@ -31,12 +31,9 @@ pub trait Work<R> {
     ) -> Self::Made;
 }
 
-/// The planner of a dump with its script, from their files.
-///
-/// # Errors
-///
-/// What ends a run before a line is answered. Of a file that could not be read, the cause is that of the first call that failed.
-pub fn loaded<R: Files, L>(
+// The planner of a dump with its script, from their files. Of a file that could not be read, the cause is that of the first call that
+// failed.
+fn loaded<R: Files, L>(
     rt: &R,
     alloc: Global,
     names: Names<'_>,

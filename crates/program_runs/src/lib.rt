@@ -19,7 +19,7 @@ pub const NO_SCRIPT: &str = "/dev/null";
 
 pub use ends::{End, Names, RunEnd, end_by, end_of_run, ended, written};
 pub use files::whole_file;
-pub use lending::{Work, loaded, with_loaded};
+pub use lending::{Work, with_loaded};
 pub use lines::{LINES, answered, carry_line, close_batch};
 pub use sink::WatchedSink;
 pub use store::WatchedStore;
