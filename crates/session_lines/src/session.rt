@@ -159,9 +159,10 @@ fn answer<W: Wishes, L>(
     or_end(answer_numbered(alloc, planner, session, number, line, steps))
 }
 
-// An answer with the mark of its end.
+// An answer with the mark of its end, in one piece, so that a reader is woken once.
 fn marked(alloc: Global, answer: &str) -> Result<Vec<u8>, AllocError> {
-    let mut bytes = answer.as_bytes().to_vec(alloc)?;
+    let mut bytes = Vec::with_capacity(alloc, answer.len().saturating_add(2))?;
+    bytes.extend_from_slice(answer.as_bytes())?;
     bytes.extend_from_slice(b".\n")?;
     Ok(bytes)
 }
