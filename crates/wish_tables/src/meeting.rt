@@ -9,8 +9,8 @@ use crate::orders::{ORDERS, ordered};
 use crate::trying::{Outcome, Trial, try_order};
 use fractions::Ratio;
 use game_types::Game;
-use plan_base::{GoodId, Items, NoMemory};
-use production_table::{LIMIT, Table, TableFault, TableRow};
+use plan_base::{Denied, GoodId, Items, NoMemory};
+use production_table::{LIMIT, Table, TableRow};
 use std::alloc::Global;
 use wish_checks::is_met;
 use wish_estimates::{Estimates, Ground, Walk, walk_further, walk_on, why_unmade};
@@ -294,8 +294,8 @@ fn end_import(alloc: Global, table: &mut Table, good: GoodId) -> Result<(), Wish
     }
     match table.set_import(alloc, good, None) {
         Ok(_) => Ok(()),
-        Err(TableFault::NoMemory) => Err(WishFault::NoMemory),
-        Err(_) => Err(WishFault::Full),
+        Err(Denied::Refused(_)) => Err(WishFault::Full),
+        Err(Denied::NoMemory) => Err(WishFault::NoMemory),
     }
 }
 
