@@ -1,19 +1,20 @@
 //! Changes of tables.
 ghost use Rattle.std.specs.Prelude.{◌≡◌, ◌<◌, ◌≤◌, ◌++◌, ◌∷◌, [], true, Ok, Err, IfOk, IfErr, OnErr, length, position, vec_len, vec_capacity};
 ghost use Rattle.std.specs.List.{list_any};
-ghost use Rattle.plan_base.specs.Outcomes.{Gives, IsRefused};
 ghost use Rattle.game_types.specs.Sound.{IsSound};
+ghost use Rattle.table_words.specs.declared.refusals.TableRefusal.{TableRefusal as RefusalOf};
 ghost use Rattle.planner_tables.specs.Effects.{AreSoundTables, is_name, is_of_tables, table_named, tables_effect};
-ghost use Rattle.planner_tables.specs.Steps.{MakesTables, StepFits, is_step, step_named, step_table};
+ghost use Rattle.table_words.specs.Refusals.{Gives};
+ghost use Rattle.planner_tables.specs.Steps.{IsRefused, MakesTables, StepFits, is_step, step_named, step_table};
 ghost use Rattle.planner_tables.specs.Undoing.{tables_restored};
 
 use crate::faults::no_name;
 use crate::splices::exchange_element;
 use crate::steps::{Step, take_step};
-use crate::{Splice, TableRefusal, TableUndo};
+use crate::{ChangeFault, Splice, TableRefusal, TableUndo};
 use fractions::Ratio;
 use game_types::Game;
-use plan_base::{Denied, Text};
+use plan_base::Text;
 use plan_lines::Change;
 use production_table::Table;
 use std::alloc::Global;
@@ -32,7 +33,7 @@ pub(crate) fn table_named(
     alloc: Global,
     tables: &[Table],
     name: &Text,
-) -> Result<usize, Denied<TableRefusal>>
+) -> Result<usize, ChangeFault>
     ensures place { Gives (table_named tables.now name.now) result }
     ensures within { IfOk result (λ place. place < length tables.now) }
 {
@@ -53,7 +54,7 @@ fn copied_price(price: &Option<Ratio>) -> Option<Ratio>
 
 #[tactic(auto, unfolding(crate::specs::Steps::step_named))]
 // The step that a change asks for.
-fn step_named(alloc: Global, game: &Game, change: &Change) -> Result<Step, Denied<TableRefusal>>
+fn step_named(alloc: Global, game: &Game, change: &Change) -> Result<Step, ChangeFault>
     requires game { IsSound game.now }
     requires step { is_step change.now ≡ true }
     ensures step { Gives (step_named game.now change.now) result }
@@ -121,7 +122,7 @@ fn change_table(
     tables: &mut Vec<Table>,
     name: &Text,
     change: &Change,
-) -> Result<TableUndo, Denied<TableRefusal>>
+) -> Result<TableUndo, ChangeFault>
     requires game { IsSound game.now }
     requires sound { AreSoundTables game.now tables.old.items }
     requires step { is_step change.now ≡ true }
@@ -161,7 +162,7 @@ fn add_table(
     game: &Game,
     tables: &mut Vec<Table>,
     name: &Text,
-) -> Result<TableUndo, Denied<TableRefusal>>
+) -> Result<TableUndo, ChangeFault>
     requires sound { AreSoundTables game.now tables.old.items }
     ensures ok { IfOk result (λ undo. MakesTables game.now (tables_effect game.now tables.old.items (Change.Table name.now)) undo tables.old.items tables.new.items) }
     ensures fault { IfErr result (IsRefused (tables_effect game.now tables.old.items (Change.Table name.now))) }
@@ -169,20 +170,20 @@ fn add_table(
 {
     let _game = game;
     if has_table(tables.as_slice(), name) {
-        return Err(Denied::Refused(TableRefusal::NameUsed));
+        return Err(ChangeFault::Refused(TableRefusal::NameUsed));
     }
     let place = tables.len();
     if place >= 64 {
-        return Err(Denied::Refused(TableRefusal::Full));
+        return Err(ChangeFault::Refused(TableRefusal::Full));
     }
     let Ok(room) = Vec::with_capacity(alloc, place) else {
-        return Err(Denied::NoMemory);
+        return Err(ChangeFault::NoMemory);
     };
     let Ok(table) = Table::make(alloc, name.as_str()) else {
-        return Err(Denied::NoMemory);
+        return Err(ChangeFault::NoMemory);
     };
     if tables.reserve(1).is_err() {
-        return Err(Denied::NoMemory);
+        return Err(ChangeFault::NoMemory);
     }
     put(tables, table);
     Ok(TableUndo::Tables(Splice::Remove { place, room }))
@@ -194,7 +195,7 @@ fn drop_table(
     game: &Game,
     tables: &mut Vec<Table>,
     name: &Text,
-) -> Result<TableUndo, Denied<TableRefusal>>
+) -> Result<TableUndo, ChangeFault>
     requires sound { AreSoundTables game.now tables.old.items }
     ensures ok { IfOk result (λ undo. MakesTables game.now (tables_effect game.now tables.old.items (Change.Untable name.now)) undo tables.old.items tables.new.items) }
     ensures fault { IfErr result (IsRefused (tables_effect game.now tables.old.items (Change.Untable name.now))) }
@@ -203,7 +204,7 @@ fn drop_table(
     let _game = game;
     let place = table_named(alloc, tables.as_slice(), name)?;
     let Ok(room) = Vec::with_capacity(alloc, tables.len()) else {
-        return Err(Denied::NoMemory);
+        return Err(ChangeFault::NoMemory);
     };
     let back = exchange_element(tables, Splice::Remove { place, room });
     Ok(TableUndo::Tables(back))
@@ -215,7 +216,7 @@ fn make_change(
     game: &Game,
     tables: &mut Vec<Table>,
     change: &Change,
-) -> Result<TableUndo, Denied<TableRefusal>>
+) -> Result<TableUndo, ChangeFault>
     requires sound { IsSound game.now }
     requires tables { AreSoundTables game.now tables.old.items }
     requires change { is_of_tables change.now ≡ true }
@@ -247,13 +248,13 @@ pub fn change_tables(
     game: &Game,
     tables: &mut Vec<Table>,
     change: &Change,
-) -> Result<TableUndo, Denied<TableRefusal>>
+) -> Result<TableUndo, ChangeFault>
     requires sound { IsSound game.now }
     requires tables { AreSoundTables game.now tables.old.items }
     requires change { is_of_tables change.now ≡ true }
     ensures ok { IfOk result (λ undo. tables_effect game.now tables.old.items change.now ≡ Ok tables.new.items) }
     ensures back { IfOk result (λ undo. tables_restored undo tables.new.items ≡ tables.old.items) }
-    ensures fault { IfErr result (IsRefused (tables_effect game.now tables.old.items change.now)) }
+    ensures fault { IfErr result (λ fault. (refusal : RefusalOf) → fault ≡ ChangeFault.Refused refusal → tables_effect game.now tables.old.items change.now ≡ Err refusal) }
     ensures err { OnErr result (tables.new.items ≡ tables.old.items) }
     ensures sound { AreSoundTables game.now tables.new.items }
 {

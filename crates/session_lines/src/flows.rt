@@ -10,11 +10,11 @@ use fractions::Ratio;
 use game_types::{BeaconGroup, Game};
 use linear_table::{Column, Linear, LinearColumn, Plan, SolveAnswer};
 use page_parts::{Amount, Flow, column_flows, machine_name};
-use plan_base::{Denied, GoodId, Kind, NoMemory};
+use plan_base::{GoodId, Kind, NoMemory};
 use plan_lines::{Figures, Reply};
 use plan_report::object_word;
 use planner_core::Planner;
-use production_table::{Table, TableRow};
+use production_table::{Table, TableFault, TableRow};
 use std::alloc::Global;
 
 // A plan of a table, with the table and its linear form.
@@ -287,8 +287,8 @@ fn linear_form(alloc: Global, game: &Game, table: &Table) -> Result<Option<Linea
 {
     match table.to_linear(alloc, game) {
         Ok(linear) => Ok(Some(linear)),
-        Err(Denied::Refused(_)) => Ok(None),
-        Err(Denied::NoMemory) => Err(NoMemory),
+        Err(TableFault::NoMemory) => Err(NoMemory),
+        Err(_) => Ok(None),
     }
 }
 

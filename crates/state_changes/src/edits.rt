@@ -1,15 +1,14 @@
 //! The edits of the book that changes ask for.
 ghost use Rattle.std.specs.Prelude.{◌≡◌, ◌++◌, [], IfOk, OnOk};
-ghost use Rattle.plan_base.specs.Outcomes.{Gives};
 ghost use Rattle.game_types.specs.Sound.{IsSound};
-ghost use Rattle.state_changes.specs.Actions.{edit_and, edit_named, edits_named, ingredient_edit, product_edit};
+ghost use Rattle.state_changes.specs.Actions.{Gives, edit_and, edit_named, edits_named, ingredient_edit, product_edit};
 
 use crate::names::{good_named, node_named, recipe_named, tech_named};
-use crate::refusals::Refusal;
+use crate::refusals::ChangeFault;
 use data_edit::Edit;
 use fractions::Ratio;
 use game_types::Game;
-use plan_base::{Denied, GoodId, NoMemory, RecipeId};
+use plan_base::{GoodId, NoMemory, RecipeId};
 use plan_lines::{Change, Object};
 use std::alloc::Global;
 
@@ -41,7 +40,7 @@ fn product_edit(recipe: RecipeId, good: GoodId, amount: &Option<Ratio>) -> Edit
 
 // The edit of a line that grants a node.
 #[tactic(auto, unfolding(crate::specs::Actions::edit_named))]
-fn grant_edit(alloc: Global, game: &Game, object: &Object) -> Result<Option<Edit>, Denied<Refusal>>
+fn grant_edit(alloc: Global, game: &Game, object: &Object) -> Result<Option<Edit>, ChangeFault>
     requires { IsSound game.now }
     ensures { Gives (edit_named game.now (Change.Grant object.now)) result }
 {
@@ -51,7 +50,7 @@ fn grant_edit(alloc: Global, game: &Game, object: &Object) -> Result<Option<Edit
 
 // The edit of a line that grants a node no more.
 #[tactic(auto, unfolding(crate::specs::Actions::edit_named))]
-fn revoke_edit(alloc: Global, game: &Game, object: &Object) -> Result<Option<Edit>, Denied<Refusal>>
+fn revoke_edit(alloc: Global, game: &Game, object: &Object) -> Result<Option<Edit>, ChangeFault>
     requires { IsSound game.now }
     ensures { Gives (edit_named game.now (Change.Revoke object.now)) result }
 {
@@ -61,7 +60,7 @@ fn revoke_edit(alloc: Global, game: &Game, object: &Object) -> Result<Option<Edi
 
 // The edit of a line that bars a node.
 #[tactic(auto, unfolding(crate::specs::Actions::edit_named))]
-fn forbid_edit(alloc: Global, game: &Game, object: &Object) -> Result<Option<Edit>, Denied<Refusal>>
+fn forbid_edit(alloc: Global, game: &Game, object: &Object) -> Result<Option<Edit>, ChangeFault>
     requires { IsSound game.now }
     ensures { Gives (edit_named game.now (Change.Forbid object.now)) result }
 {
@@ -71,7 +70,7 @@ fn forbid_edit(alloc: Global, game: &Game, object: &Object) -> Result<Option<Edi
 
 // The edit of a line that bars a node no more.
 #[tactic(auto, unfolding(crate::specs::Actions::edit_named))]
-fn permit_edit(alloc: Global, game: &Game, object: &Object) -> Result<Option<Edit>, Denied<Refusal>>
+fn permit_edit(alloc: Global, game: &Game, object: &Object) -> Result<Option<Edit>, ChangeFault>
     requires { IsSound game.now }
     ensures { Gives (edit_named game.now (Change.Permit object.now)) result }
 {
@@ -87,7 +86,7 @@ fn set_ingredient_edit(
     recipe: &Object,
     good: &Object,
     amount: &Option<Ratio>,
-) -> Result<Option<Edit>, Denied<Refusal>>
+) -> Result<Option<Edit>, ChangeFault>
     requires { IsSound game.now }
     ensures { Gives (edit_named game.now (Change.Ingredient recipe.now good.now amount.now)) result }
 {
@@ -104,7 +103,7 @@ fn set_product_edit(
     recipe: &Object,
     good: &Object,
     amount: &Option<Ratio>,
-) -> Result<Option<Edit>, Denied<Refusal>>
+) -> Result<Option<Edit>, ChangeFault>
     requires { IsSound game.now }
     ensures { Gives (edit_named game.now (Change.Product recipe.now good.now amount.now)) result }
 {
@@ -121,7 +120,7 @@ fn unlock_edit(
     tech: &Object,
     recipe: &Object,
     on: bool,
-) -> Result<Option<Edit>, Denied<Refusal>>
+) -> Result<Option<Edit>, ChangeFault>
     requires { IsSound game.now }
     ensures { Gives (edit_named game.now (Change.Unlock tech.now recipe.now on)) result }
 {
@@ -137,7 +136,7 @@ fn time_edit(
     game: &Game,
     recipe: &Object,
     time: Ratio,
-) -> Result<Option<Edit>, Denied<Refusal>>
+) -> Result<Option<Edit>, ChangeFault>
     requires { IsSound game.now }
     ensures { Gives (edit_named game.now (Change.Time recipe.now time)) result }
 {
@@ -152,7 +151,7 @@ fn enabled_edit(
     game: &Game,
     recipe: &Object,
     on: bool,
-) -> Result<Option<Edit>, Denied<Refusal>>
+) -> Result<Option<Edit>, ChangeFault>
     requires { IsSound game.now }
     ensures { Gives (edit_named game.now (Change.Enabled recipe.now on)) result }
 {
@@ -170,7 +169,7 @@ pub(crate) fn edit_named(
     alloc: Global,
     game: &Game,
     change: &Change,
-) -> Result<Option<Edit>, Denied<Refusal>>
+) -> Result<Option<Edit>, ChangeFault>
     requires { IsSound game.now }
     ensures { Gives (edit_named game.now change.now) result }
 {
@@ -212,8 +211,8 @@ fn push_edit(
             Ok(())
         }
         Ok(None) => Ok(()),
-        Err(Denied::Refused(_)) => Ok(()),
-        Err(Denied::NoMemory) => Err(NoMemory),
+        Err(ChangeFault::Refused(_)) => Ok(()),
+        Err(ChangeFault::NoMemory) => Err(NoMemory),
     }
 }
 

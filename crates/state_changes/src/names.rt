@@ -1,14 +1,13 @@
 //! The things that changes name.
 ghost use Rattle.std.specs.Prelude.{◌≡◌, ◌+◌, ◌<◌, ◌≤◌, ◌^◌, Bool, IfOk};
-ghost use Rattle.plan_base.specs.Outcomes.{Gives};
 ghost use Rattle.plan_base.specs.Shape.{count_of, first_of, node_count};
 ghost use Rattle.game_types.specs.Nodes.{shape_of};
 ghost use Rattle.game_types.specs.Sound.{IsSound};
-ghost use Rattle.state_changes.specs.Actions.{good_named, is_fluid, node_named, place_named, recipe_named, tech_named};
+ghost use Rattle.state_changes.specs.Actions.{Gives, good_named, is_fluid, node_named, place_named, recipe_named, tech_named};
 
-use crate::refusals::Refusal;
+use crate::refusals::{ChangeFault, Refusal};
 use game_types::Game;
-use plan_base::{Denied, GoodId, Kind, NodeId, RecipeId, Shape, TechId};
+use plan_base::{GoodId, Kind, NodeId, RecipeId, Shape, TechId};
 use plan_lines::Object;
 use std::alloc::Global;
 
@@ -29,7 +28,7 @@ pub fn nodes_of(shape: &Shape, kind: Kind) -> (u32, u32)
 ///
 /// `Unknown` where nothing has the name. Or `NoMemory`.
 #[tactic(auto, unfolding(crate::specs::Actions::node_named))]
-pub fn node_named(alloc: Global, game: &Game, object: &Object) -> Result<NodeId, Denied<Refusal>>
+pub fn node_named(alloc: Global, game: &Game, object: &Object) -> Result<NodeId, ChangeFault>
     requires { IsSound game.now }
     ensures node { Gives (node_named game.now object.now) result }
     ensures within { IfOk result (λ node. node.0 < node_count (shape_of game.now)) }
@@ -37,20 +36,15 @@ pub fn node_named(alloc: Global, game: &Game, object: &Object) -> Result<NodeId,
     match game.find(object.kind, object.name.as_str()) {
         Some(node) => Ok(node),
         None => match object.copy(alloc) {
-            Ok(copy) => Err(Denied::Refused(Refusal::Unknown(copy))),
-            Err(_) => Err(Denied::NoMemory),
+            Ok(copy) => Err(ChangeFault::Refused(Refusal::Unknown(copy))),
+            Err(_) => Err(ChangeFault::NoMemory),
         },
     }
 }
 
 // The place of an object's name among those of a kind.
 #[tactic(auto, unfolding(crate::specs::Actions::place_named))]
-fn place_named(
-    alloc: Global,
-    game: &Game,
-    kind: Kind,
-    object: &Object,
-) -> Result<u32, Denied<Refusal>>
+fn place_named(alloc: Global, game: &Game, kind: Kind, object: &Object) -> Result<u32, ChangeFault>
     requires { IsSound game.now }
     ensures place { Gives (place_named game.now kind object.now) result }
     ensures within { IfOk result (λ place. place < count_of (shape_of game.now) kind) }
@@ -58,8 +52,8 @@ fn place_named(
     match game.place_of(kind, object.name.as_str()) {
         Some(place) => Ok(place),
         None => match object.copy(alloc) {
-            Ok(copy) => Err(Denied::Refused(Refusal::Unknown(copy))),
-            Err(_) => Err(Denied::NoMemory),
+            Ok(copy) => Err(ChangeFault::Refused(Refusal::Unknown(copy))),
+            Err(_) => Err(ChangeFault::NoMemory),
         },
     }
 }
@@ -70,7 +64,7 @@ pub(crate) fn recipe_named(
     alloc: Global,
     game: &Game,
     object: &Object,
-) -> Result<RecipeId, Denied<Refusal>>
+) -> Result<RecipeId, ChangeFault>
     requires { IsSound game.now }
     ensures { Gives (recipe_named game.now object.now) result }
 {
@@ -80,11 +74,7 @@ pub(crate) fn recipe_named(
 
 /// The technology that an object names.
 #[tactic(auto, unfolding(crate::specs::Actions::tech_named))]
-pub(crate) fn tech_named(
-    alloc: Global,
-    game: &Game,
-    object: &Object,
-) -> Result<TechId, Denied<Refusal>>
+pub(crate) fn tech_named(alloc: Global, game: &Game, object: &Object) -> Result<TechId, ChangeFault>
     requires { IsSound game.now }
     ensures { Gives (tech_named game.now object.now) result }
 {
@@ -103,11 +93,7 @@ fn is_fluid(kind: Kind) -> bool
 
 /// The good that an object names.
 #[tactic(auto, unfolding(crate::specs::Actions::good_named))]
-pub(crate) fn good_named(
-    alloc: Global,
-    game: &Game,
-    object: &Object,
-) -> Result<GoodId, Denied<Refusal>>
+pub(crate) fn good_named(alloc: Global, game: &Game, object: &Object) -> Result<GoodId, ChangeFault>
     requires { IsSound game.now }
     ensures { Gives (good_named game.now object.now) result }
 {

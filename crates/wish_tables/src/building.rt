@@ -5,7 +5,7 @@ ghost use Rattle.production_table.specs.Tables.{IsSoundTable};
 use crate::pricing::{plus, row_price};
 use fractions::Ratio;
 use game_types::{Game, Setup};
-use plan_base::{Denied, GoodId, NoMemory};
+use plan_base::{GoodId, NoMemory};
 use production_table::{LIMIT, Table, TableFault};
 use std::alloc::Global;
 use wish_estimates::{Found, Ground, Walk, source_price};
@@ -30,12 +30,18 @@ impl Extra {
     }
 }
 
+fn fault_of(fault: TableFault) -> WishFault {
+    match fault {
+        TableFault::NoMemory => WishFault::NoMemory,
+        _ => WishFault::Full,
+    }
+}
+
 // Too much of something, where there is.
-fn told<T: Drop>(done: Result<T, Denied<TableFault>>) -> Result<(), WishFault> {
+fn told<T: Drop>(done: Result<T, TableFault>) -> Result<(), WishFault> {
     match done {
         Ok(_) => Ok(()),
-        Err(Denied::Refused(_)) => Err(WishFault::Full),
-        Err(Denied::NoMemory) => Err(WishFault::NoMemory),
+        Err(fault) => Err(fault_of(fault)),
     }
 }
 
@@ -112,10 +118,7 @@ fn add_row(
     if price.is_zero() {
         return Ok(());
     }
-    match table.set_price(alloc, label.as_str(), &price) {
-        Ok(_) => Ok(()),
-        Err(_) => Err(WishFault::Full),
-    }
+    told(table.set_price(alloc, label.as_str(), &price))
 }
 
 // The price at which a good comes in, where it does.

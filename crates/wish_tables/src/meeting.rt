@@ -3,14 +3,14 @@ ghost use Rattle.std.specs.Prelude.{IfOk};
 ghost use Rattle.game_types.specs.Sound.{IsSound};
 ghost use Rattle.production_table.specs.Tables.{IsSoundTable};
 ghost use Rattle.wish_checks.specs.Answers.{IsMet};
-ghost use Rattle.wish_tables.specs.Ends.{HasSoundTable, TriedSoundTable};
+ghost use Rattle.wish_tables.specs.Outcomes.{HasSoundTable, TriedSoundTable};
 
 use crate::orders::{ORDERS, ordered};
-use crate::trying::{TableEnd, Trial, try_order};
+use crate::trying::{Outcome, Trial, try_order};
 use fractions::Ratio;
 use game_types::Game;
-use plan_base::{Denied, GoodId, Items, NoMemory};
-use production_table::{LIMIT, Table, TableRow};
+use plan_base::{GoodId, Items, NoMemory};
+use production_table::{LIMIT, Table, TableFault, TableRow};
 use std::alloc::Global;
 use wish_checks::is_met;
 use wish_estimates::{Estimates, Ground, Walk, walk_further, walk_on, why_unmade};
@@ -25,7 +25,7 @@ enum Tried {
 }
 
 // The orders of a walk's rows are tried until one is settled.
-fn try_orders(alloc: Global, trial: &Trial<'_>, walk: &Walk) -> Result<TableEnd, WishFault>
+fn try_orders(alloc: Global, trial: &Trial<'_>, walk: &Walk) -> Result<Outcome, WishFault>
     requires game { IsSound trial.now.ground.game.now }
     requires start { IsSoundTable trial.now.start.now }
     ensures { IfOk result HasSoundTable }
@@ -33,11 +33,11 @@ fn try_orders(alloc: Global, trial: &Trial<'_>, walk: &Walk) -> Result<TableEnd,
     for order in 0..ORDERS {
         let places = ordered(alloc, walk, order)?;
         match try_order(alloc, trial, walk, places.as_slice())? {
-            TableEnd::Unsolved => {}
+            Outcome::Unsolved => {}
             outcome => return Ok(outcome),
         }
     }
-    Ok(TableEnd::Unsolved)
+    Ok(Outcome::Unsolved)
 }
 
 // A good that the table that stands has isn't looked for.
@@ -92,14 +92,14 @@ fn walk_of(alloc: Global, trial: &Trial<'_>, most: usize, further: bool) -> Resu
 }
 
 // How a walk's tables end: met, or without a plan, or unsolved.
-fn tried_by(outcome: TableEnd) -> Tried
+fn tried_by(outcome: Outcome) -> Tried
     requires { HasSoundTable outcome }
     ensures { TriedSoundTable result }
 {
     match outcome {
-        TableEnd::Met(met) => Tried::Met(met),
-        TableEnd::NoPlan(goods) => Tried::Failed(WishFault::NoPlan(goods)),
-        TableEnd::Unsolved => Tried::Failed(WishFault::Unsolved),
+        Outcome::Met(met) => Tried::Met(met),
+        Outcome::NoPlan(goods) => Tried::Failed(WishFault::NoPlan(goods)),
+        Outcome::Unsolved => Tried::Failed(WishFault::Unsolved),
     }
 }
 
@@ -294,8 +294,8 @@ fn end_import(alloc: Global, table: &mut Table, good: GoodId) -> Result<(), Wish
     }
     match table.set_import(alloc, good, None) {
         Ok(_) => Ok(()),
-        Err(Denied::Refused(_)) => Err(WishFault::Full),
-        Err(Denied::NoMemory) => Err(WishFault::NoMemory),
+        Err(TableFault::NoMemory) => Err(WishFault::NoMemory),
+        Err(_) => Err(WishFault::Full),
     }
 }
 
