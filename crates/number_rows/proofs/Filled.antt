@@ -17,3 +17,9 @@ filled_tops s b bound ts ns xs ws places ex es h ew filled =
     (but_map (λ k. number_at xs.items k ≡ zero_fraction) (λ k. top_at ts k ≡ pos 0) 0 places (length ts)
     (λ k q e. top_none (top_at ts k) b h.positive (sym (short_at s b ts ns xs k ex es q) ∙ e))
     (subst (λ (n : ℕ). HoldsBut (λ k. number_at xs.items k ≡ zero_fraction) 0 places n) (length_shown s b ts ns xs ex h.same_length) filled))
+
+-- the same places under other names of the same numbers
+pub places_of : (ts us os ps : List ℤ) (places : List ℕ) → ts ≡ us → os ≡ ps → HoldsBut (λ k. (top_at ts k ≡ pos 0) × (top_at os k ≡ pos 0)) 0 places (length ts) → HoldsBut (λ k. (top_at us k ≡ pos 0) × (top_at ps k ≡ pos 0)) 0 places (length us)
+places_of ts us os ps places et eo h =
+    subst (λ (l : List ℤ). HoldsBut (λ k. (top_at us k ≡ pos 0) × (top_at l k ≡ pos 0)) 0 places (length us)) eo
+    (subst (λ (l : List ℤ). HoldsBut (λ k. (top_at l k ≡ pos 0) × (top_at os k ≡ pos 0)) 0 places (length l)) et h)

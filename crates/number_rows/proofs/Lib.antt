@@ -10,3 +10,5 @@ pub mod Broad
 pub mod Wider
 pub mod Places
 pub mod Filled
+pub mod Quotients
+pub mod Parts

@@ -1,7 +1,7 @@
 -- The places at which a row's numbers aren't 0.
-use Rattle.std.specs.Prelude.{ℕ, ◌+◌, ◌-◌, ◌<◌, ◌≤◌, List, [], ◌∷◌, ◌++◌, length, slice_index_or}
-use Rattle.std.proofs.Common.{sym, subst, arith, below_more, take, drop}
-use Rattle.std.proofs.lemmas.List.{take_all}
+use Rattle.std.specs.Prelude.{◌≡◌, ℕ, zero, suc, ◌+◌, ◌-◌, ◌<◌, ◌≤◌, List, [], ◌∷◌, ◌++◌, length, slice_index_or}
+use Rattle.std.proofs.Common.{refl, sym, subst, arith, below_more, set, take, drop}
+use Rattle.std.proofs.lemmas.List.{take_all, take-set, take_more_set}
 use Rattle.number_rows.specs.Places.{HoldsBut}
 
 -- one number more, where the property holds or not
@@ -12,6 +12,16 @@ but_holds P from (place ∷ places) n here h = (h.0, omega (arith, h.1), h.2, bu
 pub but_fails : (P : ℕ → Type 0) (from : ℕ) (places : List ℕ) (n : ℕ) → from ≤ n → HoldsBut P from places n → HoldsBut P from (places ++ n ∷ []) (n + 1)
 but_fails P from [] n le h = (le, omega arith, h, λ k p q. absurd (omega arith))
 but_fails P from (place ∷ places) n le h = (h.0, omega (arith, h.1), h.2, but_fails P (place + 1) places n (omega (arith, h.1)) h.3)
+
+-- a place that is written behind others, and counts where the property may fail
+pub place_written : (P : ℕ → Type 0) (places : List ℕ) (count one k : ℕ) → count ≤ k → k < length places → one ≤ 1 → (one ≡ 0 → P k) → HoldsBut P 0 (take count places) k → HoldsBut P 0 (take (count + one) (set places count k)) (k + 1)
+place_written P places count zero k le lt most here h =
+    let same : count ≡ count + 0 = omega arith in
+    subst (λ (n : ℕ). HoldsBut P 0 (take n (set places count k)) (k + 1)) same
+    (subst (λ (l : List ℕ). HoldsBut P 0 l (k + 1)) (sym (take-set places count k)) (but_holds P 0 (take count places) k (here refl) h))
+place_written P places count (suc zero) k le lt most here h =
+    subst (λ (l : List ℕ). HoldsBut P 0 l (k + 1)) (sym (take_more_set places count k (omega (arith, le, lt)))) (but_fails P 0 (take count places) k (omega arith) h)
+place_written P places count (suc (suc one)) k le lt most here h = absurd (omega (arith, most))
 
 -- another property that the first gives
 pub but_map : (P Q : ℕ → Type 0) (from : ℕ) (places : List ℕ) (n : ℕ) → ((k : ℕ) → k < n → P k → Q k) → HoldsBut P from places n → HoldsBut Q from places n

@@ -1,4 +1,6 @@
 pub mod Changed
+pub mod Lowered
 pub mod Places
 pub mod Row
+pub mod Shared
 pub mod Tops

@@ -2,7 +2,9 @@
 #![tactic(auto)]
 
 mod long;
+mod lowering;
 mod row;
+mod sharing;
 mod tops;
 mod wide;
 

@@ -13,10 +13,9 @@ ghost use Rattle.number_rows.specs.Row.{kept};
 ghost use Rattle.number_rows.specs.Tops.{top_at, AreWithin};
 
 use crate::long::{Long, short_form};
-use crate::tops::{
-    LIMIT, combine, combine_lowered, common_factor, content, divide_all, fitting_bound,
-    long_product, product_keeps_within, quotient, turn_all,
-};
+use crate::lowering::{combine_lowered, write_places};
+use crate::sharing::Shared;
+use crate::tops::{LIMIT, combine, fitting_bound, long_product, product_keeps_within, turn_all};
 use fractions::Ratio;
 use plan_base::NoMemory;
 use std::alloc::Global;
@@ -234,16 +233,31 @@ impl Row {
     }
 
     // Takes out of a short row what its denominator and its numbers have in common.
-    fn cancel(&mut self)
-        ensures { self.new ≡ self.old }
+    fn cancel(&mut self, room: &mut [usize])
+        requires room { length room.old ≡ length self.old.items }
+        ensures same { self.new ≡ self.old }
+        ensures room { length room.new ≡ length room.old }
     {
         if !self.short {
             return;
         }
-        let common = content(self.bottom, &self.tops);
-        self.bound = divide_all(&mut self.tops, common);
+        let count = write_places(room, &self.tops, &self.tops);
+        let Some(lowered) = combine_lowered(
+            &mut self.spare,
+            &self.tops,
+            1,
+            &self.tops,
+            0,
+            self.bottom,
+            1,
+            &room[..count],
+        ) else {
+            return;
+        };
+        mem::swap(&mut self.tops, &mut self.spare);
+        self.bound = lowered.bound;
         self.tight = true;
-        self.bottom = self.bottom / common;
+        self.bottom = self.bottom / lowered.divisor;
     }
 
     // Makes a row short, where it fits.
@@ -263,18 +277,20 @@ impl Row {
         self.short = true;
     }
 
-    /// Divides each number by the one at `enter`, or says which quotient is wide.
-    pub fn divide(&mut self, enter: usize) -> Result<(), usize>
+    /// Divides each number by the one at `enter`, or says which quotient is wide. What stands in the room is no matter.
+    pub fn divide(&mut self, enter: usize, room: &mut [usize]) -> Result<(), usize>
         requires inside { enter < length self.old.items }
+        requires room { length room.old ≡ length self.old.items }
         requires not_zero { number_at self.old.items enter ≢ zero_fraction }
         ensures ok { OnOk result (IsDividedRow self.old.items (number_at self.old.items enter) self.new.items) }
         ensures err { IfErr result (λ k. (k < length self.old.items) × ¬ IsNarrow (number_at self.old.items k /ʳ number_at self.old.items enter)) }
+        ensures room { length room.new ≡ length room.old }
     {
         if self.short {
             let pivot = self.tops[enter];
             turn_all(&mut self.tops, pivot < 0);
             self.bottom = pivot.unsigned_abs();
-            self.cancel();
+            self.cancel(room);
             return Ok(());
         }
         match self.numbers.divide(enter) {
@@ -286,8 +302,27 @@ impl Row {
         }
     }
 
-    // Takes its number at `enter` times the pivot's row from a row, where both are short and stay within the limits.
-    fn reduce_short(&mut self, enter: usize, pivot_row: &Row, places: &[usize]) -> bool
+    // What its number at `enter` and the denominator of the pivot's row have in common, where both rows are short. To the caller it
+    // is a guess.
+    fn likely_shared(&self, enter: usize, pivot_row: &Row) -> Shared
+        requires { enter < length self.now.items }
+    {
+        if self.short && pivot_row.short {
+            Shared::likely(self.tops[enter], pivot_row.bottom)
+        } else {
+            Shared::nothing(0, 1)
+        }
+    }
+
+    // Takes its number at `enter` times the pivot's row from a row, where both are short and stay within the limits, and where
+    // what it shares with that row's denominator was guessed right.
+    fn reduce_short(
+        &mut self,
+        enter: usize,
+        pivot_row: &Row,
+        places: &[usize],
+        shared: Shared,
+    ) -> bool
         requires inside { enter < length self.old.items }
         requires width { length self.old.items ≡ length pivot_row.now.items }
         requires places { AreFilled places.now pivot_row.now.items }
@@ -300,39 +335,46 @@ impl Row {
         if !pivot_row.short {
             return false;
         }
-        let top = self.tops[enter];
-        let common = common_factor(top.unsigned_abs(), pivot_row.bottom);
-        let scale = pivot_row.bottom / common;
-        let factor = quotient(top, common);
+        if !shared.is_of(self.tops[enter], pivot_row.bottom) {
+            return false;
+        }
         let Some(bound) = fitting_bound(
             &self.tops,
             self.bound,
             self.tight,
-            scale,
+            shared.scale,
             pivot_row.bound,
-            factor.unsigned_abs(),
+            shared.factor.unsigned_abs(),
             self.bottom,
         ) else {
             return false;
         };
         self.bound = combine(
             &mut self.tops,
-            scale as i64,
+            shared.scale as i64,
             &pivot_row.tops,
-            factor,
+            shared.factor,
             places,
             bound,
             pivot_row.bound,
         );
         self.tight = false;
-        self.bottom = self.bottom * scale;
+        self.bottom = self.bottom * shared.scale;
         true
     }
 
     // The same where what all numbers that this makes have in common brings them within the limits.
-    fn reduce_over(&mut self, enter: usize, pivot_row: &Row) -> bool
+    fn reduce_over(
+        &mut self,
+        enter: usize,
+        pivot_row: &Row,
+        shared: Shared,
+        room: &mut [usize],
+    ) -> bool
         requires inside { enter < length self.old.items }
         requires width { length self.old.items ≡ length pivot_row.now.items }
+        requires room { length room.old ≡ length self.old.items }
+        ensures room { length room.new ≡ length room.old }
         ensures done { OnTrue result (IsReducedRow self.old.items (number_at self.old.items enter) pivot_row.now.items self.new.items) }
         ensures not { OnFalse result (self.new ≡ self.old) }
     {
@@ -342,29 +384,30 @@ impl Row {
         if !pivot_row.short {
             return false;
         }
-        let top = self.tops[enter];
-        let common = common_factor(top.unsigned_abs(), pivot_row.bottom);
-        let scale = pivot_row.bottom / common;
-        let factor = quotient(top, common);
+        if !shared.is_of(self.tops[enter], pivot_row.bottom) {
+            return false;
+        }
+        let count = write_places(room, &self.tops, &pivot_row.tops);
         let Some(lowered) = combine_lowered(
             &mut self.spare,
             &self.tops,
-            scale as i64,
+            shared.scale as i64,
             &pivot_row.tops,
-            factor,
+            shared.factor,
             self.bottom,
-            common,
+            shared.common,
+            &room[..count],
         ) else {
             return false;
         };
         let bottom = self.bottom / lowered.divisor;
-        if !product_keeps_within(bottom, scale) {
+        if !product_keeps_within(bottom, shared.scale) {
             return false;
         }
         mem::swap(&mut self.tops, &mut self.spare);
         self.bound = lowered.bound;
         self.tight = true;
-        self.bottom = bottom * scale;
+        self.bottom = bottom * shared.scale;
         true
     }
 
@@ -425,7 +468,7 @@ impl Row {
     }
 
     /// Takes its number at `enter` times the pivot's row from a row, or says which number that makes wide. The pivot's row isn't 0
-    /// at the places.
+    /// at the places. What stands in the room is no matter.
     ///
     /// # Errors
     ///
@@ -436,21 +479,25 @@ impl Row {
         enter: usize,
         pivot_row: &Row,
         places: &[usize],
+        room: &mut [usize],
     ) -> Result<Result<(), usize>, NoMemory>
         requires inside { enter < length self.old.items }
         requires width { length self.old.items ≡ length pivot_row.now.items }
         requires narrow { AreNarrow self.old.items }
         requires places { AreFilled places.now pivot_row.now.items }
+        requires room { length room.old ≡ length self.old.items }
+        ensures room { length room.new ≡ length room.old }
         ensures ok { IfOk result (λ reduced. OnOk reduced (IsReducedRow self.old.items (number_at self.old.items enter) pivot_row.now.items self.new.items)) }
         ensures err { IfOk result (λ reduced. IfErr reduced (λ k. (k < length self.old.items) × ¬ LessFits (number_at self.old.items k) (number_at self.old.items enter) (number_at pivot_row.now.items k))) }
     {
         if self.is_zero(enter) {
             return Ok(Ok(()));
         }
-        if self.reduce_short(enter, pivot_row, places) {
+        let shared = self.likely_shared(enter, pivot_row);
+        if self.reduce_short(enter, pivot_row, places, shared) {
             return Ok(Ok(()));
         }
-        if self.reduce_over(enter, pivot_row) {
+        if self.reduce_over(enter, pivot_row, shared, room) {
             return Ok(Ok(()));
         }
         if self.reduce_wide(alloc, enter, pivot_row)? {

@@ -30,9 +30,9 @@ pub fn common_divisor(first: u64, second: u64) -> u64
     if b == 0 { a } else { 1 }
 }
 
-// The greatest common divisor of two numbers other than 0, found by shifts and subtractions, whose steps have no branch that
-// depends on the numbers. To the caller it is a guess.
-fn likely_divisor(first: u64, second: u64) -> u64 {
+/// The greatest common divisor of two numbers other than 0, found by shifts and subtractions, whose steps have no branch that
+/// depends on the numbers. To the caller it is a guess.
+pub fn likely_divisor(first: u64, second: u64) -> u64 {
     let shift = (first | second).trailing_zeros() % 64;
     let mut a = first >> (first.trailing_zeros() % 64);
     let mut b = second >> (second.trailing_zeros() % 64);
@@ -69,67 +69,13 @@ pub fn common_factor(first: u64, second: u64) -> u64
     }
 }
 
-/// A divisor that a denominator and all numbers have in common.
-pub fn content(bottom: u64, tops: &[i64]) -> u64
-    requires positive { 0 < bottom }
-    requires small { (k : ℕ) → k < length tops.now → unsigned_abs (top_at tops.now k) < 2 ^ 62 }
-    ensures positive { 0 < result }
-    ensures bottom { result ∣ bottom }
-    ensures tops { DividesAll result tops.now }
-{
-    let mut common = bottom;
-    for k in 0..tops.len() {
-        if common == 1 {
-            break;
-        }
-        common = common_factor(tops[k].unsigned_abs(), common);
-    }
-    common
-}
-
-// A number divided by a natural, toward zero.
-pub fn quotient(top: i64, divisor: u64) -> i64
-    requires positive { 0 < divisor }
-    requires small { unsigned_abs top < 2 ^ 62 }
-    requires small_divisor { divisor < 2 ^ 62 }
-    ensures value { result ≡ int_div top (pos divisor) }
-    ensures small { unsigned_abs result ≤ unsigned_abs top }
-{
-    if divisor == 1 {
-        return top;
-    }
-    if top == 0 {
-        return 0;
-    }
-    top / divisor as i64
-}
-
-// The greater of two numbers.
-fn greater(a: u64, b: u64) -> u64
+/// The greater of two numbers.
+pub fn greater(a: u64, b: u64) -> u64
     ensures first { a ≤ result }
     ensures second { b ≤ result }
     ensures small { a < 2 ^ 62 → b < 2 ^ 62 → result < 2 ^ 62 }
 {
     if a < b { b } else { a }
-}
-
-/// Divides each number by what divides all. Says how great their magnitudes are at most.
-pub fn divide_all(tops: &mut [i64], divisor: u64) -> u64
-    requires positive { 0 < divisor }
-    requires small_divisor { divisor < 2 ^ 62 }
-    requires small { (k : ℕ) → k < length tops.old → unsigned_abs (top_at tops.old k) < 2 ^ 62 }
-    requires divides { DividesAll divisor tops.old }
-    ensures divided { IsDividedBy tops.old divisor tops.new }
-    ensures within { AreWithin tops.new result }
-    ensures small { result < 2 ^ 62 }
-{
-    let mut bound = 0;
-    for k in 0..tops.len() {
-        let top = quotient(tops[k], divisor);
-        bound = greater(bound, top.unsigned_abs());
-        tops[k] = top;
-    }
-    bound
 }
 
 // Turns the sign of each number.
@@ -326,8 +272,8 @@ pub fn fitting_bound(
     None
 }
 
-// One number times a scale, less another times a factor, of any numbers below the limit.
-fn long_combined(top: i64, scale: i64, other: i64, factor: i64) -> i128
+/// One number times a scale, less another times a factor, of any numbers below the limit.
+pub fn long_combined(top: i64, scale: i64, other: i64, factor: i64) -> i128
     requires top { unsigned_abs top < 2 ^ 62 }
     requires scale { unsigned_abs scale < 2 ^ 62 }
     requires other { unsigned_abs other < 2 ^ 62 }
@@ -385,192 +331,6 @@ pub fn exact_quotient(number: i128, divisor: u64, shift: u32, inverse: u64) -> O
     } else {
         None
     }
-}
-
-// One number times a scale, less another times a factor, divided by a divisor, where that leaves no rest and is below the
-// limit. Where many are 0, these are looked for first: else the test would cost more than it spares.
-fn combined_over(
-    top: i64,
-    scale: i64,
-    other: i64,
-    factor: i64,
-    divisor: u64,
-    shift: u32,
-    inverse: u64,
-    sparse: bool,
-) -> Option<i64>
-    requires top { unsigned_abs top < 2 ^ 62 }
-    requires scale { unsigned_abs scale < 2 ^ 62 }
-    requires other { unsigned_abs other < 2 ^ 62 }
-    requires factor { unsigned_abs factor < 2 ^ 62 }
-    requires small_divisor { divisor < 2 ^ 62 }
-    requires shift { shift < 64 }
-    ensures { IfSome result (λ q. (q *ℤ pos divisor ≡ top *ℤ scale -ℤ other *ℤ factor) × (unsigned_abs q < 2 ^ 62)) }
-{
-    if sparse && top == 0 && other == 0 {
-        return Some(0);
-    }
-    exact_quotient(
-        long_combined(top, scale, other, factor),
-        divisor,
-        shift,
-        inverse,
-    )
-}
-
-// Whether two rows are both 0 at most places. To the caller it is a guess.
-fn are_sparse(tops: &[i64], others: &[i64]) -> bool
-    requires { length tops.now ≡ length others.now }
-{
-    let mut filled = 0u64;
-    for k in 0..tops.len() {
-        filled = filled.wrapping_add(if (tops[k] | others[k]) == 0 { 0 } else { 1 });
-    }
-    filled < tops.len() as u64 / 3
-}
-
-// How far quotients by a divisor were written, and how great their magnitudes are at most.
-#[derive(Clone, Copy)]
-struct Reached {
-    place: usize,
-    bound: u64,
-}
-
-// Writes what `combine` makes of each number from a place on, divided by a divisor, up to the first of which something is left
-// or that is past the limit.
-fn combine_from(
-    quotients: &mut [i64],
-    tops: &[i64],
-    scale: i64,
-    others: &[i64],
-    factor: i64,
-    divisor: u64,
-    sparse: bool,
-    from: Reached,
-) -> Reached
-    requires quotients { length quotients.old ≡ length tops.now }
-    requires lengths { length tops.now ≡ length others.now }
-    requires tops { (k : ℕ) → k < length tops.now → unsigned_abs (top_at tops.now k) < 2 ^ 62 }
-    requires others { (k : ℕ) → k < length others.now → unsigned_abs (top_at others.now k) < 2 ^ 62 }
-    requires scale { unsigned_abs scale < 2 ^ 62 }
-    requires factor { unsigned_abs factor < 2 ^ 62 }
-    requires small_divisor { divisor < 2 ^ 62 }
-    requires inside { from.place ≤ length tops.now }
-    requires written { IsOverBelow tops.now scale others.now factor divisor quotients.old from.place }
-    requires within { AreWithinBelow quotients.old from.bound from.place }
-    requires bound { from.bound < 2 ^ 62 }
-    ensures length_is { length quotients.new ≡ length tops.now }
-    ensures inside { result.place ≤ length tops.now }
-    ensures written { IsOverBelow tops.now scale others.now factor divisor quotients.new result.place }
-    ensures within { AreWithinBelow quotients.new result.bound result.place }
-    ensures bound { result.bound < 2 ^ 62 }
-{
-    let shift = divisor.trailing_zeros() % 64;
-    let inverse = likely_inverse(divisor >> shift);
-    let mut most = from.bound;
-    for k in from.place..tops.len() {
-        let Some(quotient) = combined_over(
-            tops[k], scale, others[k], factor, divisor, shift, inverse, sparse,
-        ) else {
-            return Reached {
-                place: k,
-                bound: most,
-            };
-        };
-        most = greater(most, quotient.unsigned_abs());
-        quotients[k] = quotient;
-    }
-    Reached {
-        place: tops.len(),
-        bound: most,
-    }
-}
-
-// Makes of the first quotients by a divisor those by its part beside a factor.
-fn raise_first(quotients: &mut [i64], count: usize, factor: u64)
-    requires count { count ≤ length quotients.old }
-    requires factor { factor < 2 ^ 62 }
-    requires below { (k : ℕ) → k < count → unsigned_abs (top_at quotients.old k) < 2 ^ 62 }
-    requires small { (k : ℕ) → k < count → unsigned_abs (top_at quotients.old k) * factor < 2 ^ 62 }
-    ensures length_is { length quotients.new ≡ length quotients.old }
-    ensures numbers { (k : ℕ) → k < count → top_at quotients.new k ≡ top_at quotients.old k *ℤ pos factor }
-{
-    for k in 0..count {
-        quotients[k] = quotients[k] * factor as i64;
-    }
-}
-
-// What a divisor has in common with a number that `combine` makes.
-fn shared_divisor(top: i64, scale: i64, other: i64, factor: i64, divisor: u64) -> u64
-    requires top { unsigned_abs top < 2 ^ 62 }
-    requires scale { unsigned_abs scale < 2 ^ 62 }
-    requires other { unsigned_abs other < 2 ^ 62 }
-    requires factor { unsigned_abs factor < 2 ^ 62 }
-    requires positive { 0 < divisor }
-    ensures positive { 0 < result }
-    ensures divides { result ∣ divisor }
-{
-    let number = long_combined(top, scale, other, factor);
-    common_factor(rest_by(number, divisor), divisor)
-}
-
-/// Quotients by a divisor: how great their magnitudes are at most.
-#[derive(Clone, Copy)]
-pub struct Lowered {
-    pub divisor: u64,
-    pub bound: u64,
-}
-
-/// Writes what `combine` makes of each number, divided by what all of these and a denominator have in common, where all are
-/// below the limit then. The first divisor is the denominator's part beside what it shares with `common`, which is mostly
-/// the one; each number that a divisor leaves a rest of makes it less, and the quotients that stand before it greater.
-pub fn combine_lowered(
-    quotients: &mut [i64],
-    tops: &[i64],
-    scale: i64,
-    others: &[i64],
-    factor: i64,
-    bottom: u64,
-    common: u64,
-) -> Option<Lowered>
-    requires quotients { length quotients.old ≡ length tops.now }
-    requires lengths { length tops.now ≡ length others.now }
-    requires tops { (k : ℕ) → k < length tops.now → unsigned_abs (top_at tops.now k) < 2 ^ 62 }
-    requires others { (k : ℕ) → k < length others.now → unsigned_abs (top_at others.now k) < 2 ^ 62 }
-    requires scale { unsigned_abs scale < 2 ^ 62 }
-    requires factor { unsigned_abs factor < 2 ^ 62 }
-    requires positive { 0 < bottom }
-    requires small { bottom < 2 ^ 62 }
-    ensures length_is { length quotients.new ≡ length tops.now }
-    ensures lowered { IfSome result (λ r. IsLowered tops.now scale others.now factor bottom r.divisor r.bound quotients.new) }
-{
-    let mut divisor = bottom / common_factor(common, bottom);
-    let sparse = are_sparse(tops, others);
-    let mut from = Reached { place: 0, bound: 0 };
-    for _try in 0..64 {
-        let reached = combine_from(
-            quotients, tops, scale, others, factor, divisor, sparse, from,
-        );
-        let place = reached.place;
-        if place == tops.len() {
-            return Some(Lowered {
-                divisor,
-                bound: reached.bound,
-            });
-        }
-        let shared = shared_divisor(tops[place], scale, others[place], factor, divisor);
-        let more = divisor / shared;
-        if shared == divisor || !product_keeps_within(reached.bound, more) {
-            return None;
-        }
-        raise_first(quotients, place, more);
-        divisor = shared;
-        from = Reached {
-            place,
-            bound: reached.bound * more,
-        };
-    }
-    None
 }
 
 /// Whether the product of two numbers is below the limit.

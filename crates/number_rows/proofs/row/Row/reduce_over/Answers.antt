@@ -1,41 +1,36 @@
-use Rattle.std.proofs.Common.{◌≡◌, ◌∙◌, refl, sym, ap, subst, arith, ℕ, ◌<◌, ◌^◌, length, List, ℤ, unsigned_abs}
+use Rattle.std.proofs.Common.{◌≡◌, ◌∙◌, refl, sym, ap, subst, arith, ℕ, ◌<◌, length, take, List, ℤ}
 use Rattle.std.proofs.lemmas.List.{get_or_read, with_items_is}
-use Rattle.std.specs.Prelude.{◌*◌, ◌/◌, pos, ◌*ℤ◌, Bool}
-use Rattle.fractions.specs.Fraction.{Fraction}
+use Rattle.std.specs.Prelude.{◌*◌, ◌/◌, pos, Bool}
+use Rattle.fractions.specs.Fraction.{Fraction, lower_pos}
+use Rattle.fractions.specs.Fracs.{pos_product}
+use Rattle.std.proofs.lemmas.Bool.{OnTrue_at}
 use Rattle.number_rows.specs.Changed.{Numbers}
 use Rattle.number_rows.specs.Row.{kept, IsKept}
 use Rattle.number_rows.specs.Tops.{top_at, IsCombinedOver}
 use Rattle.number_rows.proofs.Kept.{length_shown}
-use Rattle.std.proofs.lemmas.Bool.{OnTrue_at}
-use Rattle.std.proofs.lemmas.Nat.Gcd.{le_of_dvd}
-use Rattle.std.proofs.Math.Nat.{div-le_self}
-use Rattle.fractions.specs.Fraction.{lower_pos}
-use Rattle.fractions.specs.Fracs.{pos_product}
 use Rattle.number_rows.proofs.Lists.{back}
-use Rattle.number_rows.proofs.Wider.{small_at}
-use Rattle.number_rows.proofs.Exchanged.{reduced_row, divided_tops, factor_is, scale_back, combined_over_plain}
-use Rattle.number_rows.proofs.row.Row.reduce_over.Goals.{After-quotient-factor, After-swap}
+use Rattle.number_rows.proofs.Filled.{places_of}
+use Rattle.number_rows.proofs.Parts.{HasParts, parts}
+use Rattle.number_rows.proofs.Exchanged.{reduced_row, divided_tops, scale_back, combined_over_plain}
+use Rattle.number_rows.proofs.row.Row.reduce_over.Goals.{After-swap}
 use Rattle.number_rows.proofs.row.Row.reduce_over.Goals as goal
 
-pub quotient-factor-requires-clause-small_divisor : goal.quotient-factor-requires-clause-small_divisor
-quotient-factor-requires-clause-small_divisor c =
-    omega (arith, le_of_dvd c.pivot_row.invariant.positive c.common_factor-common.ensures.second, c.pivot_row.invariant.bottom_small)
-
--- the factor, times the divisor, is the number at the place that enters
-factor : (c : After-quotient-factor) → (c.quotient-factor.result *ℤ pos c.common_factor-common.result ≡ top_at c.self.inside.tops.items c.args.enter) × (unsigned_abs c.quotient-factor.result < 2 ^ 62)
-factor c =
+-- what the number at the place that enters shares with the denominator of the pivot's row
+shares : (c : After-swap) → HasParts (top_at c.self.inside.tops.items c.args.enter) c.pivot_row.inside.bottom c.args.shared.common c.args.shared.scale c.args.shared.factor
+shares c =
     let r = c.self.inside in
     let inside : c.args.enter < length r.tops.items = omega (arith, c.requires.inside, length_shown r.short r.bottom r.tops.items r.numbers.items c.args.self.now c.self.view_is c.self.invariant.same_length) in
-    factor_is c.index-top.result.now (top_at r.tops.items c.args.enter) c.quotient-factor.result c.unsigned_abs.result c.common_factor-common.result (get_or_read r.tops.items c.args.enter c.index-top.result.now inside c.index-top.ensures (pos 0))
-    (omega (arith, c.self.invariant.within c.args.enter inside, c.self.invariant.bound_small)) c.unsigned_abs.ensures.value c.common_factor-common.ensures.first c.quotient-factor.ensures.value c.quotient-factor.ensures.small
+    parts c.index.result.now (top_at r.tops.items c.args.enter) c.pivot_row.inside.bottom c.args.shared.common c.args.shared.scale c.args.shared.factor c.pivot_row.invariant.positive (get_or_read r.tops.items c.args.enter c.index.result.now inside c.index.ensures (pos 0))
+    (omega (arith, c.self.invariant.within c.args.enter inside, c.self.invariant.bound_small)) (OnTrue_at c.if-not-is_of.false c.is_of.ensures)
 
-pub combine_lowered-requires-clause-factor : goal.combine_lowered-requires-clause-factor
-combine_lowered-requires-clause-factor c =
-    small_at c.quotient-factor.result (factor (goal.at.combine_lowered-requires-clause-factor c).After-quotient-factor).1
+pub combine_lowered-requires-clause-places : goal.combine_lowered-requires-clause-places
+combine_lowered-requires-clause-places c =
+    places_of c.deref.result.now c.deref-3.result.now c.deref-2.result.now c.deref-4.result.now (take c.write_places-count.result c.write_places-count.new.places)
+    (c.deref.ensures.value ∙ sym c.deref-3.ensures.value) (c.deref-2.ensures.value ∙ sym c.deref-4.ensures.value) c.write_places-count.ensures.places
 
 -- as many quotients as tops
 count : (c : After-swap) → length c.combine_lowered.new.quotients ≡ length c.self.inside.tops.items
-count c = c.combine_lowered.ensures.length_is ∙ ap (λ (ts : List ℤ). length ts) c.deref.ensures.value
+count c = c.combine_lowered.ensures.length_is ∙ ap (λ (ts : List ℤ). length ts) c.deref-3.ensures.value
 
 -- the quotients take the place of the tops
 taken : (c : After-swap) → c.swap.new.x.items ≡ c.combine_lowered.new.quotients
@@ -46,11 +41,10 @@ taken c =
 pub invariant_of-self-2 : goal.invariant_of-self-2
 invariant_of-self-2 c =
     let r = c.self.inside in
-    let p = c.pivot_row.inside in
     let low = c.in-Some.ensures.lowered in
     let d = c.in-Some.lowered.divisor in
     let s = (goal.at.invariant_of-self-2 c).After-swap in
-    let a = p.bottom / c.common_factor-common.result in
+    let a = c.args.shared.scale in
     let m = r.bottom / d * a in
     let room : length c.swap.new.y.items ≡ length r.tops.items = rw c.swap.ensures.y_after refl in
     subst (λ (n : ℕ). IsKept r.short m c.in-Some.lowered.bound c.swap.new.x.items r.numbers.items n) (sym room)
@@ -58,7 +52,7 @@ invariant_of-self-2 c =
     (record {
       same_length = λ e. count s ∙ c.self.invariant.same_length e;
       room_is = sym (count s);
-      positive = pos_product (r.bottom / d) a (lower_pos r.bottom d c.self.invariant.positive low.divides) (lower_pos p.bottom c.common_factor-common.result c.pivot_row.invariant.positive c.common_factor-common.ensures.second);
+      positive = pos_product (r.bottom / d) a (lower_pos r.bottom d c.self.invariant.positive low.divides) (shares s).scale_positive;
       bottom_small = OnTrue_at c.if-not-product_keeps_within.false c.product_keeps_within.ensures;
       bound_small = low.small;
       within = low.within;
@@ -71,18 +65,18 @@ returns-clause-done c =
     let low = c.in-Some.ensures.lowered in
     let d = c.in-Some.lowered.divisor in
     let us = c.combine_lowered.new.quotients in
-    let g = c.common_factor-common.result in
-    let a = p.bottom / g in
+    let g = c.args.shared.common in
+    let a = c.args.shared.scale in
+    let f = c.args.shared.factor in
     let m = r.bottom / d * a in
-    let f = factor (goal.at.returns-clause-done c).After-quotient-factor in
+    let s = shares (goal.at.returns-clause-done c).After-swap in
     let inside : c.args.enter < length r.tops.items = omega (arith, c.requires.inside, length_shown r.short r.bottom r.tops.items r.numbers.items c.args.self.now c.self.view_is c.self.invariant.same_length) in
-    let t : IsCombinedOver r.tops.items (pos a) p.tops.items c.quotient-factor.result d us =
-    combined_over_plain c.deref.result.now r.tops.items p.tops.items c.deref-2.result.now us _ c.quotient-factor.result a d c.deref.ensures.value c.deref-2.ensures.value
-    (scale_back a (omega (arith, div-le_self p.bottom g, c.pivot_row.invariant.bottom_small))) (back c.quotient-factor.result (omega (arith, f.1))) low.combined in
-    let pa : 0 < a = lower_pos p.bottom g c.pivot_row.invariant.positive c.common_factor-common.ensures.second in
-    reduced_row r.short p.short r.bottom p.bottom r.bound p.bound a g m c.quotient-factor.result r.tops.items us p.tops.items r.numbers.items p.numbers.items c.args.self.now _ c.args.pivot_row.now c.args.enter
-    c.self.view_is c.if-not-self.false c.self.invariant c.pivot_row.view_is c.if-not-pivot_row.false c.pivot_row.invariant c.requires.width inside (c.common_factor-common.ensures.positive c.pivot_row.invariant.positive) c.common_factor-common.ensures.second (λ i. a) f.0
-    (divided_tops r.bottom d a c.quotient-factor.result r.tops.items p.tops.items us c.self.invariant.positive low.positive low.divides pa t)
+    let t : IsCombinedOver r.tops.items (pos a) p.tops.items f d us =
+    combined_over_plain c.deref-3.result.now r.tops.items p.tops.items c.deref-4.result.now us _ f a d c.deref-3.ensures.value c.deref-4.ensures.value
+    (scale_back a s.scale_small) (back f (omega (arith, s.factor_small))) low.combined in
+    reduced_row r.short p.short r.bottom p.bottom r.bound p.bound a g m f r.tops.items us p.tops.items r.numbers.items p.numbers.items c.args.self.now _ c.args.pivot_row.now c.args.enter
+    c.self.view_is c.if-not-self.false c.self.invariant c.pivot_row.view_is c.if-not-pivot_row.false c.pivot_row.invariant c.requires.width inside s.positive s.divides s.scale_is s.factor_is
+    (divided_tops r.bottom d a f r.tops.items p.tops.items us c.self.invariant.positive low.positive low.divides s.scale_positive t)
     (ap (λ ts. shown r.short m ts r.numbers.items) (taken (goal.at.returns-clause-done c).After-swap))
   where
     shown : Bool → ℕ → List ℤ → List Fraction → Numbers

@@ -1,37 +1,27 @@
-use Rattle.std.proofs.Common.{◌≡◌, ◌∙◌, sym, ap, subst, arith, ℕ, ◌<◌, ◌^◌, length, List, ℤ, unsigned_abs}
+use Rattle.std.proofs.Common.{◌≡◌, ◌∙◌, sym, ap, subst, arith, ℕ, ◌<◌, length, List, ℤ}
 use Rattle.std.proofs.lemmas.List.{get_or_read, with_items_is}
-use Rattle.std.specs.Prelude.{◌*◌, ◌/◌, pos, ◌*ℤ◌, Bool}
+use Rattle.std.proofs.lemmas.Bool.{OnTrue_at}
+use Rattle.std.specs.Prelude.{◌*◌, pos, Bool}
 use Rattle.fractions.specs.Fraction.{Fraction}
+use Rattle.fractions.specs.Fracs.{pos_product}
 use Rattle.number_rows.specs.Changed.{Numbers}
 use Rattle.number_rows.specs.Row.{kept, IsKept}
 use Rattle.number_rows.specs.Tops.{top_at, IsCombined}
 use Rattle.number_rows.proofs.Kept.{length_shown}
-use Rattle.std.proofs.lemmas.Nat.Gcd.{le_of_dvd}
-use Rattle.std.proofs.Math.Nat.{div-le_self}
-use Rattle.fractions.specs.Fraction.{lower_pos}
-use Rattle.fractions.specs.Fracs.{pos_product}
 use Rattle.number_rows.proofs.Lists.{back}
 use Rattle.number_rows.proofs.Filled.{filled_tops}
-use Rattle.number_rows.proofs.Exchanged.{reduced_row, combined_tops, factor_is, scale_back, combined_plain}
-use Rattle.number_rows.proofs.row.Row.reduce_short.Goals.{After-quotient-factor}
+use Rattle.number_rows.proofs.Parts.{HasParts, parts}
+use Rattle.number_rows.proofs.Exchanged.{reduced_row, combined_tops, scale_back, combined_plain}
+use Rattle.number_rows.proofs.row.Row.reduce_short.Goals.{After-fitting_bound}
 use Rattle.number_rows.proofs.row.Row.reduce_short.Goals as goal
 
-pub quotient-factor-requires-clause-small_divisor : goal.quotient-factor-requires-clause-small_divisor
-quotient-factor-requires-clause-small_divisor c =
-    omega (arith, le_of_dvd c.pivot_row.invariant.positive c.common_factor-common.ensures.second, c.pivot_row.invariant.bottom_small)
-
--- the factor, times the divisor, is the number at the place that enters
-factor : (c : After-quotient-factor) → (c.quotient-factor.result *ℤ pos c.common_factor-common.result ≡ top_at c.self.inside.tops.items c.args.enter) × (unsigned_abs c.quotient-factor.result < 2 ^ 62)
-factor c =
+-- what the number at the place that enters shares with the denominator of the pivot's row
+shares : (c : After-fitting_bound) → HasParts (top_at c.self.inside.tops.items c.args.enter) c.pivot_row.inside.bottom c.args.shared.common c.args.shared.scale c.args.shared.factor
+shares c =
     let r = c.self.inside in
     let inside : c.args.enter < length r.tops.items = omega (arith, c.requires.inside, length_shown r.short r.bottom r.tops.items r.numbers.items c.args.self.now c.self.view_is c.self.invariant.same_length) in
-    factor_is c.index-top.result.now (top_at r.tops.items c.args.enter) c.quotient-factor.result c.unsigned_abs.result c.common_factor-common.result (get_or_read r.tops.items c.args.enter c.index-top.result.now inside c.index-top.ensures (pos 0))
-    (omega (arith, c.self.invariant.within c.args.enter inside, c.self.invariant.bound_small)) c.unsigned_abs.ensures.value c.common_factor-common.ensures.first c.quotient-factor.ensures.value c.quotient-factor.ensures.small
-
-pub fitting_bound-requires-clause-factor : goal.fitting_bound-requires-clause-factor
-fitting_bound-requires-clause-factor c =
-    let f = factor (goal.at.fitting_bound-requires-clause-factor c).After-quotient-factor in
-    omega (arith, c.unsigned_abs-2.ensures.value, ap unsigned_abs (back c.quotient-factor.result (omega (arith, f.1))), f.1)
+    parts c.index.result.now (top_at r.tops.items c.args.enter) c.pivot_row.inside.bottom c.args.shared.common c.args.shared.scale c.args.shared.factor c.pivot_row.invariant.positive (get_or_read r.tops.items c.args.enter c.index.result.now inside c.index.ensures (pos 0))
+    (omega (arith, c.self.invariant.within c.args.enter inside, c.self.invariant.bound_small)) (OnTrue_at c.if-not-is_of.false c.is_of.ensures)
 
 pub combine-self-inside-requires-clause-places : goal.combine-self-inside-requires-clause-places
 combine-self-inside-requires-clause-places c =
@@ -41,15 +31,15 @@ combine-self-inside-requires-clause-places c =
 pub invariant_of-self : goal.invariant_of-self
 invariant_of-self c =
     let r = c.self.inside in
-    let p = c.pivot_row.inside in
     let d = c.combine-self-inside in
-    let a = p.bottom / c.common_factor-common.result in
+    let a = c.args.shared.scale in
+    let s = shares (goal.at.invariant_of-self c).After-fitting_bound in
     let len : length d.new.tops ≡ length r.tops.items = d.ensures.combined.length_is ∙ ap (λ (ts : List ℤ). length ts) c.deref_mut.ensures.value in
     subst (λ (ts : List ℤ). IsKept r.short (r.bottom * a) d.result ts r.numbers.items (length r.spare.items)) (sym (with_items_is r.tops d.new.tops (len ∙ sym r.tops.ok.0)))
     (record {
       same_length = λ e. len ∙ c.self.invariant.same_length e;
       room_is = c.self.invariant.room_is ∙ sym len;
-      positive = pos_product r.bottom a c.self.invariant.positive (lower_pos p.bottom c.common_factor-common.result c.pivot_row.invariant.positive c.common_factor-common.ensures.second);
+      positive = pos_product r.bottom a c.self.invariant.positive s.scale_positive;
       bottom_small = c.in-Some.ensures.3;
       bound_small = d.ensures.small;
       within = d.ensures.within;
@@ -60,16 +50,17 @@ returns-clause-done c =
     let r = c.self.inside in
     let p = c.pivot_row.inside in
     let d = c.combine-self-inside in
-    let g = c.common_factor-common.result in
-    let a = p.bottom / g in
-    let f = factor (goal.at.returns-clause-done c).After-quotient-factor in
+    let g = c.args.shared.common in
+    let a = c.args.shared.scale in
+    let f = c.args.shared.factor in
+    let s = shares (goal.at.returns-clause-done c).After-fitting_bound in
     let inside : c.args.enter < length r.tops.items = omega (arith, c.requires.inside, length_shown r.short r.bottom r.tops.items r.numbers.items c.args.self.now c.self.view_is c.self.invariant.same_length) in
     let len : length d.new.tops ≡ length r.tops.items = d.ensures.combined.length_is ∙ ap (λ (ts : List ℤ). length ts) c.deref_mut.ensures.value in
-    let t : IsCombined r.tops.items (pos a) p.tops.items c.quotient-factor.result d.new.tops =
-    combined_plain c.deref_mut.result.now r.tops.items p.tops.items c.deref-2.result.now d.new.tops _ c.quotient-factor.result a c.deref_mut.ensures.value c.deref-2.ensures.value
-    (scale_back a (omega (arith, div-le_self p.bottom g, c.pivot_row.invariant.bottom_small))) (back c.quotient-factor.result (omega (arith, f.1))) d.ensures.combined in
-    reduced_row r.short p.short r.bottom p.bottom r.bound p.bound a g (r.bottom * a) c.quotient-factor.result r.tops.items d.new.tops p.tops.items r.numbers.items p.numbers.items c.args.self.now _ c.args.pivot_row.now c.args.enter
-    c.self.view_is c.if-not-self.false c.self.invariant c.pivot_row.view_is c.if-not-pivot_row.false c.pivot_row.invariant c.requires.width inside (c.common_factor-common.ensures.positive c.pivot_row.invariant.positive) c.common_factor-common.ensures.second (λ i. a) f.0 (combined_tops r.bottom a c.quotient-factor.result r.tops.items p.tops.items d.new.tops t)
+    let t : IsCombined r.tops.items (pos a) p.tops.items f d.new.tops =
+    combined_plain c.deref_mut.result.now r.tops.items p.tops.items c.deref-2.result.now d.new.tops _ f a c.deref_mut.ensures.value c.deref-2.ensures.value
+    (scale_back a s.scale_small) (back f (omega (arith, s.factor_small))) d.ensures.combined in
+    reduced_row r.short p.short r.bottom p.bottom r.bound p.bound a g (r.bottom * a) f r.tops.items d.new.tops p.tops.items r.numbers.items p.numbers.items c.args.self.now _ c.args.pivot_row.now c.args.enter
+    c.self.view_is c.if-not-self.false c.self.invariant c.pivot_row.view_is c.if-not-pivot_row.false c.pivot_row.invariant c.requires.width inside s.positive s.divides s.scale_is s.factor_is (combined_tops r.bottom a f r.tops.items p.tops.items d.new.tops t)
     (ap (λ ts. shown r.short (r.bottom * a) ts r.numbers.items) (with_items_is r.tops d.new.tops (len ∙ sym r.tops.ok.0)))
   where
     shown : Bool → ℕ → List ℤ → List Fraction → Numbers

@@ -2,7 +2,7 @@ use Rattle.std.proofs.Common.{arith, pos}
 use Rattle.number_rows.specs.Tops.{top_at}
 use Rattle.number_rows.proofs.Lists.{raised_more}
 use Rattle.number_rows.proofs.Wider.{raised_at}
-use Rattle.number_rows.proofs.tops.raise_first.Goals as goal
+use Rattle.number_rows.proofs.lowering.raise_first.Goals as goal
 
 pub loop-k-preserved : goal.loop-k-preserved
 loop-k-preserved c =

@@ -1,7 +1,0 @@
-use Rattle.std.proofs.Common.{◌<◌, ℕ, unsigned_abs}
-use Rattle.std.specs.Int.{◌∣◌}
-use Rattle.number_rows.specs.Tops.{top_at}
-use Rattle.number_rows.proofs.tops.content.Given as goal
-
-abbrev pub invariant-loop-k : goal.invariant-loop-k
-invariant-loop-k l = (0 < l.common) × (l.common ∣ l.bottom) × ((j : ℕ) → j < l.k → l.common ∣ unsigned_abs (top_at l.tops j))
