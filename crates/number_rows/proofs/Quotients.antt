@@ -8,7 +8,7 @@ use Rattle.std.proofs.lemmas.List.{get_or-set_same, get_or-set_other, get_or_pas
 use Rattle.std.proofs.lemmas.Nat.Gcd.{le_of_dvd}
 use Rattle.fractions.specs.Ring.{int, nat, ◌⊗◌, ◌⊖◌, same_value}
 use Rattle.number_rows.specs.Lowered.{IsLoweredBelow, IsRaised}
-use Rattle.number_rows.specs.Tops.{top_at, AreWithinBelow, IsOverBelow, IsCombinedOver, IsDividedBy, AreWithin, IsLowered}
+use Rattle.number_rows.specs.Tops.{top_at, AreWithinBelow, IsCombinedOver, IsDividedBy, IsLowered}
 use Rattle.fractions.proofs.Parts.{whole_back}
 use Rattle.number_rows.proofs.Lists.{wrap, back, within_none, within_more}
 use Rattle.number_rows.proofs.Over.{wrap128}

@@ -9,7 +9,7 @@ ghost use Rattle.number_rows.specs.Lowered.{IsLoweredBelow, IsRaised};
 
 use crate::tops::{
     common_factor, exact_quotient, greater, likely_inverse, long_combined, product_keeps_within,
-    rest_by,
+    rest_by, small_quotient,
 };
 
 /// Quotients by a divisor: how great their magnitudes are at most.
@@ -155,7 +155,7 @@ fn put_quotient(
     ensures below { IfSome result (λ next. IsLoweredBelow tops.now scale others.now factor next.divisor next.bound quotients.new (k + 1)) }
 {
     let number = long_combined(tops[k], scale, others[k], factor);
-    if let Some(quotient) = exact_quotient(number, over.divisor, over.shift % 64, over.inverse) {
+    if let Some(quotient) = small_quotient(number, over.divisor, over.shift, over.inverse) {
         quotients[k] = quotient;
         return Some(over.with(quotient));
     }

@@ -318,6 +318,21 @@ pub fn rest_by(number: i128, divisor: u64) -> u64
     rest as u64
 }
 
+/// The quotient by a divisor, where that leaves no rest and the quotient, times the divisor's power of 2, takes no more than 64
+/// bits. The shift is the number of zeros that the divisor ends in, and the inverse that of its part beside them.
+pub fn small_quotient(number: i128, divisor: u64, shift: u32, inverse: u64) -> Option<i64>
+    requires small_divisor { divisor < 2 ^ 62 }
+    ensures { IfSome result (λ q. (q *ℤ pos divisor ≡ number) × (unsigned_abs q < 2 ^ 62)) }
+{
+    let low = (number.cast_unsigned() % (1 << 64)) as u64;
+    let quotient = low.wrapping_mul(inverse).cast_signed() >> (shift % 64);
+    if quotient.unsigned_abs() < LIMIT && long_product(quotient, divisor as i64) == number {
+        Some(quotient)
+    } else {
+        None
+    }
+}
+
 /// The quotient by a divisor, where that leaves no rest and the quotient is below the limit. The shift is the number of
 /// zeros that the divisor ends in, and the inverse that of its part beside them.
 pub fn exact_quotient(number: i128, divisor: u64, shift: u32, inverse: u64) -> Option<i64>

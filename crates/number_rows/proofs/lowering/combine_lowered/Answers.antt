@@ -1,4 +1,4 @@
-use Rattle.std.proofs.Common.{◌≡◌, ◌∙◌, ℕ, ◌<◌, length, sym, subst, arith}
+use Rattle.std.proofs.Common.{◌≡◌, ◌∙◌, ℕ, length, sym, subst, arith}
 use Rattle.std.specs.Prelude.{pos, slice_index_or, ◌/◌}
 use Rattle.std.specs.Int.{w64, ◌∣◌}
 use Rattle.std.proofs.Math.Nat.{dvd_trans, div-le_self}

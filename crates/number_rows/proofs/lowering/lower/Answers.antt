@@ -1,4 +1,3 @@
-use Rattle.std.proofs.Common.{arith}
 use Rattle.std.proofs.lemmas.Bool.{OnTrue_at}
 use Rattle.number_rows.proofs.Quotients.{raised_told}
 use Rattle.number_rows.proofs.lowering.lower.Goals as goal

@@ -1,8 +1,7 @@
-use Rattle.std.proofs.Common.{◌≡◌, ◌*ℤ◌, ◌-ℤ◌, ℕ, sym, subst, arith}
+use Rattle.std.proofs.Common.{◌*ℤ◌, ◌-ℤ◌, ℕ, sym, subst, arith}
 use Rattle.std.specs.Int.{◌∣◌}
 use Rattle.std.proofs.Math.Nat.{dvd_refl}
 use Rattle.std.proofs.lemmas.Nat.Gcd.{le_of_dvd}
-use Rattle.number_rows.specs.Lowered.{IsLoweredBelow}
 use Rattle.number_rows.specs.Tops.{top_at}
 use Rattle.number_rows.proofs.Lists.{wrap}
 use Rattle.number_rows.proofs.Wider.{IsQuotientAt}
@@ -22,8 +21,8 @@ returns-in-Some-clause-below c =
     lowered_put c.args.tops.now c.args.scale c.args.others.now c.args.factor c.args.over.divisor c.args.over.bound c.with.result.divisor c.with.result.bound c.args.quotients.now k (wrap c.in-Some.quotient)
     (omega (arith, c.requires.inside, c.requires.quotients)) x c.with.ensures.divisor c.with.ensures.grows c.with.ensures.fits c.with.ensures.small c.requires.below
 
-pub exact_quotient-requires-2-clause-small_divisor : goal.exact_quotient-requires-2-clause-small_divisor
-exact_quotient-requires-2-clause-small_divisor c = omega (arith, le_of_dvd c.requires.below.positive c.in-Some-lower.ensures.raised.divides, c.requires.below.divisor_small)
+pub exact_quotient-requires-clause-small_divisor : goal.exact_quotient-requires-clause-small_divisor
+exact_quotient-requires-clause-small_divisor c = omega (arith, le_of_dvd c.requires.below.positive c.in-Some-lower.ensures.raised.divides, c.requires.below.divisor_small)
 
 pub returns-clause-divides : goal.returns-clause-divides
 returns-clause-divides c = subst (λ (n : ℕ). n ∣ c.args.over.divisor) (sym c.with-2.ensures.divisor) c.in-Some-lower.ensures.raised.divides

@@ -1,6 +1,5 @@
-use Rattle.std.proofs.Common.{◌≡◌, ◌∙◌, refl, sym, ap, subst, arith, ◌≤◌, length, take, List, ℤ}
+use Rattle.std.proofs.Common.{◌≡◌, ◌∙◌, refl, sym, ap, subst, arith, length, take, List, ℤ}
 use Rattle.std.proofs.lemmas.List.{with_items_is}
-use Rattle.std.proofs.lemmas.Nat.Gcd.{le_of_dvd}
 use Rattle.std.proofs.Math.Nat.{div-le_self}
 use Rattle.std.specs.Prelude.{◌/◌, ℕ}
 use Rattle.fractions.specs.Fraction.{Fraction, lower_pos}
