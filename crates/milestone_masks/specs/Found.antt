@@ -36,9 +36,25 @@ abbrev pub is_better : List ℕ → Option NodeId → ℕ → Bool
 is_better ranks None n = ranked ranks n
 is_better ranks (Some b) n = ranked ranks n && comes_first ranks n b.0
 
+-- whether the node of this row isn't granted and stands on the other
+abbrev pub stands_by : Option Row → List Bool → List ℕ → ℕ → ℕ → Bool
+stands_by row granted ranks n m = not (slice_index_or granted n false) && is_support ranks row m
+
 -- whether the node isn't granted and stands on the other
 abbrev pub stands_on : List Row → List Bool → List ℕ → ℕ → ℕ → Bool
-stands_on rows granted ranks n m = not (slice_index_or granted n false) && is_support ranks (slice_get rows n) m
+stands_on rows granted ranks n m = stands_by (slice_get rows n) granted ranks n m
+
+-- these are the rows of the nodes from a place on
+abbrev pub AreRowsOf : List Row → ℕ → List NodeId → List Row → Type 0
+AreRowsOf rows start nodes block =
+    (k : ℕ) (d : NodeId) (e : Row) → k < length block → slice_get rows (slice_index_or nodes (start + k) d).0 ≡ Some (slice_index_or block k e)
+
+-- the nodes that were found, of which the first k were visited
+pub record IsGathered (rows : List Row) (granted : List Bool) (ranks : List ℕ) (node k : ℕ) (found : List NodeId) : Type 0 where
+  pub holds : has_node found node ≡ true
+  pub inside : k ≤ length found
+  pub supported : (j : ℕ) (d : NodeId) → j < k → (m : ℕ) → stands_on rows granted ranks (slice_index_or found j d).0 m ≡ true → has_node found m ≡ true
+  pub least : (set : Nodes) → set node ≡ true → IsSupported rows granted ranks set → (n : ℕ) → has_node found n ≡ true → set n ≡ true
 
 -- the least set that holds the node and what its nodes stand on, each once, in any order
 pub record IsFound (rows : List Row) (granted : List Bool) (ranks : List ℕ) (node : ℕ) (nodes : List NodeId) : Type 0 where

@@ -1,0 +1,28 @@
+-- One row more was read.
+use Rattle.std.proofs.Common.{List, Bor, All, arith, map, length, subst, sym}
+use Rattle.std.proofs.lemmas.List.Elements.{All-push}
+use Rattle.graph_store.specs.declared.Row.{Row}
+use Rattle.graph_store.specs.Rows.{HasMembersBelow}
+use Rattle.milestone_masks.specs.Found.{AreRowsOf}
+use Rattle.milestone_masks.proofs.WhyLemmas.{get-all, row-read}
+use Rattle.milestone_masks.proofs.why.rows_of.Goals as goal
+
+pub loop-k-preserved : goal.loop-k-preserved
+loop-k-preserved g c = record {
+  long = omega (arith, c.in_ok-push.ensures.len, c.loop-k.invariant.long);
+  members = subst
+      (λ (l : List (Bor Row)). All (λ (r : Bor Row). HasMembersBelow (length (g.R.Rows.rows c.args.rows.now)) r.now) l)
+      (sym c.in_ok-push.ensures.items)
+      (All-push
+      (λ (r : Bor Row). HasMembersBelow (length (g.R.Rows.rows c.args.rows.now)) r.now)
+      c.loop-k.block.items
+      c.row.result
+      c.loop-k.invariant.members
+      (get-all (HasMembersBelow (length (g.R.Rows.rows c.args.rows.now))) (g.R.Rows.rows c.args.rows.now) _ c.row.result.now c.row.ensures.row c.len-count.ensures.members));
+  rows = subst
+      (λ (l : List (Bor Row)). AreRowsOf (g.R.Rows.rows c.args.rows.now) c.args.start c.args.nodes.now (map (λ (r : Bor Row). r.now) l))
+      (sym c.in_ok-push.ensures.items)
+      (row-read (λ (r : Bor Row). r.now) c.loop-k.block.items c.row.result (g.R.Rows.rows c.args.rows.now) c.args.start c.loop-k.k c.args.nodes.now _ c.loop-k.invariant.long c.loop-k.invariant.rows (omega (arith, c.loop-k-test.true, c.requires.within)) c.row.ensures.row);
+  steps = omega (arith, c.row.ensures.step, c.loop-k.invariant.steps);
+  later = omega (arith, c.row.ensures.later, c.loop-k.invariant.later);
+}
