@@ -8,7 +8,7 @@ import subprocess
 import sys
 import tarfile
 import tempfile
-from typing import NamedTuple, Optional, Sequence, Tuple, Union
+from typing import Dict, NamedTuple, Optional, Sequence, Tuple, Union
 
 TOP = pathlib.Path(__file__).resolve().parent.parent
 Word = Union[str, pathlib.Path]
@@ -23,10 +23,15 @@ class Run(NamedTuple):
     said: str
 
 
-def run(words: Sequence[Word], given: Optional[Word] = None) -> Run:
+def launched() -> Dict[str, str]:
+    """The environment that the launcher gives to a program: memory in large pages, where the machine lends them to who asks."""
+    return {"GLIBC_TUNABLES": "glibc.malloc.hugetlb=1", **os.environ}
+
+
+def run(words: Sequence[Word], given: Optional[Word] = None, environment: Optional[Dict[str, str]] = None) -> Run:
     """Runs a program, with a file as its standard input. What it says on standard error is not kept."""
     with open(given or os.devnull, "rb") as source:
-        child = subprocess.Popen([str(word) for word in words], stdin=source, stdout=subprocess.PIPE, stderr=subprocess.DEVNULL)
+        child = subprocess.Popen([str(word) for word in words], stdin=source, stdout=subprocess.PIPE, stderr=subprocess.DEVNULL, env=environment)
     said = child.stdout.read().decode(errors="replace")
     _, status, used = os.wait4(child.pid, 0)
     child.stdout.close()
@@ -34,9 +39,9 @@ def run(words: Sequence[Word], given: Optional[Word] = None) -> Run:
     return Run(child.returncode, used.ru_utime + used.ru_stime, used.ru_maxrss / 1024, said)
 
 
-def well(words: Sequence[Word], given: Optional[Word] = None) -> Run:
+def well(words: Sequence[Word], given: Optional[Word] = None, environment: Optional[Dict[str, str]] = None) -> Run:
     """A run that must end with status 0."""
-    ran = run(words, given)
+    ran = run(words, given, environment)
     if ran.status != 0:
         sys.exit("%s ended with status %d: %s" % (words[0], ran.status, ran.said[:300]))
     return ran

@@ -83,5 +83,6 @@ def too_much(name, seconds):
 
 
 def surroundings():
-    """The environment of the programs: no more than where to find others."""
-    return {"PATH": os.environ.get("PATH", "")}
+    """The environment of the programs: no more than where to find others, and memory in large pages, where the machine lends them to who
+    asks."""
+    return {"PATH": os.environ.get("PATH", ""), "GLIBC_TUNABLES": os.environ.get("GLIBC_TUNABLES", "glibc.malloc.hugetlb=1")}

@@ -3,10 +3,11 @@
 
     bench/solve/science.py [--rounds N] [--program PROGRAM]
 
-The table in its linear form, as the program of crates/solve_tables reads it, and the table as rows of a script, beside glpsol on the same linear
-form (Debian's glpk-utils): `glpsol --exact`, and glpsol with floating point. Processor times of whole processes, which run in turns; of the run of
-the script what a run over an empty script takes is left out. The figures are the least of the rounds, 45 where no number is named, and the ratio is the
-median of the rounds' ratios. The costs have to agree in every digit that glpsol prints.
+The table in its linear form, as the program of crates/solve_tables reads it (with the word `time`, so that it doesn't look at the plan's prices again),
+and the table as rows of a script, beside glpsol on the same linear form (Debian's glpk-utils): `glpsol --exact`, and glpsol with floating point.
+Processor times of whole processes, which run in turns; of the run of the script what a run over an empty script takes is left out. The figures are
+the least of the rounds, 45 where no number is named, and the ratio is the median of the rounds' ratios. The costs have to agree in every digit that
+glpsol prints.
 """
 import argparse
 import json
@@ -160,7 +161,7 @@ def main() -> None:
     for _ in range(given.rounds):
         plans.append(programs.well([planner, "run", DUMP, script]))
         loads.append(programs.well([planner, "run", DUMP, empty]))
-        linears.append(programs.well([solver], table))
+        linears.append(programs.well([solver, "time"], table))
         for (_, words), runs in zip(PEERS, theirs if printed else []):
             runs.append(programs.well(["glpsol", *words, "--lp", linear]))
     cost = cost_of(r"^\d+ plan science cost (\S+)", plans[-1].said, printed)
