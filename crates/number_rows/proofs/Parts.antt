@@ -15,11 +15,11 @@ pub record HasParts (t : ℤ) (b g a : ℕ) (f : ℤ) : Type 0 where
   pub factor_is : f *ℤ pos g ≡ t
   pub factor_small : unsigned_abs f < 2 ^ 62
 
-first_some : (a g b : ℕ) → a * g ≡ b → 0 < b → 0 < a
+pub first_some : (a g b : ℕ) → a * g ≡ b → 0 < b → 0 < a
 first_some zero g b e p = absurd (omega (arith, e, p))
 first_some (suc a) g b e p = omega arith
 
-second_some : (a g b : ℕ) → a * g ≡ b → 0 < b → 0 < g
+pub second_some : (a g b : ℕ) → a * g ≡ b → 0 < b → 0 < g
 second_some a zero b e p = absurd (omega (arith, e, p))
 second_some a (suc g) b e p = omega arith
 

@@ -6,12 +6,14 @@ use Rattle.std.proofs.lemmas.Bool.{cases_lt}
 use Rattle.std.proofs.lemmas.Int.{ints}
 use Rattle.std.proofs.lemmas.List.{get_or-set_same, get_or-set_other, get_or_past}
 use Rattle.std.proofs.lemmas.Nat.Gcd.{le_of_dvd}
+use Rattle.std.proofs.Math.Nat.{dvd-mul_left, mul-div_cancel}
 use Rattle.fractions.specs.Ring.{int, nat, ◌⊗◌, ◌⊖◌, same_value}
 use Rattle.number_rows.specs.Lowered.{IsLoweredBelow, IsRaised}
 use Rattle.number_rows.specs.Tops.{top_at, AreWithinBelow, IsCombinedOver, IsDividedBy, IsLowered}
 use Rattle.fractions.proofs.Parts.{whole_back}
 use Rattle.number_rows.proofs.Lists.{wrap, back, within_none, within_more}
 use Rattle.number_rows.proofs.Over.{wrap128}
+use Rattle.number_rows.proofs.Parts.{second_some}
 use Rattle.number_rows.proofs.Wider.{IsQuotientAt, product_plain, over_none, over_more, over_raised, within_raised}
 
 -- ---- all numbers are 0
@@ -96,10 +98,19 @@ lowered_put old s other f d bound e more quotients k q lt x ee grows fits small 
     subst (λ (n : ℕ). IsLoweredBelow old s other f n more (set quotients k q) (k + 1)) (sym ee) (lowered_more old s other f d bound more quotients k q lt x.value grows fits small h)
 
 -- ---- by a lesser divisor
-pub raised_told : (d bound : ℕ) (old : List ℤ) (k e e' raised : ℕ) (new : List ℤ) → e' ≡ e → 0 < e → e ∣ d → raised ≡ bound * (d / e) → bound * (d / e) < 2 ^ 62 → ((j : ℕ) → j < k → top_at new j ≡ top_at old j *ℤ pos (d / e)) → ((j : ℕ) → k ≤ j → top_at new j ≡ top_at old j) → IsRaised d bound old k e' raised new
-raised_told d bound old k e e' raised new ee pe divides is small numbers rest =
+pub raised_told : (d bound : ℕ) (old : List ℤ) (k e e' a raised : ℕ) (new : List ℤ) → e' ≡ e → a * e ≡ d → 0 < d → raised ≡ bound * a → bound * a < 2 ^ 62 → ((j : ℕ) → j < k → top_at new j ≡ top_at old j *ℤ pos a) → ((j : ℕ) → k ≤ j → top_at new j ≡ top_at old j) → IsRaised d bound old k e' raised new
+raised_told d bound old k e e' a raised new ee is pd raised_is small numbers rest =
+    let pe : 0 < e = second_some a e d is pd in
+    let part : a ≡ d / e = sym (ap (λ n. n / e) (sym is) ∙ mul-div_cancel a pe) in
     subst (λ (n : ℕ). IsRaised d bound old k n raised new) (sym ee)
-    (record { positive = pe; divides = divides; small = omega (arith, is, small); bound_is = is; numbers = numbers; rest = rest })
+    (record {
+      positive = pe;
+      divides = subst (λ (n : ℕ). e ∣ n) is (dvd-mul_left e a);
+      small = omega (arith, raised_is, small);
+      bound_is = raised_is ∙ ap (λ n. bound * n) part;
+      numbers = λ j q. numbers j q ∙ ap (λ n. top_at old j *ℤ pos n) part;
+      rest = rest;
+    })
 
 pub lowered_raised : (old : List ℤ) (s : ℤ) (other : List ℤ) (f : ℤ) (d bound e raised : ℕ) (quotients new : List ℤ) (k : ℕ) → IsRaised d bound quotients k e raised new → IsLoweredBelow old s other f d bound quotients k → IsLoweredBelow old s other f e raised new k
 lowered_raised old s other f d bound e raised quotients new k r h =

@@ -7,9 +7,10 @@ ghost use Rattle.number_rows.specs.Places.{HoldsBut};
 ghost use Rattle.number_rows.specs.Tops.{top_at, AreWithinBelow, IsLowered};
 ghost use Rattle.number_rows.specs.Lowered.{IsLoweredBelow, IsRaised};
 
+use crate::sharing::Shared;
 use crate::tops::{
-    common_factor, exact_quotient, greater, likely_inverse, long_combined, product_keeps_within,
-    rest_by, small_quotient,
+    exact_quotient, greater, likely_inverse, long_combined, product_keeps_within, rest_by,
+    small_quotient,
 };
 
 /// Quotients by a divisor: how great their magnitudes are at most.
@@ -113,7 +114,8 @@ fn raise_first(quotients: &mut [i64], count: usize, factor: u64)
     }
 }
 
-// Lowers a divisor by which a number leaves a rest to what both have in common, and raises the quotients before a place.
+// Lowers a divisor by which a number leaves a rest to what both have in common, and raises the quotients before a place. What
+// they have in common is guessed.
 fn lower(quotients: &mut [i64], number: i128, k: usize, over: Over) -> Option<Over>
     requires inside { k ≤ length quotients.old }
     requires positive { 0 < over.divisor }
@@ -123,13 +125,13 @@ fn lower(quotients: &mut [i64], number: i128, k: usize, over: Over) -> Option<Ov
     ensures length_is { length quotients.new ≡ length quotients.old }
     ensures raised { IfSome result (λ next. IsRaised over.divisor over.bound quotients.old k next.divisor next.bound quotients.new) }
 {
-    let shared = common_factor(rest_by(number, over.divisor), over.divisor);
-    let more = over.divisor / shared;
-    if !product_keeps_within(over.bound, more) {
+    let rest = rest_by(number, over.divisor) as i64;
+    let shared = Shared::likely(rest, over.divisor);
+    if !shared.is_of(rest, over.divisor) || !product_keeps_within(over.bound, shared.scale) {
         return None;
     }
-    raise_first(quotients, k, more);
-    Some(Over::new(shared, over.bound * more))
+    raise_first(quotients, k, shared.scale);
+    Some(Over::new(shared.common, over.bound * shared.scale))
 }
 
 // Writes one quotient more. Where the divisor leaves a rest, it and the quotients before are changed so that it doesn't.
@@ -195,12 +197,17 @@ pub fn combine_lowered(
     requires factor { unsigned_abs factor < 2 ^ 62 }
     requires positive { 0 < bottom }
     requires small { bottom < 2 ^ 62 }
+    requires common { common < 2 ^ 62 }
     requires places { HoldsBut (λ k. (top_at tops.now k ≡ pos 0) × (top_at others.now k ≡ pos 0)) 0 places.now (length tops.now) }
     ensures length_is { length quotients.new ≡ length tops.now }
     ensures lowered { IfSome result (λ r. IsLowered tops.now scale others.now factor bottom r.divisor r.bound quotients.new) }
 {
+    let shared = Shared::likely(common as i64, bottom);
+    if !shared.is_of(common as i64, bottom) {
+        return None;
+    }
     clear(quotients);
-    let mut over = Over::new(bottom / common_factor(common, bottom), 0);
+    let mut over = Over::new(shared.scale, 0);
     let mut from = 0;
     let mut rest = places;
     while let [place, later @ ..] = rest {

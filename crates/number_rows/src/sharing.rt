@@ -29,6 +29,13 @@ impl Shared {
         if bottom == 1 {
             return Shared::nothing(top, bottom);
         }
+        if top == 0 {
+            return Shared {
+                common: bottom,
+                scale: 1,
+                factor: 0,
+            };
+        }
         let magnitude = top.unsigned_abs();
         let common = likely_divisor(magnitude, bottom);
         let shift = common.trailing_zeros() % 64;

@@ -286,11 +286,11 @@ pub fn long_combined(top: i64, scale: i64, other: i64, factor: i64) -> i128
     first - second
 }
 
-/// The inverse of an odd number modulo 2^64. To the caller it is a guess, like all that is computed by it: each step brings
-/// twice as many bits right.
+/// The inverse of an odd number modulo 2^64. To the caller it is a guess, like all that is computed by it: five bits are right at
+/// first, and each step brings twice as many right.
 pub fn likely_inverse(odd: u64) -> u64 {
-    let mut inverse = odd;
-    for _step in 0..5 {
+    let mut inverse = odd.wrapping_mul(3) ^ 2;
+    for _step in 0..4 {
         inverse = inverse.wrapping_mul(2u64.wrapping_sub(odd.wrapping_mul(inverse)));
     }
     inverse

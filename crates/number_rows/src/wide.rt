@@ -7,7 +7,7 @@ ghost use Rattle.number_rows.specs.Row.{kept};
 ghost use Rattle.number_rows.specs.Tops.{top_at, AreWithin, AreSame, AreOver, IsCombinedOver, DividesCombined};
 ghost use Rattle.fractions.specs.Fraction.{frac};
 
-use crate::tops::{common_divisor, exact_quotient, likely_inverse, rest_by};
+use crate::tops::{common_factor, exact_quotient, likely_inverse, rest_by};
 use fractions::Ratio;
 use plan_base::NoMemory;
 use std::alloc::Global;
@@ -89,7 +89,7 @@ pub fn wide_divisor(top: i128, bottom: u64) -> u64
     ensures top { result ∣ unsigned_abs top }
     ensures bottom { result ∣ bottom }
 {
-    common_divisor(bottom, rest_by(top, bottom))
+    common_factor(rest_by(top, bottom), bottom)
 }
 
 // The same, where the divisor mostly divides the number, which its shift and inverse show.

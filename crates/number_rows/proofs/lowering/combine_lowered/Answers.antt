@@ -1,31 +1,28 @@
 use Rattle.std.proofs.Common.{◌≡◌, ◌∙◌, ℕ, length, sym, subst, arith}
-use Rattle.std.specs.Prelude.{pos, slice_index_or, ◌/◌}
+use Rattle.std.specs.Prelude.{pos, slice_index_or}
 use Rattle.std.specs.Int.{w64, ◌∣◌}
-use Rattle.std.proofs.Math.Nat.{dvd_trans, div-le_self}
+use Rattle.std.proofs.Math.Nat.{dvd_trans, dvd-mul_right}
+use Rattle.std.proofs.lemmas.Bool.{OnTrue_at}
 use Rattle.std.proofs.lemmas.Int.{to_z-of_z}
-use Rattle.fractions.specs.Fraction.{lower_pos}
 use Rattle.number_rows.specs.Lowered.{IsLoweredBelow}
+use Rattle.number_rows.specs.Shared.{IsShared}
 use Rattle.number_rows.specs.Tops.{top_at}
-use Rattle.number_rows.proofs.Lists.{wrap, part_divides}
+use Rattle.number_rows.proofs.Lists.{wrap}
+use Rattle.number_rows.proofs.Parts.{first_some}
 use Rattle.number_rows.proofs.Places.{IsFirstPlace, first_place, later_places, no_place}
 use Rattle.number_rows.proofs.Quotients.{lowered_none, lowered_gap, lowered_all}
-use Rattle.number_rows.proofs.lowering.combine_lowered.Goals.{After-new-over}
 use Rattle.number_rows.proofs.lowering.combine_lowered.Goals as goal
-
--- the first divisor
-part : (c : After-new-over) → c.new-over.result.divisor ≡ c.args.bottom / c.common_factor.result
-part c = c.new-over.ensures.divisor
 
 pub loop-rest-init : goal.loop-rest-init
 loop-rest-init c =
-    let d = c.common_factor in
-    let n : ℕ = c.args.bottom / d.result in (
+    let a = c.likely-shared.result.scale in
+    let s : IsShared _ c.args.bottom c.likely-shared.result.common a c.likely-shared.result.factor = OnTrue_at c.if-not-is_of.false c.is_of.ensures in (
       c.requires.places,
-      subst (λ (k : ℕ). k ∣ c.args.bottom) (sym (part c)) (part_divides c.args.bottom d.result d.ensures.second),
+      subst (λ (k : ℕ). k ∣ c.args.bottom) (sym c.new-over.ensures.divisor) (subst (λ (n : ℕ). a ∣ n) s.bottom_is (dvd-mul_right a c.likely-shared.result.common)),
       c.clear.ensures.length_is ∙ c.requires.quotients,
-      subst (λ (k : ℕ). IsLoweredBelow c.args.tops.now (wrap c.args.scale) c.args.others.now (wrap c.args.factor) k c.new-over.result.bound c.clear.new.tops 0) (sym (part c))
-          (subst (λ (k : ℕ). IsLoweredBelow c.args.tops.now (wrap c.args.scale) c.args.others.now (wrap c.args.factor) n k c.clear.new.tops 0) (sym c.new-over.ensures.bound)
-          (lowered_none c.args.tops.now (wrap c.args.scale) c.args.others.now (wrap c.args.factor) n c.clear.new.tops (lower_pos c.args.bottom d.result c.requires.positive d.ensures.second) (omega (arith, div-le_self c.args.bottom d.result, c.requires.small)) c.clear.ensures.zero)),
+      subst (λ (k : ℕ). IsLoweredBelow c.args.tops.now (wrap c.args.scale) c.args.others.now (wrap c.args.factor) k c.new-over.result.bound c.clear.new.tops 0) (sym c.new-over.ensures.divisor)
+          (subst (λ (k : ℕ). IsLoweredBelow c.args.tops.now (wrap c.args.scale) c.args.others.now (wrap c.args.factor) a k c.clear.new.tops 0) (sym c.new-over.ensures.bound)
+          (lowered_none c.args.tops.now (wrap c.args.scale) c.args.others.now (wrap c.args.factor) a c.clear.new.tops (first_some a c.likely-shared.result.common c.args.bottom s.bottom_is c.requires.positive) s.scale_small c.clear.ensures.zero)),
       omega arith,
     )
 
