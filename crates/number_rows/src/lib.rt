@@ -8,4 +8,4 @@ mod sharing;
 mod tops;
 mod wide;
 
-pub use row::Row;
+pub use row::NumberRow;

@@ -10,7 +10,7 @@ ghost use Rattle.number_rows.specs.Changed.{AreNarrow, IsDividedRow, IsReducedRo
 ghost use Rattle.number_rows.specs.Row.{kept};
 ghost use Rattle.number_rows.specs.Tops.{top_at, AreWithin, AreOver};
 
-use crate::row::Row;
+use crate::row::NumberRow;
 use crate::tops::{LIMIT, common_bottom, product_keeps_within, write_tops};
 use crate::wide::{
     divide_wide, fits_wide, fraction, narrow, wide_content, wide_divisor, wide_quotient,
@@ -39,7 +39,7 @@ pub fn divide_numbers(row: &mut [Ratio], pivot: &Ratio) -> Result<(), usize>
 
 /// Takes `factor` times the pivot's row from the numbers, or says which one that makes wide. Where a product is 0, nothing
 /// is computed.
-pub fn reduce_numbers(row: &mut [Ratio], factor: &Ratio, pivot_row: &Row) -> Result<(), usize>
+pub fn reduce_numbers(row: &mut [Ratio], factor: &Ratio, pivot_row: &NumberRow) -> Result<(), usize>
     requires width { length row.old ≡ length pivot_row.now.items }
     requires narrow { AreNarrow row.old }
     ensures ok { OnOk result (IsReducedRow row.old factor.now pivot_row.now.items row.new) }
@@ -269,7 +269,7 @@ impl Long {
     }
 
     /// Takes its number at `enter` times the pivot's row, or says which number that makes wide.
-    pub fn reduce(&mut self, enter: usize, pivot_row: &Row) -> Result<(), usize>
+    pub fn reduce(&mut self, enter: usize, pivot_row: &NumberRow) -> Result<(), usize>
         requires inside { enter < length self.old.items }
         requires width { length self.old.items ≡ length pivot_row.now.items }
         requires narrow { AreNarrow self.old.items }

@@ -27,7 +27,7 @@ use std::mem;
 /// these are below 2^62, else as whole numbers of 128 bits, and each as a fraction where these don't fit. No number of a short
 /// row is greater than its bound, and one is as great where it is tight.
 #[derive(Drop)]
-pub struct Row {
+pub struct NumberRow {
     short: bool,
     bottom: u64,
     bound: u64,
@@ -37,7 +37,7 @@ pub struct Row {
     numbers: Long,
 }
 
-impl Model for Row {
+impl Model for NumberRow {
     ghost use Rattle.number_rows.specs.Changed.{Numbers, numbers_code};
     ghost use Rattle.number_rows.specs.Row.{kept, IsKept};
     ghost use Rattle.std.specs.Prelude.{length};
@@ -95,12 +95,12 @@ fn write_kept(
     Ok(())
 }
 
-impl Row {
+impl NumberRow {
     /// A row of no numbers.
-    pub fn empty(alloc: Global) -> Row
+    pub fn empty(alloc: Global) -> NumberRow
         ensures { result.items ≡ [] }
     {
-        Row {
+        NumberRow {
             short: false,
             bottom: 1,
             bound: 0,
@@ -116,13 +116,13 @@ impl Row {
     /// # Errors
     ///
     /// `NoMemory` where memory could not be had.
-    pub fn from_numbers(alloc: Global, numbers: Vec<Ratio>) -> Result<Row, NoMemory>
+    pub fn from_numbers(alloc: Global, numbers: Vec<Ratio>) -> Result<NumberRow, NoMemory>
         ensures { IfOk result (λ row. row.items ≡ numbers.items) }
     {
         let mut tops = zeros(alloc, numbers.len())?;
         let spare = zeros(alloc, numbers.len())?;
         match short_form(&mut tops, &numbers) {
-            Some(short) => Ok(Row {
+            Some(short) => Ok(NumberRow {
                 short: true,
                 bottom: short.bottom,
                 bound: short.bound,
@@ -131,7 +131,7 @@ impl Row {
                 spare,
                 numbers: Long::empty(alloc),
             }),
-            None => Ok(Row {
+            None => Ok(NumberRow {
                 short: false,
                 bottom: 1,
                 bound: LIMIT - 1,
@@ -216,7 +216,7 @@ impl Row {
     }
 
     /// How the quotients of two numbers of two rows compare, where both rows are short.
-    pub fn compare_short(&self, other: &Row, value: usize, enter: usize) -> Option<Ordering>
+    pub fn compare_short(&self, other: &NumberRow, value: usize, enter: usize) -> Option<Ordering>
         requires inside { (value < length self.now.items) × (enter < length self.now.items) }
         requires other_inside { (value < length other.now.items) × (enter < length other.now.items) }
         requires above { zero_fraction <ʳ number_at self.now.items enter }
@@ -304,7 +304,7 @@ impl Row {
 
     // What its number at `enter` and the denominator of the pivot's row have in common, where both rows are short. To the caller it
     // is a guess.
-    fn likely_shared(&self, enter: usize, pivot_row: &Row) -> Shared
+    fn likely_shared(&self, enter: usize, pivot_row: &NumberRow) -> Shared
         requires { enter < length self.now.items }
     {
         if self.short && pivot_row.short {
@@ -319,7 +319,7 @@ impl Row {
     fn reduce_short(
         &mut self,
         enter: usize,
-        pivot_row: &Row,
+        pivot_row: &NumberRow,
         places: &[usize],
         shared: Shared,
     ) -> bool
@@ -367,7 +367,7 @@ impl Row {
     fn reduce_over(
         &mut self,
         enter: usize,
-        pivot_row: &Row,
+        pivot_row: &NumberRow,
         shared: Shared,
         room: &mut [usize],
     ) -> bool
@@ -416,7 +416,7 @@ impl Row {
         &mut self,
         alloc: Global,
         enter: usize,
-        pivot_row: &Row,
+        pivot_row: &NumberRow,
     ) -> Result<bool, NoMemory>
         requires inside { enter < length self.old.items }
         requires width { length self.old.items ≡ length pivot_row.now.items }
@@ -446,7 +446,7 @@ impl Row {
         &mut self,
         alloc: Global,
         enter: usize,
-        pivot_row: &Row,
+        pivot_row: &NumberRow,
     ) -> Result<Result<(), usize>, NoMemory>
         requires inside { enter < length self.old.items }
         requires width { length self.old.items ≡ length pivot_row.now.items }
@@ -477,7 +477,7 @@ impl Row {
         &mut self,
         alloc: Global,
         enter: usize,
-        pivot_row: &Row,
+        pivot_row: &NumberRow,
         places: &[usize],
         room: &mut [usize],
     ) -> Result<Result<(), usize>, NoMemory>

@@ -14,12 +14,12 @@ ghost use Rattle.pivot_solver.specs.Numbers.{IsBasicValue, ListsEach};
 use crate::path::Path;
 use fractions::Ratio;
 use linear_table::{Linear, Plan};
-use number_rows::Row;
+use number_rows::NumberRow;
 use plan_base::{Items, NoMemory};
 use std::alloc::Global;
 
 // The value of a column, 0 outside the basis.
-fn basic_value(basis: &[usize], rows: &[Row], width: usize, column: usize) -> Ratio
+fn basic_value(basis: &[usize], rows: &[NumberRow], width: usize, column: usize) -> Ratio
     requires sizes { length basis.now ≡ length rows.now }
     requires widths { (i : ℕ) → i < length rows.now → width < length (row_at rows.now i) }
     ensures { IsBasicValue basis.now rows.now width column result }
@@ -36,7 +36,7 @@ fn basic_value(basis: &[usize], rows: &[Row], width: usize, column: usize) -> Ra
 fn values(
     alloc: Global,
     basis: &[usize],
-    rows: &[Row],
+    rows: &[NumberRow],
     goods: usize,
     columns: usize,
     width: usize,
@@ -54,7 +54,7 @@ fn values(
 }
 
 // The first numbers of a row with their signs turned.
-fn turned(alloc: Global, row: &Row, count: usize) -> Result<Vec<Ratio>, NoMemory>
+fn turned(alloc: Global, row: &NumberRow, count: usize) -> Result<Vec<Ratio>, NoMemory>
     requires { count ≤ length row.now.items }
     ensures { IfOk result (λ prices. ListsEach count (λ g x. x ≡ negated (number_at row.now.items g)) prices.items) }
 {
@@ -66,7 +66,7 @@ fn turned(alloc: Global, row: &Row, count: usize) -> Result<Vec<Ratio>, NoMemory
 }
 
 // The first numbers of a row.
-fn front(alloc: Global, row: &Row, count: usize) -> Result<Vec<Ratio>, NoMemory>
+fn front(alloc: Global, row: &NumberRow, count: usize) -> Result<Vec<Ratio>, NoMemory>
     requires { count ≤ length row.now.items }
     ensures { IfOk result (λ prices. ListsEach count (λ g x. x ≡ number_at row.now.items g) prices.items) }
 {

@@ -8,7 +8,7 @@ ghost use Rattle.pivot_solver.specs.First.{width_of, first_number, first_cost, L
 
 use fractions::Ratio;
 use linear_table::Linear;
-use number_rows::Row;
+use number_rows::NumberRow;
 use plan_base::NoMemory;
 use std::alloc::Global;
 
@@ -61,7 +61,7 @@ fn first_row(
     goods: usize,
     width: usize,
     good: usize,
-) -> Result<Row, NoMemory>
+) -> Result<NumberRow, NoMemory>
     requires goods_is { goods ≡ good_count linear.now }
     requires width_is { width ≡ width_of linear.now }
     requires wants { length linear.now.wants ≡ good_count linear.now }
@@ -73,7 +73,7 @@ fn first_row(
     for place in 0..width + 1 {
         row.push(within_limits(number_of_row(linear, goods, width, good, place)))?;
     }
-    Row::from_numbers(alloc, row)
+    NumberRow::from_numbers(alloc, row)
 }
 
 // The last row.
@@ -82,7 +82,7 @@ pub fn first_cost_row(
     linear: &Linear,
     goods: usize,
     width: usize,
-) -> Result<Row, NoMemory>
+) -> Result<NumberRow, NoMemory>
     requires goods_is { goods ≡ good_count linear.now }
     requires width_is { width ≡ width_of linear.now }
     requires room { width + 1 < 2 ^ 64 }
@@ -92,7 +92,7 @@ pub fn first_cost_row(
     for place in 0..width + 1 {
         row.push(within_limits(number_of_cost(linear, goods, width, place)))?;
     }
-    Row::from_numbers(alloc, row)
+    NumberRow::from_numbers(alloc, row)
 }
 
 // The row of each good.
@@ -101,7 +101,7 @@ pub fn first_rows(
     linear: &Linear,
     goods: usize,
     width: usize,
-) -> Result<Vec<Row>, NoMemory>
+) -> Result<Vec<NumberRow>, NoMemory>
     requires goods_is { goods ≡ good_count linear.now }
     requires width_is { width ≡ width_of linear.now }
     requires wants { length linear.now.wants ≡ good_count linear.now }

@@ -13,7 +13,7 @@ use crate::answers::{plan, refusal};
 use crate::first::{first_cost_row, first_rows, unit_columns};
 use crate::{Choice, WideAt, choose, pivot};
 use linear_table::{Exchange, Linear, Place, SolveAnswer};
-use number_rows::Row;
+use number_rows::NumberRow;
 use plan_base::{Items, NoMemory};
 use std::alloc::Global;
 
@@ -21,8 +21,8 @@ use std::alloc::Global;
 #[derive(Drop)]
 pub struct Path {
     pub basis: Vec<usize>,
-    pub rows: Vec<Row>,
-    pub cost: Row,
+    pub rows: Vec<NumberRow>,
+    pub cost: NumberRow,
     pub trail: Vec<Exchange>,
 }
 

@@ -6,7 +6,7 @@ use Rattle.number_rows.specs.Tops.{top_at}
 use Rattle.std.specs.Prelude.{pos}
 use Rattle.number_rows.proofs.Kept.{short_at, length_shown}
 use Rattle.number_rows.proofs.Signs.{above_by}
-use Rattle.number_rows.proofs.row.Row.is_above.Goals as goal
+use Rattle.number_rows.proofs.row.NumberRow.is_above.Goals as goal
 
 pub returns-then-self : goal.returns-then-self
 returns-then-self c =

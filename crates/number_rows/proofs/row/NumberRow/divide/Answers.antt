@@ -10,8 +10,8 @@ use Rattle.number_rows.proofs.Kept.{short_at, length_shown}
 use Rattle.std.specs.Int.Signed.{lt_z}
 use Rattle.number_rows.proofs.Lists.{wrap, back}
 use Rattle.number_rows.proofs.Exchanged.{divided_row, size_some, top_not_zero, turned_size}
-use Rattle.number_rows.proofs.row.Row.divide.Goals.{After-unsigned_abs-self-inside}
-use Rattle.number_rows.proofs.row.Row.divide.Goals as goal
+use Rattle.number_rows.proofs.row.NumberRow.divide.Goals.{After-unsigned_abs-self-inside}
+use Rattle.number_rows.proofs.row.NumberRow.divide.Goals as goal
 
 pub invariant_of-self : goal.invariant_of-self
 invariant_of-self c =

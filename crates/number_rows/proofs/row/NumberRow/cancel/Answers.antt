@@ -9,8 +9,8 @@ use Rattle.number_rows.specs.Tops.{IsDividedBy}
 use Rattle.number_rows.proofs.Exchanged.{cancelled}
 use Rattle.number_rows.proofs.Filled.{places_of}
 use Rattle.number_rows.proofs.Quotients.{divided_alone}
-use Rattle.number_rows.proofs.row.Row.cancel.Goals.{After-swap}
-use Rattle.number_rows.proofs.row.Row.cancel.Goals as goal
+use Rattle.number_rows.proofs.row.NumberRow.cancel.Goals.{After-swap}
+use Rattle.number_rows.proofs.row.NumberRow.cancel.Goals as goal
 
 pub combine_lowered-requires-clause-places : goal.combine_lowered-requires-clause-places
 combine_lowered-requires-clause-places c =

@@ -7,7 +7,7 @@ use Rattle.number_rows.proofs.Kept.{short_at, length_shown}
 use Rattle.fractions.proofs.Parts.{whole_back}
 use Rattle.number_rows.proofs.Lists.{wrap, back}
 use Rattle.number_rows.proofs.Signs.{compared_by}
-use Rattle.number_rows.proofs.row.Row.compare_short.Goals as goal
+use Rattle.number_rows.proofs.row.NumberRow.compare_short.Goals as goal
 
 read_is : (ts : List ℤ) (k : ℕ) (bound : ℕ) (t : ℤ) → AreWithin ts bound → bound < 2 ^ 62 → k < length ts → t ≡ top_at ts k → wrap t ≡ top_at ts k
 read_is ts k bound t h hb lt e = ap wrap e ∙ back (top_at ts k) (omega (arith, h k lt, hb))

@@ -3,7 +3,7 @@ use Rattle.std.specs.Prelude.{[]}
 use Rattle.std.proofs.lemmas.List.{with_items_is}
 use Rattle.number_rows.specs.Row.{kept}
 use Rattle.number_rows.proofs.Kept.{shown_over}
-use Rattle.number_rows.proofs.row.Row.from_numbers.Goals as goal
+use Rattle.number_rows.proofs.row.NumberRow.from_numbers.Goals as goal
 
 pub returns-in-Some : goal.returns-in-Some
 returns-in-Some c =

@@ -3,8 +3,8 @@ use Rattle.fractions.specs.Fraction.{zero_fraction}
 use Rattle.linear_table.specs.Plans.{number_at}
 use Rattle.number_rows.specs.Places.{HoldsBut}
 use Rattle.number_rows.proofs.Places.{but_holds, but_fails}
-use Rattle.number_rows.proofs.row.Row.filled_places.Goals.{then-not-is_zero+in_ok-push, else-not-is_zero}
-use Rattle.number_rows.proofs.row.Row.filled_places.Goals as goal
+use Rattle.number_rows.proofs.row.NumberRow.filled_places.Goals.{then-not-is_zero+in_ok-push, else-not-is_zero}
+use Rattle.number_rows.proofs.row.NumberRow.filled_places.Goals as goal
 
 pub loop-k-preserved : goal.loop-k-preserved
 loop-k-preserved c =

@@ -5,7 +5,7 @@ use Rattle.fractions.specs.Fraction.{Fraction}
 use Rattle.number_rows.specs.Changed.{Numbers}
 use Rattle.number_rows.specs.Row.{kept}
 use Rattle.number_rows.proofs.Exchanged.{shortened}
-use Rattle.number_rows.proofs.row.Row.shorten.Goals as goal
+use Rattle.number_rows.proofs.row.NumberRow.shorten.Goals as goal
 
 pub returns : goal.returns
 returns c =
