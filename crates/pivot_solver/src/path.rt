@@ -10,8 +10,10 @@ ghost use Rattle.pivot_solver.specs.Path.{IsPath, IsProgress, IsOutWith};
 ghost use Rattle.pivot_solver.specs.Places.{IsInTableau, IsPlaceOf};
 
 use crate::answers::{plan, refusal};
+use crate::bland::choose;
+use crate::exchange::pivot;
 use crate::first::{first_cost_row, first_rows, unit_columns};
-use crate::{Choice, WideAt, choose, pivot};
+use crate::{Choice, WideAt};
 use linear_table::{Exchange, Linear, Place, SolveAnswer};
 use number_rows::NumberRow;
 use plan_base::{Items, NoMemory};
