@@ -1,6 +1,6 @@
 //! Rows whose numbers are past the limit of short ones.
 
-ghost use Rattle.std.specs.Prelude.{◌≡◌, ◌≢◌, ◌<◌, ◌≤◌, ◌^◌, [], true, length, OnOk, IfOk, IfErr, IfSome, IsTrue, ◌↔◌, ℕ, unsigned_abs};
+ghost use Rattle.std.specs.Prelude.{◌≡◌, ◌≢◌, ◌<◌, ◌^◌, [], true, length, OnOk, IfOk, IfErr, IfSome, IsTrue, ◌↔◌, ℕ, unsigned_abs};
 ghost use Rattle.std.specs.Bool.{OnTrue, OnFalse};
 ghost use Rattle.fractions.specs.Fraction.{zero_fraction, ◌/ʳ◌, ◌<ʳ◌};
 ghost use Rattle.fractions.specs.Limits.{IsNarrow};
@@ -10,66 +10,18 @@ ghost use Rattle.number_rows.specs.Changed.{AreNarrow, IsDividedRow, IsReducedRo
 ghost use Rattle.number_rows.specs.Row.{kept};
 ghost use Rattle.number_rows.specs.Tops.{top_at, AreWithin, AreOver};
 
+use crate::bottoms::{common_bottom, write_tops};
+use crate::ratios::{divide_numbers, reduce_numbers};
 use crate::row::NumberRow;
-use crate::tops::{LIMIT, common_bottom, product_keeps_within, write_tops};
+use crate::tops::{LIMIT, product_keeps_within};
 use crate::wide::{
     divide_wide, fits_wide, fraction, narrow, wide_content, wide_divisor, wide_quotient,
-    wide_zeros, widen, write_wide,
+    wide_zeros, widen, write_whole,
 };
 use fractions::Ratio;
 use plan_base::NoMemory;
 use std::alloc::Global;
 use std::marker::Model;
-
-/// Divides each number by the pivot, or says which quotient is wide.
-pub fn divide_numbers(row: &mut [Ratio], pivot: &Ratio) -> Result<(), usize>
-    requires { pivot.now ≢ zero_fraction }
-    ensures ok { OnOk result (IsDividedRow row.old pivot.now row.new) }
-    ensures err { IfErr result (λ k. (k < length row.old) × ¬ IsNarrow (number_at row.old k /ʳ pivot.now)) }
-    ensures length_is { length row.new ≡ length row.old }
-{
-    for k in 0..row.len() {
-        let Ok(quotient) = row[k].div(pivot) else {
-            return Err(k);
-        };
-        row[k] = quotient;
-    }
-    Ok(())
-}
-
-/// Takes `factor` times the pivot's row from the numbers, or says which one that makes wide. Where a product is 0, nothing
-/// is computed.
-pub fn reduce_numbers(row: &mut [Ratio], factor: &Ratio, pivot_row: &NumberRow) -> Result<(), usize>
-    requires width { length row.old ≡ length pivot_row.now.items }
-    requires narrow { AreNarrow row.old }
-    ensures ok { OnOk result (IsReducedRow row.old factor.now pivot_row.now.items row.new) }
-    ensures err { IfErr result (λ k. (k < length row.old) × ¬ LessFits (number_at row.old k) factor.now (number_at pivot_row.now.items k)) }
-    ensures length_is { length row.new ≡ length row.old }
-{
-    for k in 0..row.len() {
-        if !pivot_row.is_zero(k) {
-            let other = pivot_row.number(k);
-            let Ok(number) = Ratio::sub_mul(&row[k], factor, &other) else {
-                return Err(k);
-            };
-            row[k] = number;
-        }
-    }
-    Ok(())
-}
-
-// Writes each of the numbers as a fraction, where they are whole.
-fn write_whole(numbers: &mut [Ratio], tops: &[i128], bottom: u64, whole: bool)
-    requires lengths { length numbers.old ≡ length tops.now }
-    requires small { (k : ℕ) → k < length tops.now → unsigned_abs (top_at tops.now k) < 2 ^ 125 }
-    requires positive { 0 < bottom }
-    requires small_bottom { bottom < 2 ^ 62 }
-    ensures { numbers.new ≡ kept whole bottom tops.now numbers.old }
-{
-    if whole {
-        write_wide(numbers, tops, bottom);
-    }
-}
 
 /// A denominator of whole numbers, and how great their magnitudes are at most.
 #[derive(Clone, Copy)]

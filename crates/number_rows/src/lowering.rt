@@ -7,11 +7,9 @@ ghost use Rattle.number_rows.specs.Places.{HoldsBut};
 ghost use Rattle.number_rows.specs.Tops.{top_at, AreWithinBelow, IsLowered};
 ghost use Rattle.number_rows.specs.Lowered.{IsLoweredBelow, IsRaised};
 
+use crate::dividing::{exact_quotient, likely_inverse, rest_by, small_quotient};
 use crate::sharing::Shared;
-use crate::tops::{
-    exact_quotient, greater, likely_inverse, long_combined, product_keeps_within, rest_by,
-    small_quotient,
-};
+use crate::tops::{greater, long_combined, product_keeps_within};
 
 /// Quotients by a divisor: how great their magnitudes are at most.
 #[derive(Clone, Copy)]

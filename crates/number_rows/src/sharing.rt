@@ -4,7 +4,9 @@ ghost use Rattle.std.specs.Prelude.{◌<◌, ◌^◌, unsigned_abs};
 ghost use Rattle.std.specs.Bool.{OnTrue};
 ghost use Rattle.number_rows.specs.Shared.{IsShared};
 
-use crate::tops::{LIMIT, likely_divisor, likely_inverse, long_product};
+use crate::dividing::likely_inverse;
+use crate::divisors::likely_divisor;
+use crate::tops::{LIMIT, long_product};
 
 /// What a number and a denominator have in common, and what each is beside it: `scale` the denominator, `factor` the number.
 #[derive(Clone, Copy)]

@@ -1,73 +1,12 @@
 //! Whole numbers of 64 bits that stand over one denominator.
 
-ghost use Rattle.std.specs.Prelude.{◌≡◌, ℕ, ◌<◌, ◌≤◌, ◌+◌, ◌*◌, ◌%◌, ◌^◌, ℤ, pos, ◌*ℤ◌, ◌-ℤ◌, neg_ℤ, int_div, unsigned_abs, length, IfSome};
+ghost use Rattle.std.specs.Prelude.{◌≡◌, ℕ, ◌<◌, ◌≤◌, ◌+◌, ◌*◌, ◌^◌, ℤ, pos, ◌*ℤ◌, ◌-ℤ◌, neg_ℤ, unsigned_abs, length, IfSome};
 ghost use Rattle.std.specs.Bool.{OnTrue};
-ghost use Rattle.std.specs.Int.{◌∣◌};
-ghost use Rattle.fractions.specs.Fraction.{frac};
-ghost use Rattle.fractions.specs.Gcd.{gcd};
 ghost use Rattle.number_rows.specs.Places.{HoldsBut};
-ghost use Rattle.number_rows.specs.Tops.{top_at, AreWithin, DividesAll, IsDividedBy, IsCombined, IsCombinedOver, IsTurned, IsLowered, AreOver, DividesInto, AreWithinBelow, IsOverBelow};
-
-use fractions::Ratio;
+ghost use Rattle.number_rows.specs.Tops.{top_at, AreWithin, IsCombined, IsTurned};
 
 /// Magnitudes and denominators stay below this.
 pub const LIMIT: u64 = 1 << 62;
-
-/// The greatest common divisor.
-pub fn common_divisor(first: u64, second: u64) -> u64
-    ensures exact { result ≡ gcd first second }
-    ensures positive { 0 < second → 0 < result }
-    ensures first { result ∣ first }
-    ensures second { result ∣ second }
-{
-    let mut a = first;
-    let mut b = second;
-    while b > 1 {
-        let rest = a % b;
-        a = b;
-        b = rest;
-    }
-    if b == 0 { a } else { 1 }
-}
-
-/// The greatest common divisor of two numbers other than 0, found by shifts and subtractions, whose steps have no branch that
-/// depends on the numbers. To the caller it is a guess.
-pub fn likely_divisor(first: u64, second: u64) -> u64 {
-    let shift = (first | second).trailing_zeros() % 64;
-    let mut a = first >> (first.trailing_zeros() % 64);
-    let mut b = second >> (second.trailing_zeros() % 64);
-    for _step in 0..128 {
-        if a == b {
-            return a << shift;
-        }
-        let zeros = a.wrapping_sub(b).trailing_zeros() % 64;
-        let rest = if a < b { b - a } else { a - b };
-        b = if a < b { a } else { b };
-        a = rest >> zeros;
-    }
-    0
-}
-
-/// What two numbers have in common: the greatest common divisor, which is mostly the second number, else guessed and then
-/// tried.
-pub fn common_factor(first: u64, second: u64) -> u64
-    ensures positive { 0 < second → 0 < result }
-    ensures first { result ∣ first }
-    ensures second { result ∣ second }
-{
-    if first == 0 {
-        return second;
-    }
-    if second > 0 && first % second == 0 {
-        return second;
-    }
-    let guess = likely_divisor(first, second);
-    if guess > 0 && first % guess == 0 && second % guess == 0 {
-        guess
-    } else {
-        common_divisor(first, second)
-    }
-}
 
 /// The greater of two numbers.
 pub fn greater(a: u64, b: u64) -> u64
@@ -286,151 +225,9 @@ pub fn long_combined(top: i64, scale: i64, other: i64, factor: i64) -> i128
     first - second
 }
 
-/// The inverse of an odd number modulo 2^64. To the caller it is a guess, like all that is computed by it: five bits are right at
-/// first, and each step brings twice as many right.
-pub fn likely_inverse(odd: u64) -> u64 {
-    let mut inverse = odd.wrapping_mul(3) ^ 2;
-    for _step in 0..4 {
-        inverse = inverse.wrapping_mul(2u64.wrapping_sub(odd.wrapping_mul(inverse)));
-    }
-    inverse
-}
-
-// A number divided by a divisor whose even part is that of the shift, and whose odd part has the inverse, both modulo 2^64. To
-// the caller it is a guess, which it multiplies back.
-fn likely_quotient(number: i128, shift: u32, inverse: u64) -> i64
-    requires { shift < 64 }
-{
-    let whole = number.cast_unsigned();
-    let part = if shift == 0 { whole } else { whole >> shift };
-    ((part % (1 << 64)) as u64)
-        .wrapping_mul(inverse)
-        .cast_signed()
-}
-
-// What a division of a number's magnitude leaves.
-pub fn rest_by(number: i128, divisor: u64) -> u64
-    requires { 0 < divisor }
-    ensures value { result ≡ unsigned_abs number % divisor }
-    ensures below { result < divisor }
-{
-    let rest = number.unsigned_abs() % divisor as u128;
-    rest as u64
-}
-
-/// The quotient by a divisor, where that leaves no rest and the quotient, times the divisor's power of 2, takes no more than 64
-/// bits. The shift is the number of zeros that the divisor ends in, and the inverse that of its part beside them.
-pub fn small_quotient(number: i128, divisor: u64, shift: u32, inverse: u64) -> Option<i64>
-    requires small_divisor { divisor < 2 ^ 62 }
-    ensures { IfSome result (λ q. (q *ℤ pos divisor ≡ number) × (unsigned_abs q < 2 ^ 62)) }
-{
-    let low = (number.cast_unsigned() % (1 << 64)) as u64;
-    let quotient = low.wrapping_mul(inverse).cast_signed() >> (shift % 64);
-    if quotient.unsigned_abs() < LIMIT && long_product(quotient, divisor as i64) == number {
-        Some(quotient)
-    } else {
-        None
-    }
-}
-
-/// The quotient by a divisor, where that leaves no rest and the quotient is below the limit. The shift is the number of
-/// zeros that the divisor ends in, and the inverse that of its part beside them.
-pub fn exact_quotient(number: i128, divisor: u64, shift: u32, inverse: u64) -> Option<i64>
-    requires small_divisor { divisor < 2 ^ 62 }
-    requires shift { shift < 64 }
-    ensures { IfSome result (λ q. (q *ℤ pos divisor ≡ number) × (unsigned_abs q < 2 ^ 62)) }
-{
-    let quotient = likely_quotient(number, shift, inverse);
-    if quotient.unsigned_abs() < LIMIT && long_product(quotient, divisor as i64) == number {
-        Some(quotient)
-    } else {
-        None
-    }
-}
-
 /// Whether the product of two numbers is below the limit.
 pub fn product_keeps_within(first: u64, second: u64) -> bool
     ensures { OnTrue result (first * second < 2 ^ 62) }
 {
     (first as u128 * second as u128) < LIMIT as u128
-}
-
-// The denominator of a fraction and a denominator that it divides, as multiple of another.
-fn next_bottom(bottom: u64, number: &Ratio) -> Option<u64>
-    requires positive { 0 < bottom }
-    requires small { bottom < 2 ^ 62 }
-    ensures { IfSome result (λ d. (0 < d) × (d < 2 ^ 62) × (bottom ∣ d) × (number.now.den ∣ d)) }
-{
-    let own = number.denominator() as u128;
-    if own == 1 {
-        return Some(bottom);
-    }
-    if own >= LIMIT as u128 {
-        return None;
-    }
-    let rest = bottom % own as u64;
-    if rest == 0 {
-        return Some(bottom);
-    }
-    let common = common_divisor(own as u64, bottom);
-    let next = bottom as u128 * (own as u64 / common) as u128;
-    if next >= LIMIT as u128 {
-        return None;
-    }
-    Some(next as u64)
-}
-
-/// A denominator below the limit that all fractions can be written over.
-pub fn common_bottom(numbers: &[Ratio]) -> Option<u64>
-    ensures { IfSome result (λ d. (0 < d) × (d < 2 ^ 62) × DividesInto numbers.now d) }
-{
-    let mut bottom = 1;
-    for k in 0..numbers.len() {
-        match next_bottom(bottom, &numbers[k]) {
-            Some(next) => bottom = next,
-            None => return None,
-        }
-    }
-    Some(bottom)
-}
-
-// The number that a fraction is over a denominator, where its magnitude is below the limit.
-fn top_over(number: &Ratio, bottom: u64) -> Option<i64>
-    requires positive { 0 < bottom }
-    requires small { bottom < 2 ^ 62 }
-    requires divides { number.now.den ∣ bottom }
-    ensures { IfSome result (λ t. (number.now ≡ frac t bottom) × (unsigned_abs t < 2 ^ 62)) }
-{
-    let own = number.numerator();
-    if own == 0 {
-        return Some(0);
-    }
-    if own.unsigned_abs() >= LIMIT as u128 {
-        return None;
-    }
-    let top = own * (bottom / number.denominator() as u64) as i128;
-    if top.unsigned_abs() >= LIMIT as u128 {
-        return None;
-    }
-    Some(top as i64)
-}
-
-/// Writes each fraction over a denominator, where all fit.
-pub fn write_tops(tops: &mut [i64], numbers: &[Ratio], bottom: u64) -> bool
-    requires lengths { length tops.old ≡ length numbers.now }
-    requires positive { 0 < bottom }
-    requires small { bottom < 2 ^ 62 }
-    requires divides { DividesInto numbers.now bottom }
-    requires old_small { (k : ℕ) → k < length tops.old → unsigned_abs (top_at tops.old k) < 2 ^ 62 }
-    ensures length_is { length tops.new ≡ length tops.old }
-    ensures small { (k : ℕ) → k < length tops.new → unsigned_abs (top_at tops.new k) < 2 ^ 62 }
-    ensures over { OnTrue result (AreOver tops.new bottom numbers.now) }
-{
-    for k in 0..numbers.len() {
-        match top_over(&numbers[k], bottom) {
-            Some(top) => tops[k] = top,
-            None => return false,
-        }
-    }
-    true
 }

@@ -7,7 +7,8 @@ ghost use Rattle.number_rows.specs.Row.{kept};
 ghost use Rattle.number_rows.specs.Tops.{top_at, AreWithin, AreSame, AreOver, IsCombinedOver, DividesCombined};
 ghost use Rattle.fractions.specs.Fraction.{frac};
 
-use crate::tops::{common_factor, exact_quotient, likely_inverse, rest_by};
+use crate::dividing::{exact_quotient, likely_inverse, rest_by};
+use crate::divisors::common_factor;
 use fractions::Ratio;
 use plan_base::NoMemory;
 use std::alloc::Global;
@@ -257,5 +258,18 @@ pub fn write_wide(numbers: &mut [Ratio], tops: &[i128], bottom: u64)
 {
     for k in 0..numbers.len() {
         numbers[k] = fraction(tops[k], bottom);
+    }
+}
+
+/// Writes each of the numbers as a fraction, where they are whole.
+pub fn write_whole(numbers: &mut [Ratio], tops: &[i128], bottom: u64, whole: bool)
+    requires lengths { length numbers.old ≡ length tops.now }
+    requires small { (k : ℕ) → k < length tops.now → unsigned_abs (top_at tops.now k) < 2 ^ 125 }
+    requires positive { 0 < bottom }
+    requires small_bottom { bottom < 2 ^ 62 }
+    ensures { numbers.new ≡ kept whole bottom tops.now numbers.old }
+{
+    if whole {
+        write_wide(numbers, tops, bottom);
     }
 }

@@ -4,7 +4,7 @@ use Rattle.std.proofs.lemmas.Nat.Gcd.{dvd_of_mod-eq-zero}
 use Rattle.std.specs.Int.{◌∣◌}
 use Rattle.number_rows.proofs.Lists.{common_is}
 use Rattle.number_rows.proofs.Over.{own_is, wrap128}
-use Rattle.number_rows.proofs.tops.next_bottom.Goals as goal
+use Rattle.number_rows.proofs.bottoms.next_bottom.Goals as goal
 
 pub returns : goal.returns
 returns c =

@@ -3,7 +3,7 @@ use Rattle.std.proofs.lemmas.Nat.Gcd.{le_of_dvd}
 use Rattle.fractions.proofs.Parts.{wrap_same}
 use Rattle.std.specs.Prelude.{pos}
 use Rattle.number_rows.proofs.Over.{top_is, nothing_over}
-use Rattle.number_rows.proofs.tops.top_over.Goals as goal
+use Rattle.number_rows.proofs.bottoms.top_over.Goals as goal
 
 pub overflow_cast-top : goal.overflow_cast-top
 overflow_cast-top c =

@@ -1,7 +1,7 @@
 use Rattle.std.proofs.Common.{◌∙◌, arith}
 use Rattle.fractions.specs.Gcd.{gcd-mod}
 use Rattle.number_rows.proofs.Lists.{result_is, one_is, IsCommonDivisor, divisor_told}
-use Rattle.number_rows.proofs.tops.common_divisor.Goals as goal
+use Rattle.number_rows.proofs.divisors.common_divisor.Goals as goal
 
 pub loop-b-preserved : goal.loop-b-preserved
 loop-b-preserved c = gcd-mod c.loop-b.a c.loop-b.b ∙ c.loop-b.invariant

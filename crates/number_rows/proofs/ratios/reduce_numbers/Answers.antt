@@ -2,8 +2,8 @@ use Rattle.std.proofs.Common.{arith, get_or}
 use Rattle.std.proofs.lemmas.List.{get_or_default}
 use Rattle.fractions.specs.Fraction.{zero_fraction}
 use Rattle.number_rows.proofs.Steps.{reduced_more, reduced_skip}
-use Rattle.number_rows.proofs.long.reduce_numbers.Goals as goal
-use Rattle.number_rows.proofs.long.reduce_numbers.Goals.{then-not-is_zero+in-Ok, else-not-is_zero}
+use Rattle.number_rows.proofs.ratios.reduce_numbers.Goals as goal
+use Rattle.number_rows.proofs.ratios.reduce_numbers.Goals.{then-not-is_zero+in-Ok, else-not-is_zero}
 
 pub loop-k-preserved : goal.loop-k-preserved
 loop-k-preserved c =

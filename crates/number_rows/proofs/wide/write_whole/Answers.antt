@@ -1,7 +1,7 @@
 use Rattle.std.proofs.Common.{◌∙◌, sym, ap}
 use Rattle.number_rows.specs.Row.{kept}
 use Rattle.number_rows.proofs.Kept.{shown_over}
-use Rattle.number_rows.proofs.long.write_whole.Goals as goal
+use Rattle.number_rows.proofs.wide.write_whole.Goals as goal
 
 pub returns-then-whole : goal.returns-then-whole
 returns-then-whole c =

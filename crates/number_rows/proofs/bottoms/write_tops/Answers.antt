@@ -2,7 +2,7 @@ use Rattle.std.proofs.Common.{arith, subst, sym}
 use Rattle.std.specs.Int.{◌∣◌}
 use Rattle.std.proofs.lemmas.List.{get_or_read}
 use Rattle.fractions.specs.Fraction.{Fraction, zero_fraction}
-use Rattle.number_rows.proofs.tops.write_tops.Goals as goal
+use Rattle.number_rows.proofs.bottoms.write_tops.Goals as goal
 
 pub top_over-requires-clause-divides : goal.top_over-requires-clause-divides
 top_over-requires-clause-divides c =

@@ -4,7 +4,7 @@ use Rattle.std.proofs.Math.Nat.{dvd_trans}
 use Rattle.std.proofs.lemmas.List.{get_or_read}
 use Rattle.fractions.specs.Fraction.{Fraction, zero_fraction}
 use Rattle.linear_table.specs.Plans.{number_at}
-use Rattle.number_rows.proofs.tops.common_bottom.Goals as goal
+use Rattle.number_rows.proofs.bottoms.common_bottom.Goals as goal
 
 pub loop-k-preserved : goal.loop-k-preserved
 loop-k-preserved c =
