@@ -7,6 +7,7 @@ mod divisors;
 mod long;
 mod lowering;
 mod ratios;
+mod reducing;
 mod row;
 mod sharing;
 mod tops;
