@@ -1,12 +1,15 @@
 //! Rows from which another row is taken, times a number.
 
-ghost use Rattle.std.specs.Prelude.{◌≡◌, ◌<◌, false, length, OnOk, IfErr, IfOk};
+ghost use Rattle.std.specs.Prelude.{◌≡◌, ◌<◌, ◌^◌, false, length, OnOk, IfErr, IfOk};
 ghost use Rattle.std.specs.Bool.{OnTrue, OnFalse};
 ghost use Rattle.linear_table.specs.Plans.{number_at};
 ghost use Rattle.linear_table.specs.Wide.{LessFits};
 ghost use Rattle.number_rows.specs.Changed.{AreNarrow, IsReducedRow};
 ghost use Rattle.number_rows.specs.Places.{AreFilled};
+ghost use Rattle.number_rows.specs.Row.{kept};
+ghost use Rattle.number_rows.specs.Tops.{AreWithin};
 
+use crate::long::Long;
 use crate::lowering::{combine_lowered, write_places};
 use crate::row::NumberRow;
 use crate::sharing::Shared;
@@ -14,6 +17,41 @@ use crate::tops::{combine, fitting_bound, product_keeps_within};
 use plan_base::NoMemory;
 use std::alloc::Global;
 use std::mem;
+
+// Makes room for so many numbers, where there is none yet.
+fn make_room(alloc: Global, numbers: &mut Long, count: usize) -> Result<(), NoMemory>
+    ensures room { IfOk result (λ done. length numbers.new.items ≡ count) }
+    ensures same { IfErr result (λ fault. numbers.new ≡ numbers.old) }
+{
+    if numbers.len() != count {
+        *numbers = Long::zeros(alloc, count)?;
+    }
+    Ok(())
+}
+
+// Writes each number of a short row where numbers past its limit have room, which is made where there is none yet.
+fn write_kept(
+    alloc: Global,
+    numbers: &mut Long,
+    tops: &[i64],
+    bottom: u64,
+    bound: u64,
+    short: bool,
+) -> Result<(), NoMemory>
+    requires lengths { short ≡ false → length tops.now ≡ length numbers.old.items }
+    requires positive { 0 < bottom }
+    requires small { bottom < 2 ^ 62 }
+    requires within { AreWithin tops.now bound }
+    requires bound_small { bound < 2 ^ 62 }
+    ensures written { IfOk result (λ done. numbers.new.items ≡ kept short bottom tops.now numbers.old.items) }
+    ensures same { IfErr result (λ fault. numbers.new ≡ numbers.old) }
+{
+    if short {
+        make_room(alloc, numbers, tops.len())?;
+        numbers.write(tops, bottom, bound);
+    }
+    Ok(())
+}
 
 impl NumberRow {
     // What its number at `enter` and the denominator of the pivot's row have in common, where both rows are short. To the caller it

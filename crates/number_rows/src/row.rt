@@ -8,7 +8,7 @@ ghost use Rattle.linear_table.specs.Plans.{number_at};
 ghost use Rattle.number_rows.specs.Changed.{IsDividedRow};
 ghost use Rattle.number_rows.specs.Places.{AreFilled};
 ghost use Rattle.number_rows.specs.Row.{kept};
-ghost use Rattle.number_rows.specs.Tops.{top_at, AreWithin};
+ghost use Rattle.number_rows.specs.Tops.{top_at};
 
 use crate::long::{Long, short_form};
 use crate::lowering::{combine_lowered, write_places};
@@ -50,46 +50,11 @@ impl Model for NumberRow {
 
 // So many zeros.
 #[tactic(auto, using(crate::proofs::Lists::zero_at))]
-fn zeros(alloc: Global, count: usize) -> Result<Vec<i64>, NoMemory>
+pub(crate) fn zeros(alloc: Global, count: usize) -> Result<Vec<i64>, NoMemory>
     ensures length_is { IfOk result (λ tops. length tops.items ≡ count) }
     ensures zero { IfOk result (λ tops. (k : ℕ) → k < count → top_at tops.items k ≡ pos 0) }
 {
     Ok(vec![in alloc; 0i64; count]?)
-}
-
-// Makes room for so many numbers, where there is none yet.
-fn make_room(alloc: Global, numbers: &mut Long, count: usize) -> Result<(), NoMemory>
-    ensures room { IfOk result (λ done. length numbers.new.items ≡ count) }
-    ensures same { IfErr result (λ fault. numbers.new ≡ numbers.old) }
-{
-    if numbers.len() != count {
-        *numbers = Long::zeros(alloc, count)?;
-    }
-    Ok(())
-}
-
-// Writes each number of a short row where numbers past its limit have room, which is made where there is none yet.
-fn write_kept(
-    alloc: Global,
-    numbers: &mut Long,
-    tops: &[i64],
-    bottom: u64,
-    bound: u64,
-    short: bool,
-) -> Result<(), NoMemory>
-    requires lengths { short ≡ false → length tops.now ≡ length numbers.old.items }
-    requires positive { 0 < bottom }
-    requires small { bottom < 2 ^ 62 }
-    requires within { AreWithin tops.now bound }
-    requires bound_small { bound < 2 ^ 62 }
-    ensures written { IfOk result (λ done. numbers.new.items ≡ kept short bottom tops.now numbers.old.items) }
-    ensures same { IfErr result (λ fault. numbers.new ≡ numbers.old) }
-{
-    if short {
-        make_room(alloc, numbers, tops.len())?;
-        numbers.write(tops, bottom, bound);
-    }
-    Ok(())
 }
 
 impl NumberRow {

@@ -118,7 +118,13 @@ fn units_are_empty(basis: &[usize], rows: &[NumberRow], goods: usize, columns: u
 }
 
 // Whether the numbers show a plan.
-fn shows_plan(basis: &[usize], rows: &[NumberRow], cost: &NumberRow, goods: usize, columns: usize) -> bool
+fn shows_plan(
+    basis: &[usize],
+    rows: &[NumberRow],
+    cost: &NumberRow,
+    goods: usize,
+    columns: usize,
+) -> bool
     requires sizes { length basis.now ≡ length rows.now }
     requires widths { (i : ℕ) → i < length rows.now → columns < length (row_at rows.now i) }
     requires cost_width { columns ≤ length cost.now.items }
@@ -132,7 +138,13 @@ fn shows_plan(basis: &[usize], rows: &[NumberRow], cost: &NumberRow, goods: usiz
 }
 
 // The exchange that an aim calls for.
-fn pivot_by_aim(basis: &[usize], rows: &[NumberRow], goods: usize, columns: usize, aim: usize) -> Choice
+fn pivot_by_aim(
+    basis: &[usize],
+    rows: &[NumberRow],
+    goods: usize,
+    columns: usize,
+    aim: usize,
+) -> Choice
     ghost t: { TableauOf }
     requires is_tableau { IsTableau t.system basis.now rows.now t.cost }
     requires goods_is { goods ≡ t.system.goods }
@@ -160,7 +172,13 @@ fn pivot_by_aim(basis: &[usize], rows: &[NumberRow], goods: usize, columns: usiz
 }
 
 // The exchange that the reduced prices call for, where there is no aim.
-fn pivot_by_cost(basis: &[usize], rows: &[NumberRow], cost: &NumberRow, goods: usize, columns: usize) -> Choice
+fn pivot_by_cost(
+    basis: &[usize],
+    rows: &[NumberRow],
+    cost: &NumberRow,
+    goods: usize,
+    columns: usize,
+) -> Choice
     ghost s: { System }
     requires is_tableau { IsTableau s basis.now rows.now cost.now.items }
     requires sound { IsSound s }
@@ -182,7 +200,13 @@ fn pivot_by_cost(basis: &[usize], rows: &[NumberRow], cost: &NumberRow, goods: u
 }
 
 // What the basis of a tableau calls for.
-pub(crate) fn choose(basis: &[usize], rows: &[NumberRow], cost: &NumberRow, goods: usize, columns: usize) -> Choice
+pub(crate) fn choose(
+    basis: &[usize],
+    rows: &[NumberRow],
+    cost: &NumberRow,
+    goods: usize,
+    columns: usize,
+) -> Choice
     ghost t: { TableauOf }
     requires is_tableau { IsTableau t.system basis.now rows.now t.cost }
     requires cost_is { cost.now.items ≡ t.cost }

@@ -34,7 +34,14 @@ fn compare_ratios(first: &NumberRow, second: &NumberRow, enter: usize, value: us
 }
 
 // The one of two rows that leaves before the other.
-fn better(basis: &[usize], rows: &[NumberRow], enter: usize, value: usize, i: usize, j: usize) -> usize
+fn better(
+    basis: &[usize],
+    rows: &[NumberRow],
+    enter: usize,
+    value: usize,
+    i: usize,
+    j: usize,
+) -> usize
     requires sizes { length basis.now ≡ length rows.now }
     requires i_inside { i < length rows.now }
     requires j_inside { j < length rows.now }
@@ -56,7 +63,12 @@ fn better(basis: &[usize], rows: &[NumberRow], enter: usize, value: usize, i: us
 }
 
 // The row that leaves: of least ratio, and the first such in the order of columns.
-pub(crate) fn least_row(basis: &[usize], rows: &[NumberRow], enter: usize, value: usize) -> Option<usize>
+pub(crate) fn least_row(
+    basis: &[usize],
+    rows: &[NumberRow],
+    enter: usize,
+    value: usize,
+) -> Option<usize>
     requires sizes { length basis.now ≡ length rows.now }
     requires widths { (i : ℕ) → i < length rows.now → (enter < length (row_at rows.now i)) × (value < length (row_at rows.now i)) }
     requires values { (i : ℕ) → i < length rows.now → zero_fraction ≤ʳ number_at (row_at rows.now i) value }

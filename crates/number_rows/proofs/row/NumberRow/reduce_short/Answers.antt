@@ -12,8 +12,8 @@ use Rattle.number_rows.proofs.Lists.{back}
 use Rattle.number_rows.proofs.Filled.{filled_tops}
 use Rattle.number_rows.proofs.Parts.{HasParts, parts}
 use Rattle.number_rows.proofs.Exchanged.{reduced_row, combined_tops, scale_back, combined_plain}
-use Rattle.number_rows.proofs.reducing.NumberRow.reduce_short.Goals.{After-fitting_bound}
-use Rattle.number_rows.proofs.reducing.NumberRow.reduce_short.Goals as goal
+use Rattle.number_rows.proofs.row.NumberRow.reduce_short.Goals.{After-fitting_bound}
+use Rattle.number_rows.proofs.row.NumberRow.reduce_short.Goals as goal
 
 -- what the number at the place that enters shares with the denominator of the pivot's row
 shares : (c : After-fitting_bound) → HasParts (top_at c.self.inside.tops.items c.args.enter) c.pivot_row.inside.bottom c.args.shared.common c.args.shared.scale c.args.shared.factor

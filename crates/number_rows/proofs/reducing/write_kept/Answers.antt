@@ -1,7 +1,7 @@
 use Rattle.std.proofs.Common.{◌∙◌, sym, ap}
 use Rattle.number_rows.specs.Row.{kept}
 use Rattle.number_rows.proofs.Kept.{shown_over}
-use Rattle.number_rows.proofs.row.write_kept.Goals as goal
+use Rattle.number_rows.proofs.reducing.write_kept.Goals as goal
 
 pub returns-in_ok-make_room-clause-written : goal.returns-in_ok-make_room-clause-written
 returns-in_ok-make_room-clause-written c =
