@@ -1,7 +1,9 @@
 -- The places of a row's numbers are those of the whole numbers that it keeps.
-use Rattle.std.specs.Prelude.{◌≡◌, ℕ, ℤ, pos, Bool, true, List, length}
-use Rattle.std.proofs.Common.{sym, subst, ◌∙◌}
-use Rattle.fractions.specs.Fraction.{Fraction, zero_fraction}
+use Rattle.std.specs.Prelude.{◌≡◌, ℕ, ◌<◌, ℤ, pos, Bool, true, List, length, Result, Ok, Err, IfOk}
+use Rattle.std.proofs.Common.{ap, sym, subst, ◌∙◌, ◌++◌, take, arith}
+use Rattle.std.proofs.lemmas.Grind.{common_steps}
+use Rattle.fractions.specs.Fraction.{Fraction, frac, zero_fraction}
+use Rattle.fractions.specs.Fracs.{zero-frac}
 use Rattle.linear_table.specs.Plans.{number_at}
 use Rattle.number_rows.specs.Changed.{Numbers}
 use Rattle.number_rows.specs.Places.{HoldsBut, AreFilled}
@@ -17,6 +19,22 @@ filled_tops s b bound ts ns xs ws places ex es h ew filled =
     (but_map (λ k. number_at xs.items k ≡ zero_fraction) (λ k. top_at ts k ≡ pos 0) 0 places (length ts)
     (λ k q e. top_none (top_at ts k) b h.positive (sym (short_at s b ts ns xs k ex es q) ∙ e))
     (subst (λ (n : ℕ). HoldsBut (λ k. number_at xs.items k ≡ zero_fraction) 0 places n) (length_shown s b ts ns xs ex h.same_length) filled))
+
+pub filled_row : {room : ℕ} (s : Bool) (b bound : ℕ) (ts : List ℤ) (ns : List Fraction) (xs : Numbers) (ws : List ℤ) (places : List ℕ) → record { items = kept s b ts ns } ≡ xs → s ≡ true → IsKept s b bound ts ns room → ws ≡ ts → HoldsBut (λ k. (top_at ws k ≡ pos 0) × (top_at ws k ≡ pos 0)) 0 places (length ws) → AreFilled places xs.items
+filled_row s b bound ts ns xs ws places ex es h ew listed =
+    subst (λ (n : ℕ). HoldsBut (λ k. number_at xs.items k ≡ zero_fraction) 0 places n) (sym (length_shown s b ts ns xs ex h.same_length))
+    (but_map (λ k. (top_at ts k ≡ pos 0) × (top_at ts k ≡ pos 0)) (λ k. number_at xs.items k ≡ zero_fraction) 0 places (length ts)
+    (λ k q e. short_at s b ts ns xs k ex es q ∙ (ap (λ t. frac t b) e.0 ∙ zero-frac b h.positive))
+    (subst (λ (l : List ℤ). HoldsBut (λ k. (top_at l k ≡ pos 0) × (top_at l k ≡ pos 0)) 0 places (length l)) ew listed))
+
+-- a list that was written in a vector's place
+pub written_back : (len : ℕ) (new rest : List ℕ) → len ≡ length new → take len (new ++ rest) ≡ new
+written_back len new rest e = grind (arith, common_steps, e)
+
+-- what is said of a value that is there
+pub there : {A E : Type 0} (P Q : A → Type 0) (r : Result A E) → ((a : A) → P a → Q a) → IfOk r P → IfOk r Q
+there P Q (Ok a) f h = f a h
+there P Q (Err e) f h = tt
 
 -- the same places under other names of the same numbers
 pub places_of : (ts us os ps : List ℤ) (places : List ℕ) → ts ≡ us → os ≡ ps → HoldsBut (λ k. (top_at ts k ≡ pos 0) × (top_at os k ≡ pos 0)) 0 places (length ts) → HoldsBut (λ k. (top_at us k ≡ pos 0) × (top_at ps k ≡ pos 0)) 0 places (length us)

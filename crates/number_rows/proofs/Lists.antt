@@ -12,7 +12,7 @@ use Rattle.fractions.specs.Ring.{int, nat, ◌⊗◌, ◌⊖◌, same_value}
 use Rattle.fractions.specs.Gcd.{gcd, gcd_is, gcd_pos, gcd-zero}
 use Rattle.fractions.proofs.Printed.{gcd-one}
 use Rattle.linear_table.specs.Plans.{number_at}
-use Rattle.number_rows.specs.Tops.{top_at, AreWithin, AreWithinBelow, IsCombined}
+use Rattle.number_rows.specs.Tops.{top_at, AreWithin, AreWithinBelow, IsCombined, IsScaled}
 
 -- ---- numbers of 64 bits
 abbrev pub wrap : ℤ → ℤ
@@ -131,6 +131,18 @@ combined_within old other new s s' f f' m n r e es ef ho hn len h = λ k lt.
 
 pub same_combined : (old other new : List ℤ) (s s' f f' : ℤ) → s' ≡ s → f' ≡ f → IsCombined old s' other f' new → IsCombined old s other f new
 same_combined old other new s s' f f' es ef h = subst (λ (a : ℤ). IsCombined old a other f new) es (subst (λ (a : ℤ). IsCombined old s' other a new) ef h)
+
+times_one : (t : ℤ) → t *ℤ pos 1 ≡ t
+times_one t = omega (arith, ints)
+
+-- scaled first, and combined by a scale of 1 then
+pub scaled_then : (old mid other new : List ℤ) (s f : ℤ) → IsScaled old s mid → IsCombined mid (pos 1) other f new → IsCombined old s other f new
+scaled_then old mid other new s f scaled combined = record {
+  length_is = combined.length_is ∙ scaled.length_is;
+  numbers = λ k lt.
+      combined.numbers k (subst (λ (n : ℕ). k < n) (sym scaled.length_is) lt)
+      ∙ (ap (λ x. x *ℤ pos 1 -ℤ top_at other k *ℤ f) (scaled.numbers k lt) ∙ ap (λ x. x -ℤ top_at other k *ℤ f) (times_one (top_at old k *ℤ s)));
+}
 
 pub record AreOverBelow (tops : List ℤ) (bottom : ℕ) (row : List Fraction) (k : ℕ) : Type 0 where
   pub done : (j : ℕ) → j < k → number_at row j ≡ frac (top_at tops j) bottom

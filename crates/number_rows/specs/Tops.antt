@@ -21,6 +21,11 @@ pub record IsDividedBy (old : List ℤ) (d : ℕ) (new : List ℤ) : Type 0 wher
   pub length_is : length new ≡ length old
   pub numbers : (k : ℕ) → k < length old → top_at new k *ℤ pos d ≡ top_at old k
 
+-- each number is the old one times the scale
+pub record IsScaled (old : List ℤ) (scale : ℤ) (new : List ℤ) : Type 0 where
+  pub length_is : length new ≡ length old
+  pub numbers : (k : ℕ) → k < length old → top_at new k ≡ top_at old k *ℤ scale
+
 -- each number is the old one times the scale less the other row's times the factor
 pub record IsCombined (old : List ℤ) (scale : ℤ) (other : List ℤ) (factor : ℤ) (new : List ℤ) : Type 0 where
   pub length_is : length new ≡ length old

@@ -1,12 +1,12 @@
 //! A row of numbers.
 
-ghost use Rattle.std.specs.Prelude.{◌≡◌, ◌≢◌, ◌<◌, ℕ, ◌^◌, false, pos, [], length, OnOk, IfErr, IfOk, IfSome, IsTrue, ◌↔◌};
+ghost use Rattle.std.specs.Prelude.{◌≡◌, ◌≢◌, ◌<◌, ℕ, ◌^◌, false, pos, [], length, OnOk, IfErr, IfOk, IfSome, IsTrue, ◌↔◌, unsigned_abs};
 ghost use Rattle.std.specs.Ordering.{MatchOrdering};
 ghost use Rattle.fractions.specs.Fraction.{zero_fraction, ◌/ʳ◌, ◌<ʳ◌};
 ghost use Rattle.fractions.specs.Limits.{IsNarrow};
 ghost use Rattle.linear_table.specs.Plans.{number_at};
 ghost use Rattle.number_rows.specs.Changed.{IsDividedRow};
-ghost use Rattle.number_rows.specs.Places.{AreFilled};
+ghost use Rattle.number_rows.specs.Places.{AreFilled, HoldsBut};
 ghost use Rattle.number_rows.specs.Row.{kept};
 ghost use Rattle.number_rows.specs.Tops.{top_at};
 
@@ -55,6 +55,17 @@ pub(crate) fn zeros(alloc: Global, count: usize) -> Result<Vec<i64>, NoMemory>
     ensures zero { IfOk result (λ tops. (k : ℕ) → k < count → top_at tops.items k ≡ pos 0) }
 {
     Ok(vec![in alloc; 0i64; count]?)
+}
+
+// The places at which whole numbers aren't 0, in rising order.
+fn listed_places(alloc: Global, tops: &[i64]) -> Result<Vec<usize>, NoMemory>
+    requires { (k : ℕ) → k < length tops.now → unsigned_abs (top_at tops.now k) < 2 ^ 62 }
+    ensures { IfOk result (λ places. HoldsBut (λ k. (top_at tops.now k ≡ pos 0) × (top_at tops.now k ≡ pos 0)) 0 places.items (length tops.now)) }
+{
+    let mut places = vec![in alloc; 0usize; tops.len()]?;
+    let count = write_places(&mut places, tops, tops);
+    places.truncate(count);
+    Ok(places)
 }
 
 impl NumberRow {
@@ -168,6 +179,9 @@ impl NumberRow {
     pub fn filled_places(&self, alloc: Global) -> Result<Vec<usize>, NoMemory>
         ensures { IfOk result (λ places. AreFilled places.items self.now.items) }
     {
+        if self.short {
+            return listed_places(alloc, &self.tops);
+        }
         let mut places = Vec::with_capacity(alloc, self.len())?;
         for k in 0..self.len() {
             if !self.is_zero(k) {

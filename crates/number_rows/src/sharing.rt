@@ -28,7 +28,7 @@ impl Shared {
 
     /// What a number and a denominator have in common. To the caller it is a guess.
     pub fn likely(top: i64, bottom: u64) -> Shared {
-        if bottom == 1 {
+        if bottom <= 1 || top == 1 || top == -1 {
             return Shared::nothing(top, bottom);
         }
         if top == 0 {
@@ -39,7 +39,16 @@ impl Shared {
             };
         }
         let magnitude = top.unsigned_abs();
-        let common = likely_divisor(magnitude, bottom);
+        // (Numbers are mostly longer than denominators, and often multiples of them.)
+        let rest = magnitude % bottom;
+        let common = if rest == 0 {
+            bottom
+        } else {
+            likely_divisor(rest, bottom)
+        };
+        if common == 1 {
+            return Shared::nothing(top, bottom);
+        }
         let shift = common.trailing_zeros() % 64;
         let inverse = likely_inverse(common >> shift);
         let factor = (magnitude >> shift).wrapping_mul(inverse).cast_signed();

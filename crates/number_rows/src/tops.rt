@@ -3,7 +3,7 @@
 ghost use Rattle.std.specs.Prelude.{◌≡◌, ℕ, ◌<◌, ◌≤◌, ◌+◌, ◌*◌, ◌^◌, ℤ, pos, ◌*ℤ◌, ◌-ℤ◌, neg_ℤ, unsigned_abs, length, IfSome};
 ghost use Rattle.std.specs.Bool.{OnTrue};
 ghost use Rattle.number_rows.specs.Places.{HoldsBut};
-ghost use Rattle.number_rows.specs.Tops.{top_at, AreWithin, IsCombined, IsTurned};
+ghost use Rattle.number_rows.specs.Tops.{top_at, AreWithin, IsCombined, IsScaled, IsTurned};
 
 /// Magnitudes and denominators stay below this.
 pub const LIMIT: u64 = 1 << 62;
@@ -56,22 +56,40 @@ fn combined_bound(bound: u64, scale: u64, other_bound: u64, factor: u64) -> u64
     bound * scale + other_bound * factor
 }
 
-// Makes of each number that number times the scale, less the other row's times the factor.
-fn combine_each(tops: &mut [i64], scale: i64, others: &[i64], factor: i64)
-    requires lengths { length tops.old ≡ length others.now }
+// One number times a scale.
+fn scaled(top: i64, scale: i64) -> i64
+    requires { unsigned_abs top * unsigned_abs scale < 2 ^ 62 }
+    ensures value { result ≡ top *ℤ scale }
+    ensures small { unsigned_abs result < 2 ^ 62 }
+{
+    top * scale
+}
+
+// Makes of each number that number times the scale.
+fn scale_each(tops: &mut [i64], scale: i64)
     requires tops { (k : ℕ) → k < length tops.old → unsigned_abs (top_at tops.old k) < 2 ^ 62 }
-    requires others { (k : ℕ) → k < length others.now → unsigned_abs (top_at others.now k) < 2 ^ 62 }
-    requires fits { (k : ℕ) → k < length tops.old → unsigned_abs (top_at tops.old k) * unsigned_abs scale + unsigned_abs (top_at others.now k) * unsigned_abs factor < 2 ^ 62 }
-    ensures { IsCombined tops.old scale others.now factor tops.new }
+    requires fits { (k : ℕ) → k < length tops.old → unsigned_abs (top_at tops.old k) * unsigned_abs scale < 2 ^ 62 }
+    ensures { IsScaled tops.old scale tops.new }
 {
     for k in 0..tops.len() {
-        let top = combined(tops[k], scale, others[k], factor);
+        let top = scaled(tops[k], scale);
         tops[k] = top;
     }
 }
 
-// The same where the scale is 1: only the numbers at the places change at which the other row isn't 0. All before `from` are
-// done.
+// The same, where the scale isn't 1.
+fn scale_by(tops: &mut [i64], scale: i64)
+    requires tops { (k : ℕ) → k < length tops.old → unsigned_abs (top_at tops.old k) < 2 ^ 62 }
+    requires fits { (k : ℕ) → k < length tops.old → unsigned_abs (top_at tops.old k) * unsigned_abs scale < 2 ^ 62 }
+    ensures { IsScaled tops.old scale tops.new }
+{
+    if scale != 1 {
+        scale_each(tops, scale);
+    }
+}
+
+// Makes of each number that number times the scale, less the other row's times the factor, where the scale is 1: only the
+// numbers at the places change, at which the other row isn't 0. All before `from` are done.
 fn combine_at(tops: &mut [i64], scale: i64, others: &[i64], factor: i64, places: &[usize])
     requires lengths { length tops.old ≡ length others.now }
     requires tops { (k : ℕ) → k < length tops.old → unsigned_abs (top_at tops.old k) < 2 ^ 62 }
@@ -101,11 +119,8 @@ fn combine_by(tops: &mut [i64], scale: i64, others: &[i64], factor: i64, places:
     requires places { HoldsBut (λ k. top_at others.now k ≡ pos 0) 0 places.now (length others.now) }
     ensures { IsCombined tops.old scale others.now factor tops.new }
 {
-    if scale == 1 {
-        combine_at(tops, 1, others, factor, places);
-    } else {
-        combine_each(tops, scale, others, factor);
-    }
+    scale_by(tops, scale);
+    combine_at(tops, 1, others, factor, places);
 }
 
 /// Makes of each number that number times the scale, less the other row's times the factor. The other row isn't 0 at the
