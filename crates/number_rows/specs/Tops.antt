@@ -12,10 +12,6 @@ top_at tops k = slice_index_or tops k (pos 0)
 abbrev pub AreWithin : List ℤ → ℕ → Type 0
 AreWithin tops bound = (k : ℕ) → k < length tops → unsigned_abs (top_at tops k) ≤ bound
 
--- the divisor divides each number
-abbrev pub DividesAll : ℕ → List ℤ → Type 0
-DividesAll d tops = (k : ℕ) → k < length tops → d ∣ unsigned_abs (top_at tops k)
-
 -- each number times the divisor is the old number
 pub record IsDividedBy (old : List ℤ) (d : ℕ) (new : List ℤ) : Type 0 where
   pub length_is : length new ≡ length old

@@ -1,4 +1,3 @@
-use Rattle.std.proofs.Common.{◌∙◌, ◌-ℤ◌, ◌*ℤ◌, ap, sym, pos}
 use Rattle.std.specs.Int.{w64}
 use Rattle.std.proofs.lemmas.Int.{to_z-of_z}
 use Rattle.number_rows.proofs.Lists.{scaled_then, same_combined}

@@ -1,4 +1,4 @@
-use Rattle.number_rows.proofs.Lists.{IsRaisedBelow, wrap}
+use Rattle.number_rows.proofs.Lists.{IsRaisedBelow}
 use Rattle.number_rows.proofs.tops.scale_each.Given as goal
 
 abbrev pub invariant-loop-k : goal.invariant-loop-k
