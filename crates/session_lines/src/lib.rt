@@ -2,12 +2,17 @@
 #![tactic(auto)]
 
 mod answers;
+mod builds;
 mod flows;
 mod forced;
 mod laws;
 mod limits;
+mod planned;
+mod prices;
+mod question_words;
 mod questions;
 mod script;
+mod serving;
 mod session;
 mod state;
 mod wishes;
@@ -15,5 +20,6 @@ mod wishes;
 pub use forced::{Forced, ForcedLine};
 pub use laws::replies_are_the_report;
 pub use script::{Told, answer_script};
-pub use session::{Session, SessionEnd, serve};
+pub use serving::serve;
+pub use session::{Session, SessionEnd};
 pub use wishes::{Wished, Wishes};

@@ -1,10 +1,12 @@
 //! Questions, and their answers.
 ghost use Rattle.std.specs.Prelude.{◌≡◌};
 
-use crate::answers::{Done, push_refusal, push_reply, push_text, refusal};
-use crate::flows::{push_flow_answer, push_why_not};
-use crate::forced::{Forced, Reading};
+use crate::answers::{Done, push_refusal, push_reply, push_text};
+use crate::flows::push_flow_answer;
+use crate::forced::Forced;
 use crate::limits::push_limits;
+use crate::prices::push_why_not;
+use crate::question_words::{Asked, asked_by, front_word, read_as, unread, unwanted};
 use crate::state::push_state;
 use crate::wishes::{Wished, Wishes};
 use catalog_text::{ShownFields, catalog_text};
@@ -13,83 +15,7 @@ use plan_base::{NoMemory, Steps, Text};
 use plan_lines::{Command, RefusalCode, Reply};
 use planner_core::Planner;
 use planner_questions::{ask_rate, ask_solve};
-use script_reader::ScriptFault;
 use std::alloc::Global;
-
-// What a question asks for, by its first word.
-#[derive(Clone, Copy, Debug, PartialEq, Eq)]
-enum Asked {
-    Catalog,
-    State,
-    Flow,
-    WhyNot,
-    Limits,
-    Wish,
-}
-
-// The first word of a line, and what stands behind it.
-fn front_word(line: &[u8]) -> (&[u8], &[u8]) {
-    for (place, byte) in line.iter().enumerate() {
-        if *byte == b' ' || *byte == b'\t' {
-            return line.split_at(place);
-        }
-    }
-    (line, &[])
-}
-
-fn asked_by(word: &[u8]) -> Option<Asked> {
-    match word {
-        b"?catalog" => Some(Asked::Catalog),
-        b"?state" => Some(Asked::State),
-        b"?flow" => Some(Asked::Flow),
-        b"?why-not" => Some(Asked::WhyNot),
-        b"?limits" => Some(Asked::Limits),
-        b"?wish" => Some(Asked::Wish),
-        _ => None,
-    }
-}
-
-// Words behind the word of a command of a script, as a line of it.
-fn line_of(alloc: Global, command: &[u8], words: &[u8]) -> Result<Vec<u8>, NoMemory> {
-    let mut line = Vec::new(alloc);
-    line.extend_from_slice(command)?;
-    line.extend_from_slice(words)?;
-    Ok(line)
-}
-
-// What the words of a question are read as behind the word of a command of a script.
-fn read_as(alloc: Global, command: &[u8], words: &[u8]) -> Result<Reading, NoMemory> {
-    let line = line_of(alloc, command, words)?;
-    reading_of(alloc, line.as_slice())
-}
-
-// The code of what can't be read.
-fn fault_code(fault: ScriptFault) -> RefusalCode {
-    match fault {
-        ScriptFault::UnknownCommand => RefusalCode::Q1,
-        ScriptFault::WrongWords => RefusalCode::Q2,
-        ScriptFault::BadNumber => RefusalCode::Q3,
-        ScriptFault::BadQuoting => RefusalCode::Q4,
-        ScriptFault::BadObject => RefusalCode::Q5,
-        ScriptFault::NoMemory => RefusalCode::Q1,
-    }
-}
-
-// The refusal of words behind a question that takes none.
-fn unwanted(alloc: Global, words: &[u8]) -> Result<Option<Reply>, NoMemory> {
-    match read_as(alloc, b"milestones", words)? {
-        Ok(Some(Command::Milestones)) => Ok(None),
-        other => Ok(Some(unread(other))),
-    }
-}
-
-// The refusal of what can't be read.
-fn unread(reading: Reading) -> Reply {
-    match reading {
-        Err(fault) => refusal(fault_code(fault)),
-        Ok(_) => refusal(RefusalCode::Q2),
-    }
-}
 
 // The reply to the `solve` that a question stands for.
 fn solved<L>(
