@@ -1,90 +1,15 @@
-//! The answers to questions about nodes, and refusals.
+//! The answers to questions about nodes, rows or the whole.
 ghost use Rattle.game_types.specs.Sound.{IsSound};
 
-use crate::meanings::meaning;
+use crate::entries::{
+    Site, push_entry, push_line, push_plain, push_summary, push_table, push_table_end,
+};
 use game_types::Game;
 use page_parts::Done;
 use page_rows::{Piece, Thing, put, thing_text};
 use plan_base::{Items, Kind, NoMemory, NodeId};
-use plan_lines::{RefusalCode, Reply};
+use plan_lines::Reply;
 use plan_report::print_reply;
-use std::alloc::Global;
-
-/// A line of the script, and the game that its names are of.
-#[derive(Drop)]
-pub struct Site<'a> {
-    pub alloc: Global,
-    pub game: &'a Game,
-    pub line: u32,
-    pub words: &'a str,
-}
-
-// A text of this program.
-fn push_plain(at: &Site<'_>, out: &mut String, text: &str) -> Done {
-    put(at.alloc, out, &[Piece::Text(text)])
-}
-
-// The head of an entry that can be folded.
-fn push_summary(at: &Site<'_>, out: &mut String, count: usize) -> Done {
-    put(
-        at.alloc,
-        out,
-        &[
-            Piece::Text("<details data-f><summary><code>"),
-            Piece::Name(at.words),
-            Piece::Text("</code> <b>"),
-            Piece::Count(count as u64),
-            Piece::Text("</b> <small>line "),
-            Piece::Count(at.line as u64),
-            Piece::Text("</small></summary>"),
-        ],
-    )
-}
-
-// The same with the head of a table of nodes.
-fn push_table(at: &Site<'_>, out: &mut String, count: usize, heads: &str) -> Done {
-    push_summary(at, out, count)?;
-    put(
-        at.alloc,
-        out,
-        &[
-            Piece::Text("<div class=\"wide\"><table class=\"list\"><thead><tr>"),
-            Piece::Text(heads),
-            Piece::Text("</tr></thead><tbody>\n"),
-        ],
-    )
-}
-
-fn push_table_end(at: &Site<'_>, out: &mut String) -> Done {
-    push_plain(at, out, "</tbody></table></div></details>\n")
-}
-
-// An entry of one line.
-fn push_entry(at: &Site<'_>, out: &mut String, answer: &[Piece<'_>]) -> Done {
-    put(
-        at.alloc,
-        out,
-        &[
-            Piece::Text("<p data-f><code>"),
-            Piece::Name(at.words),
-            Piece::Text("</code> <span>"),
-        ],
-    )?;
-    put(at.alloc, out, answer)?;
-    put(
-        at.alloc,
-        out,
-        &[
-            Piece::Text("</span> <small>line "),
-            Piece::Count(at.line as u64),
-            Piece::Text("</small></p>\n"),
-        ],
-    )
-}
-
-fn push_line(at: &Site<'_>, out: &mut String, answer: &str) -> Done {
-    push_entry(at, out, &[Piece::Name(answer)])
-}
 
 // The thing of a node. A node past the last counts as a technology without a name.
 fn node_thing(game: &Game, node: NodeId) -> Thing
@@ -352,52 +277,4 @@ pub fn push_answer(at: &Site<'_>, out: &mut String, reply: &Reply) -> Done
         Reply::Milestones(nodes) => push_milestones(at, out, nodes.as_slice()),
         _ => push_printed(at, out, reply),
     }
-}
-
-// The letters of a code.
-fn code_text(alloc: Global, code: RefusalCode) -> Result<String, NoMemory> {
-    Ok(format!(in alloc; "{code:?}")?)
-}
-
-// The head of a refusal, with its meaning.
-fn push_cause(at: &Site<'_>, out: &mut String, code: RefusalCode) -> Done {
-    put(
-        at.alloc,
-        out,
-        &[
-            Piece::Text("<details data-f><summary><code>"),
-            Piece::Name(at.words),
-            Piece::Text("</code> <b class=\"bad\">"),
-        ],
-    )?;
-    let letters = code_text(at.alloc, code)?;
-    push_plain(at, out, letters.as_str())?;
-    push_plain(at, out, ": ")?;
-    push_plain(at, out, meaning(code))?;
-    put(
-        at.alloc,
-        out,
-        &[
-            Piece::Text("</b> <small>line "),
-            Piece::Count(at.line as u64),
-            Piece::Text("</small></summary><pre>"),
-        ],
-    )
-}
-
-fn push_quoted(alloc: Global, out: &mut String, text: &str) -> Done {
-    put(
-        alloc,
-        out,
-        &[Piece::Name(text), Piece::Text("</pre></details>\n")],
-    )
-}
-
-/// A refusal with its meaning, and the reply as it is printed elsewhere.
-pub fn push_refusal(at: &Site<'_>, out: &mut String, code: RefusalCode, reply: &Reply) -> Done
-    requires { IsSound at.now.game.now }
-{
-    push_cause(at, out, code)?;
-    let text = print_reply(at.alloc, at.line, reply, at.game)?;
-    push_quoted(at.alloc, out, text.as_str())
 }

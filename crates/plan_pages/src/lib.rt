@@ -5,11 +5,14 @@
 
 mod answers;
 mod builds;
+mod entries;
 mod goods;
 mod meanings;
 mod page;
+mod parts;
 mod pictures;
 mod plans;
+mod refusals;
 mod style;
 
 pub use page::Page;

@@ -1,9 +1,12 @@
 //! The page of a script.
 ghost use Rattle.game_types.specs.Sound.{IsSound};
 
-use crate::answers::{Site, push_answer, push_refusal};
+use crate::answers::push_answer;
+use crate::entries::Site;
+use crate::parts::{Part, push_part};
 use crate::pictures::{PageThing, note_plan, push_picture};
 use crate::plans::{push_infeasible, push_plan};
+use crate::refusals::push_refusal;
 use crate::style::{HEAD, SCRIPT, STYLE, TOOLS};
 use game_types::Game;
 use linear_table::{Linear, SolveAnswer};
@@ -18,28 +21,6 @@ use std::mem;
 
 // The most letters of a line that are shown.
 const WORDS: usize = 200;
-
-// A part of the page in the making, and how many entries it has.
-#[derive(Drop)]
-struct Part {
-    text: String,
-    count: u32,
-}
-
-impl Part {
-    fn new(alloc: Global) -> Part {
-        Part {
-            text: String::new(alloc),
-            count: 0,
-        }
-    }
-
-    // The text, to which one more entry is written.
-    fn next(&mut self) -> &mut String {
-        self.count = self.count.saturating_add(1);
-        &mut self.text
-    }
-}
 
 /// A page in the making.
 #[derive(Drop)]
@@ -299,24 +280,4 @@ impl Page {
 
 fn push_plain(alloc: Global, out: &mut String, text: &str) -> Done {
     put(alloc, out, &[Piece::Text(text)])
-}
-
-// A part of the page that can be folded, where there is something in it.
-fn push_part<'a>(alloc: Global, out: &mut String, name: &'a str, part: &'a Part) -> Done {
-    if part.count == 0 {
-        return Ok(());
-    }
-    put(
-        alloc,
-        out,
-        &[
-            Piece::Text("<details open class=\"part\"><summary><h2>"),
-            Piece::Text(name),
-            Piece::Text("</h2> <span>"),
-            Piece::Count(part.count as u64),
-            Piece::Text("</span></summary>\n"),
-            Piece::Text(part.text.as_str()),
-            Piece::Text("</details>\n"),
-        ],
-    )
 }

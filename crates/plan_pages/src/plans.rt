@@ -1,8 +1,8 @@
 //! A plan as tables and a drawing.
 ghost use Rattle.game_types.specs.Sound.{IsSound};
 
-use crate::answers::Site;
 use crate::builds::{Builds, push_builds};
+use crate::entries::Site;
 use crate::goods::{push_goods, push_prices};
 use fractions::Ratio;
 use page_parts::Done;
