@@ -8,7 +8,9 @@ mod amounts;
 mod cards;
 mod dot;
 mod drawings;
+mod drawn_cards;
 mod edge_laws;
+mod sizes;
 mod strokes;
 mod widths;
 

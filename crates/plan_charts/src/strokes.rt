@@ -2,9 +2,8 @@
 
 use crate::cards::{Card, Chart};
 use crate::dot::push_amount;
-use crate::drawings::{
-    CARD, EDGE, Point, joint_point, kind_of, left_of, line_middle, middle_of, name_of,
-};
+use crate::drawn_cards::{kind_of, name_of};
+use crate::sizes::{CARD, EDGE, Point, joint_point, left_of, line_middle, middle_of};
 use page_layout::{Board, Joint, Lane, channel_of, number_at};
 use page_parts::{Done, Flow};
 use page_rows::{Piece, put};
