@@ -4,7 +4,9 @@
 
 mod board;
 mod columns;
+mod means;
 mod places;
+mod stacks;
 
 pub use board::{Board, End, Joint, Lane, channel_of, number_at};
 pub use places::placed;
