@@ -10,6 +10,8 @@ mod cells;
 mod labels;
 mod numbers;
 mod pieces;
+mod row_cells;
+mod row_notes;
 mod rows;
 mod setups;
 mod things;

@@ -1,7 +1,7 @@
 use Rattle.std.proofs.Common.{◌++◌, ◌∙◌, List, ℕ, ap, string_bytes}
 use Rattle.page_rows.specs.Rows.{link_at}
 use Rattle.page_rows.proofs.Below.{below_more}
-use Rattle.page_rows.proofs.rows.links_text.Goals as goal
+use Rattle.page_rows.proofs.row_notes.links_text.Goals as goal
 
 pub loop-number-preserved : goal.loop-number-preserved
 loop-number-preserved c =
