@@ -7,6 +7,7 @@ mod amounts;
 mod decimals;
 mod escape;
 mod flows;
+mod layers;
 pub mod layout;
 mod names;
 mod writing;
