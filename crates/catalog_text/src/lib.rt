@@ -10,6 +10,7 @@ mod keys;
 mod named;
 mod prototypes;
 mod reading;
+mod sections;
 mod shown;
 mod things;
 mod trees;

@@ -1,7 +1,7 @@
 use Rattle.std.proofs.lemmas.Result.{IfOk-weaker}
 use Rattle.std.specs.Option.{option_copied}
 use Rattle.catalog_text.proofs.Known.{thing_is}
-use Rattle.catalog_text.proofs.catalog.known_text.Goals as goal
+use Rattle.catalog_text.proofs.sections.known_text.Goals as goal
 
 pub returns : goal.returns
 returns c =

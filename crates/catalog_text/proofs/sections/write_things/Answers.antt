@@ -2,7 +2,7 @@ use Rattle.std.proofs.Common.{◌∙◌, refl, subst, string_bytes}
 use Rattle.planner_core.specs.Lines.{Planned}
 use Rattle.catalog_text.specs.Catalog.{WritesThing}
 use Rattle.catalog_text.proofs.Written.{things_more, things_none}
-use Rattle.catalog_text.proofs.catalog.write_things.Goals as goal
+use Rattle.catalog_text.proofs.sections.write_things.Goals as goal
 
 pub loop-number-init : goal.loop-number-init
 loop-number-init g c = record { stays = refl; written = things_none c.args.planner.now.state c.args.sources.now.index.now c.args.kind (string_bytes c.args.text.now) }

@@ -5,7 +5,7 @@ use Rattle.game_types.specs.Nodes.{shape_of}
 use Rattle.game_types.specs.declared.games.Game.{Game}
 use Rattle.catalog_text.specs.Catalog.{AreTexts}
 use Rattle.catalog_text.proofs.Commas.{bracketed}
-use Rattle.catalog_text.proofs.catalog.write_section.Goals as goal
+use Rattle.catalog_text.proofs.sections.write_section.Goals as goal
 
 pub returns-clause-written : goal.returns-clause-written
 returns-clause-written g c =

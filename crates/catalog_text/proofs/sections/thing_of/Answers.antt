@@ -5,7 +5,7 @@ use Rattle.game_types.specs.declared.games.Game.{Game}
 use Rattle.planner_core.specs.Lines.{Planned}
 use Rattle.planner_questions.specs.Told.{mask_of, places_of}
 use Rattle.catalog_things.specs.Nodes.{thing_node}
-use Rattle.catalog_text.proofs.catalog.thing_of.Goals as goal
+use Rattle.catalog_text.proofs.sections.thing_of.Goals as goal
 
 pub returns-clause-thing : goal.returns-clause-thing
 returns-clause-thing g c = record {

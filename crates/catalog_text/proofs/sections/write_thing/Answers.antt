@@ -3,7 +3,7 @@ use Rattle.planner_core.specs.Lines.{Planned}
 use Rattle.std.proofs.lemmas.Result.{on_ok_weaker}
 use Rattle.std.specs.Prelude.{nat_lt}
 use Rattle.serde_json.specs.Written.{comma_if}
-use Rattle.catalog_text.proofs.catalog.write_thing.Goals as goal
+use Rattle.catalog_text.proofs.sections.write_thing.Goals as goal
 
 pub returns-clause-written : goal.returns-clause-written
 returns-clause-written g c =

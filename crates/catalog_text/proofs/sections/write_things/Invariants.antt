@@ -1,7 +1,7 @@
 use Rattle.std.proofs.Common.{◌≡◌}
 use Rattle.std.specs.Prelude.{string_bytes}
 use Rattle.catalog_text.specs.Catalog.{WritesThings}
-use Rattle.catalog_text.proofs.catalog.write_things.Given as goal
+use Rattle.catalog_text.proofs.sections.write_things.Given as goal
 
 -- no question changes the planner; so many things are written
 abbrev pub invariant-loop-number : goal.invariant-loop-number
