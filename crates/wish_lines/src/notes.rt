@@ -2,6 +2,7 @@
 ghost use Rattle.game_types.specs.Sound.{IsSound};
 
 use crate::names::good_text;
+use crate::words::{Done, push};
 use fractions::Ratio;
 use game_types::Game;
 use plan_base::{GoodId, NoMemory};
@@ -16,16 +17,6 @@ pub struct Notes<'a> {
     pub draw: Option<Ratio>,
     /// The words of the program that go before those that ask for more rows.
     pub command: &'a str,
-}
-
-// What is written to a text in memory, or that none could be had.
-type Done = Result<(), NoMemory>;
-
-fn push(text: &mut String, words: &[&str]) -> Done {
-    for word in words {
-        text.push_str(word)?;
-    }
-    Ok(())
 }
 
 // Whether a good is imported at the price of its estimate.

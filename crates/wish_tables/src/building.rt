@@ -2,15 +2,19 @@
 ghost use Rattle.game_types.specs.Sound.{IsSound};
 ghost use Rattle.production_table.specs.Tables.{IsSoundTable};
 
+use crate::faults::told;
+use crate::outside::{
+    add_extra_imports, add_extra_surpluses, add_import, add_imports, add_surpluses,
+};
 use crate::pricing::{plus, row_price};
 use fractions::Ratio;
 use game_types::{Game, Setup};
 use plan_base::{GoodId, NoMemory};
-use production_table::{LIMIT, Table, TableFault};
+use production_table::{LIMIT, Table};
 use std::alloc::Global;
-use wish_estimates::{Found, Ground, Walk, source_price};
+use wish_estimates::{Found, Ground, Walk};
 use wish_lines::push_label;
-use wish_setups::{WishFault, is_fitting, is_good_marked, price_in};
+use wish_setups::{WishFault, is_fitting};
 
 /// What goes out or comes in beside what the rows call for, and how many watts are wanted beside the wish.
 #[derive(Drop)]
@@ -27,21 +31,6 @@ impl Extra {
             imports: Vec::new(alloc),
             reserve: Ratio::zero(),
         }
-    }
-}
-
-fn fault_of(fault: TableFault) -> WishFault {
-    match fault {
-        TableFault::NoMemory => WishFault::NoMemory,
-        _ => WishFault::Full,
-    }
-}
-
-// Too much of something, where there is.
-fn told<T: Drop>(done: Result<T, TableFault>) -> Result<(), WishFault> {
-    match done {
-        Ok(_) => Ok(()),
-        Err(fault) => Err(fault_of(fault)),
     }
 }
 
@@ -121,93 +110,6 @@ fn add_row(
     told(table.set_price(alloc, label.as_str(), &price))
 }
 
-// The price at which a good comes in, where it does.
-fn import_price(ground: &Ground<'_>, walk: &Walk, good: GoodId) -> Option<Ratio> {
-    if let Some(price) = price_in(ground.wish.imports.as_slice(), good) {
-        return Some(price);
-    }
-    if is_good_marked(walk.raw.as_slice(), good) {
-        Some(source_price(ground.game, ground.wish, good))
-    } else if is_good_marked(walk.rim.as_slice(), good) {
-        Some(ground.estimates.price(good))
-    } else {
-        None
-    }
-}
-
-// What is taken as it is comes in.
-fn add_import(
-    alloc: Global,
-    ground: &Ground<'_>,
-    walk: &Walk,
-    table: &mut Table,
-    good: GoodId,
-) -> Result<(), WishFault>
-    requires { IsSoundTable table.old }
-    ensures { IsSoundTable table.new }
-{
-    match import_price(ground, walk, good) {
-        Some(price) => told(table.set_import(alloc, good, Some(price))),
-        None => Ok(()),
-    }
-}
-
-// What a column takes of goods that come from outside comes in.
-fn add_imports(
-    alloc: Global,
-    ground: &Ground<'_>,
-    walk: &Walk,
-    table: &mut Table,
-    column: &[(GoodId, Ratio)],
-) -> Result<(), WishFault>
-    requires { IsSoundTable table.old }
-    ensures { IsSoundTable table.new }
-{
-    for part in column {
-        if part.1.is_neg() {
-            add_import(alloc, ground, walk, table, part.0)?;
-        }
-    }
-    Ok(())
-}
-
-// How many goods a row gives.
-fn given_count(column: &[(GoodId, Ratio)]) -> usize {
-    column.iter().filter(|part| part.1.is_positive()).count()
-}
-
-// A good may go out at no price.
-fn add_surplus(alloc: Global, table: &mut Table, good: GoodId) -> Result<(), WishFault>
-    requires { IsSoundTable table.old }
-    ensures { IsSoundTable table.new }
-{
-    if price_in(table.surpluses.as_slice(), good).is_some() {
-        return Ok(());
-    }
-    told(table.set_surplus(alloc, good, Some(Ratio::zero())))
-}
-
-// What a row gives beside another good may go out, but for what is wished.
-fn add_surpluses(
-    alloc: Global,
-    walk: &Walk,
-    table: &mut Table,
-    column: &[(GoodId, Ratio)],
-) -> Result<(), WishFault>
-    requires { IsSoundTable table.old }
-    ensures { IsSoundTable table.new }
-{
-    if given_count(column) < 2 {
-        return Ok(());
-    }
-    for part in column {
-        if part.1.is_positive() && !walk.is_wanted(part.0) {
-            add_surplus(alloc, table, part.0)?;
-        }
-    }
-    Ok(())
-}
-
 // A row comes in with what it takes and gives.
 fn add_whole_row(
     alloc: Global,
@@ -241,32 +143,6 @@ fn add_rows(
         if let Some(row) = walk.rows.as_slice().get(*place) {
             add_whole_row(alloc, ground, walk, table, row)?;
         }
-    }
-    Ok(())
-}
-
-fn add_extra_surpluses(alloc: Global, goods: &[GoodId], table: &mut Table) -> Result<(), WishFault>
-    requires table { IsSoundTable table.old }
-    ensures { IsSoundTable table.new }
-{
-    for good in goods {
-        add_surplus(alloc, table, *good)?;
-    }
-    Ok(())
-}
-
-fn add_extra_imports(
-    alloc: Global,
-    ground: &Ground<'_>,
-    goods: &[GoodId],
-    table: &mut Table,
-) -> Result<(), WishFault>
-    requires table { IsSoundTable table.old }
-    ensures { IsSoundTable table.new }
-{
-    for good in goods {
-        let price = ground.estimates.price(*good);
-        told(table.set_import(alloc, *good, Some(price)))?;
     }
     Ok(())
 }

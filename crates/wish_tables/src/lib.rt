@@ -3,11 +3,14 @@
 #![tactic(auto)]
 
 mod building;
+mod faults;
 mod meeting;
 mod orders;
+mod outside;
 mod power;
 mod pricing;
 mod trying;
+mod walks;
 
 pub use meeting::{more_rows, wish_table};
 pub use wish_estimates::given_variants;

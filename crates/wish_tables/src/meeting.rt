@@ -5,16 +5,16 @@ ghost use Rattle.production_table.specs.Tables.{IsSoundTable};
 ghost use Rattle.wish_checks.specs.Answers.{IsMet};
 ghost use Rattle.wish_tables.specs.Outcomes.{HasSoundTable, TriedSoundTable};
 
-use crate::orders::{ORDERS, ordered};
+use crate::orders::ordered;
 use crate::trying::{Outcome, Trial, try_order};
-use fractions::Ratio;
+use crate::walks::walk_of;
 use game_types::Game;
-use plan_base::{GoodId, Items, NoMemory};
-use production_table::{LIMIT, Table, TableFault, TableRow};
+use plan_base::{GoodId, NoMemory};
+use production_table::{LIMIT, Table, TableFault};
 use std::alloc::Global;
 use wish_checks::is_met;
-use wish_estimates::{Estimates, Ground, Walk, walk_further, walk_on, why_unmade};
-use wish_setups::{Met, State, Wish, WishFault, column_in, mined_goods, price_in, reached_fuels};
+use wish_estimates::{Estimates, Ground, Walk, why_unmade};
+use wish_setups::{Met, State, Wish, WishFault, mined_goods, price_in, reached_fuels};
 
 // How the tables of a size ended.
 #[derive(Drop)]
@@ -38,57 +38,6 @@ fn try_orders(alloc: Global, trial: &Trial<'_>, walk: &Walk) -> Result<Outcome, 
         }
     }
     Ok(Outcome::Unsolved)
-}
-
-// A good that the table that stands has isn't looked for.
-fn mark_had(walk: &mut Walk, pairs: &[(GoodId, Ratio)]) {
-    for (good, amount) in pairs {
-        if !amount.is_neg() {
-            walk.has(*good);
-        }
-    }
-}
-
-fn mark_row(
-    alloc: Global,
-    ground: &Ground<'_>,
-    walk: &mut Walk,
-    power: bool,
-    row: &TableRow,
-) -> Result<(), NoMemory>
-    requires { IsSound ground.now.game.now }
-{
-    if let Some(column) = column_in(alloc, ground.game, power, &row.setup)? {
-        mark_had(walk, column.as_slice());
-    }
-    Ok(())
-}
-
-// What the table that stands gives or brings isn't looked for.
-fn mark_start(alloc: Global, trial: &Trial<'_>, walk: &mut Walk) -> Result<(), NoMemory>
-    requires { IsSound trial.now.ground.game.now }
-{
-    mark_had(walk, trial.start.imports.as_slice());
-    for row in trial.start.rows.as_slice() {
-        mark_row(alloc, &trial.ground, walk, trial.start.power, row)?;
-    }
-    Ok(())
-}
-
-// A walk of so many rows, with further ways or without.
-fn walk_of(alloc: Global, trial: &Trial<'_>, most: usize, further: bool) -> Result<Walk, NoMemory>
-    requires { IsSound trial.now.ground.game.now }
-{
-    let mut walk = Walk::new(alloc, &trial.ground, most)?;
-    mark_start(alloc, trial, &mut walk)?;
-    for (good, _) in trial.ground.wish.wants.as_slice() {
-        walk.want(*good)?;
-    }
-    walk_on(alloc, &trial.ground, &mut walk)?;
-    if further {
-        walk_further(alloc, &trial.ground, &mut walk)?;
-    }
-    Ok(walk)
 }
 
 // How a walk's tables end: met, or without a plan, or unsolved.
