@@ -2,12 +2,15 @@
 //! for a wish has, so nothing is claimed of it but that it is safe and ends.
 #![tactic(auto)]
 
+mod costs;
 mod estimates;
 mod found;
 mod further;
+mod listing;
 mod reasons;
 mod variants;
 mod walk;
+mod ways;
 
 pub use estimates::Estimates;
 pub use found::{Found, Ground, part_of};
