@@ -1,138 +1,14 @@
-//! What is mined, pumped, heated, generated and researched as ways.
+//! What is pumped, heated, generated and researched as ways.
 ghost use Rattle.game_types.specs.Sound.{IsSound};
 
+use crate::best_ways::push_best;
 use crate::network::Network;
 use crate::numbers::float_of;
-use crate::prices::{free_price, pump_price, source_price};
-use crate::recipes::expected;
-use fractions::{Ratio, is_positive};
-use game_types::{Activity, Game, MachineKind, Product, Setup, Source};
-use plan_base::{GoodId, Kind, NoMemory, SourceId, TechId};
+use crate::prices::{free_price, pump_price};
+use game_types::{Activity, Game, MachineKind};
+use plan_base::{GoodId, Kind, NoMemory, TechId};
 use std::alloc::Global;
-use wish_setups::{
-    State, Wish, best_setup, column_in, is_good_marked, is_good_reached, is_reached, mark_good,
-};
-
-// The parts of a column come in, as what is taken and given.
-fn push_column(column: &[(GoodId, Ratio)], network: &mut Network) -> Result<(), NoMemory> {
-    for (good, amount) in column {
-        if is_positive(amount) {
-            network.push_give(*good, float_of(amount))?;
-        } else {
-            let from = network.next_fit();
-            network.push_fit(*good)?;
-            network.push_take(from, -float_of(amount))?;
-        }
-    }
-    Ok(())
-}
-
-fn takes_some(column: &[(GoodId, Ratio)]) -> bool {
-    column.iter().any(|part| part.1.is_neg())
-}
-
-// A set-up comes in as a way.
-fn push_setup(
-    alloc: Global,
-    game: &Game,
-    setup: &Setup,
-    at: Option<GoodId>,
-    own: f64,
-    network: &mut Network,
-) -> Result<(), NoMemory>
-    requires { IsSound game.now }
-{
-    let Some(column) = column_in(alloc, game, false, setup)? else {
-        return Ok(());
-    };
-    let takes = network.next_take();
-    let gives = network.next_give();
-    push_column(column.as_slice(), network)?;
-    let own = if takes_some(column.as_slice()) {
-        0.0
-    } else {
-        own
-    };
-    network.push_way(setup.activity, at, own, takes, gives)
-}
-
-// The best set-up of an activity comes in as a way, where there is one. `own` is what one craft costs where it takes nothing.
-fn push_best(
-    alloc: Global,
-    game: &Game,
-    state: State<'_>,
-    wish: &Wish,
-    activity: Activity,
-    at: Option<GoodId>,
-    own: f64,
-    network: &mut Network,
-) -> Result<(), NoMemory>
-    requires { IsSound game.now }
-{
-    let setup = match at {
-        Some(fluid) => best_setup(alloc, game, state, wish, activity, &[fluid])?,
-        None => best_setup(alloc, game, state, wish, activity, &[])?,
-    };
-    match setup {
-        Some(setup) => push_setup(alloc, game, &setup, at, own, network),
-        None => Ok(()),
-    }
-}
-
-fn push_products(products: &[Product], network: &mut Network) -> Result<f64, NoMemory> {
-    let mut units = 0.0;
-    for product in products {
-        let amount = expected(product);
-        if amount > 0.0 {
-            network.push_give(product.good, amount)?;
-            units = units + amount;
-        }
-    }
-    Ok(units)
-}
-
-fn push_source(
-    game: &Game,
-    wish: &Wish,
-    number: SourceId,
-    source: &Source,
-    network: &mut Network,
-) -> Result<(), NoMemory> {
-    let takes = network.next_take();
-    let gives = network.next_give();
-    let units = push_products(source.products.as_slice(), network)?;
-    if let Some((fluid, amount)) = &source.fluid {
-        let from = network.next_fit();
-        network.push_fit(*fluid)?;
-        network.push_take(from, float_of(amount))?;
-    }
-    let price = match source.products.as_slice().first() {
-        Some(product) => float_of(&source_price(game, wish, product.good)),
-        None => 0.0,
-    };
-    network.push_way(Activity::Mine(number), None, price * units, takes, gives)
-}
-
-/// The reached sources come in that drills mine.
-pub fn push_sources(
-    game: &Game,
-    state: State<'_>,
-    wish: &Wish,
-    network: &mut Network,
-) -> Result<(), NoMemory>
-    requires { IsSound game.now }
-{
-    for place in 0..game.shape().sources {
-        if is_reached(game, state.reached, Kind::Source, place) {
-            if let Some(source) = game.sources.as_slice().get(place as usize) {
-                if source.drilled {
-                    push_source(game, wish, SourceId(place), source, network)?;
-                }
-            }
-        }
-    }
-    Ok(())
-}
+use wish_setups::{State, Wish, is_good_marked, is_good_reached, is_reached, mark_good};
 
 // A pumped fluid comes in, and its mark.
 fn push_pump(
