@@ -3,7 +3,7 @@ ghost use Rattle.std.specs.Prelude.{◌≡◌, ◌<◌, Option, None, Some, leng
 ghost use Rattle.wish_setups.specs.Choice.{best_below, best_fuel, burner_fuel, fuel_for, fuel_rank, good_at, is_burner, is_import, is_raw, rank_at, rank_of_fuel, value_in, value_of};
 
 use crate::Wish;
-use crate::choosing::is_import;
+use crate::imports::is_import;
 use crate::ranks::{Rank, better};
 use crate::reach::is_good_marked;
 use fractions::Ratio;

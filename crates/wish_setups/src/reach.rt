@@ -9,6 +9,14 @@ use game_types::{Game, Product};
 use plan_base::{GoodId, Kind, NoMemory};
 use std::alloc::Global;
 
+/// What is known of a game: which things are reached, by node, which goods sources give, and which reached items are fuels.
+#[derive(Clone, Copy)]
+pub struct State<'a> {
+    pub reached: &'a [bool],
+    pub mined: &'a [bool],
+    pub fuels: &'a [GoodId],
+}
+
 /// Whether a mark stands at a place.
 pub fn is_marked(marks: &[bool], place: usize) -> bool
     ensures { result ≡ slice_index_or marks.now place false }
