@@ -8,11 +8,19 @@ use plan_io::{Failed, HostSink, HostStore, Sink, Store};
 use std::process::ExitCode;
 
 #[cfg(test)]
+mod endings;
+#[cfg(test)]
+mod kept_answers;
+#[cfg(test)]
 mod memory;
 #[cfg(test)]
 mod pieces;
 #[cfg(test)]
+mod run_words;
+#[cfg(test)]
 mod runs;
+#[cfg(test)]
+mod sample_runs;
 #[cfg(test)]
 mod samples;
 #[cfg(test)]
