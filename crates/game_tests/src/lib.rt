@@ -10,6 +10,16 @@ mod fitting;
 #[cfg(test)]
 mod games;
 #[cfg(test)]
+mod line_rows;
+#[cfg(test)]
 mod lines;
 #[cfg(test)]
 mod rates;
+#[cfg(test)]
+mod shown_changes;
+#[cfg(test)]
+mod shown_commands;
+#[cfg(test)]
+mod shown_rows;
+#[cfg(test)]
+mod shown_words;
