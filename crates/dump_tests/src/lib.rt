@@ -8,6 +8,10 @@ mod drafts;
 #[cfg(test)]
 mod faults;
 #[cfg(test)]
+mod field_rows;
+#[cfg(test)]
+mod field_values;
+#[cfg(test)]
 mod fields;
 #[cfg(test)]
 mod lines;
