@@ -1,5 +1,5 @@
 -- Floors: the ranks of a world that bars less, or none.
-use Rattle.std.proofs.Common.{◌≡◌, ◌≢◌, ℕ, zero, suc, ◌+◌, ◌<◌, ◌≤◌, Bool, true, false, eqb, not, ◌&&◌, ◌||◌, List, [], ◌∷◌, Option, Some, None, length, slice_get, get_or, refl, sym, ◌∙◌, ap, subst, arith, inl, inr}
+use Rattle.std.proofs.Common.{◌≡◌, ℕ, zero, suc, ◌<◌, ◌≤◌, Bool, true, false, eqb, not, ◌&&◌, ◌||◌, List, [], ◌∷◌, Option, None, length, slice_get, get_or, refl, sym, ◌∙◌, ap, subst, arith, inl, inr}
 use Rattle.std.proofs.Math.ListN.{get_or-eq_default}
 use Rattle.std.proofs.lemmas.Bool.{cases_eq, cases_lt, cases_Bool, and_parts, false≢true, ne_eqb}
 use Rattle.std.proofs.lemmas.Bool.Decides.{nat_tests}
@@ -8,8 +8,8 @@ use Rattle.plan_base.specs.declared.NodeId.{NodeId}
 use Rattle.graph_store.specs.declared.Row.{Row}
 use Rattle.graph_store.specs.Rows.{has_node}
 use Rattle.graph_store.proofs.ReplaceLemmas.{get_or_inside}
-use Rattle.reach_ranks.specs.Rounds.{World, Nodes, world, has_groups, is_barred, is_granted, is_node, admits, round, IsWithin, IsWhole}
-use Rattle.reach_ranks.specs.Ranks.{rank, AreRanks, is_one_to, within, Agrees}
+use Rattle.reach_ranks.specs.Rounds.{World, Nodes, world, has_groups, is_granted, is_node, admits, IsWithin, IsWhole}
+use Rattle.reach_ranks.specs.Ranks.{AreRanks, is_one_to, within, Agrees}
 use Rattle.reach_ranks.specs.Given.{given}
 use Rattle.reach_ranks.specs.Floors.{is_above, AreAbove, IsFloor}
 use Rattle.reach_ranks.proofs.RoundLemmas.{admits-within}

@@ -1,9 +1,9 @@
 //! The ranks, computed from nothing, round by round, as the definition says it.
 ghost use Rattle.std.specs.Prelude.{◌≡◌, ◌+◌, ◌<◌, ◌≤◌, false, length, IfOk};
-ghost use Rattle.reach_ranks.specs.Rounds.{admits, world, world_under, IsWhole};
+ghost use Rattle.reach_ranks.specs.Rounds.{admits, world_under, IsWhole};
 ghost use Rattle.reach_ranks.specs.Ranks.{within, AreRanks, AreRanksTo};
 
-use crate::marks::{Marks, is_barred};
+use crate::marks::{WorldMarks, is_barred};
 use crate::ranks::Ranks;
 use crate::satisfied::satisfies_row;
 use graph_store::Rows;
@@ -15,7 +15,7 @@ fn comes_in<R: Rows<L>, L>(
     ranks: &[u32],
     k: u32,
     rows: &R,
-    marks: Marks<'_>,
+    marks: WorldMarks<'_>,
     node: NodeId,
     steps: &mut Steps<L>,
 ) -> bool
@@ -40,7 +40,7 @@ fn add_round<R: Rows<L>, L>(
     ranks: &mut [u32],
     k: u32,
     rows: &R,
-    marks: Marks<'_>,
+    marks: WorldMarks<'_>,
     steps: &mut Steps<L>,
 ) -> bool
     requires before { AreRanksTo (world_under (R.rows rows.now) marks) k ranks.old }
@@ -61,7 +61,12 @@ fn add_round<R: Rows<L>, L>(
 }
 
 /// Goes from no rounds to all of them.
-fn add_rounds<R: Rows<L>, L>(ranks: &mut [u32], rows: &R, marks: Marks<'_>, steps: &mut Steps<L>)
+fn add_rounds<R: Rows<L>, L>(
+    ranks: &mut [u32],
+    rows: &R,
+    marks: WorldMarks<'_>,
+    steps: &mut Steps<L>,
+)
     requires before { AreRanksTo (world_under (R.rows rows.now) marks) 0 ranks.old }
     requires marks { IsWhole (world_under (R.rows rows.now) marks) }
     ensures ranks { AreRanks (world_under (R.rows rows.now) marks.entry) ranks.new }
@@ -74,7 +79,7 @@ fn add_rounds<R: Rows<L>, L>(ranks: &mut [u32], rows: &R, marks: Marks<'_>, step
     }
 }
 
-/// The rank of each node where the marks and `extra` are barred, round by round.
+/// The rank of each node under the marks, round by round.
 ///
 /// It says the same as [`ranks_afresh`](crate::ranks_afresh), which needs fewer steps.
 ///
@@ -84,21 +89,14 @@ fn add_rounds<R: Rows<L>, L>(ranks: &mut [u32], rows: &R, marks: Marks<'_>, step
 pub fn ranks_by_rounds<R: Rows<L>, L>(
     alloc: Global,
     rows: &R,
-    barred: &[bool],
-    granted: &[bool],
-    extra: Option<NodeId>,
+    marks: WorldMarks<'_>,
     steps: &mut Steps<L>,
 ) -> Result<Ranks, NoMemory>
-    requires { IsWhole (world (R.rows rows.now) barred.now granted.now extra) }
-    ensures ranks { IfOk result (λ ranks. AreRanks (world (R.rows rows.now) barred.now granted.now extra) ranks.of.items) }
+    requires { IsWhole (world_under (R.rows rows.now) marks) }
+    ensures ranks { IfOk result (λ ranks. AreRanks (world_under (R.rows rows.now) marks.entry) ranks) }
     ensures later { steps.old ≤ steps.new }
 {
     let mut of = vec![in alloc; 0u32; rows.len() as usize]?;
-    let marks = Marks {
-        barred,
-        granted,
-        extra,
-    };
     add_rounds(&mut of, rows, marks, steps);
     Ok(Ranks { of })
 }

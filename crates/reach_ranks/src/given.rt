@@ -5,7 +5,7 @@ ghost use Rattle.reach_ranks.specs.Rounds.{is_satisfied, has_groups, world_under
 ghost use Rattle.reach_ranks.specs.Ranks.{is_one_to, within};
 ghost use Rattle.reach_ranks.specs.Given.{given};
 
-use crate::marks::{Marks, is_barred};
+use crate::marks::{WorldMarks, is_barred};
 use crate::order::{earlier, later, next_rank};
 use graph_store::{Group, Row, Rows};
 use plan_base::{NodeId, Steps};
@@ -68,7 +68,7 @@ fn row_rank(ranks: &[u32], row: &Row) -> u32
 pub fn given_rank<R: Rows<L>, L>(
     ranks: &[u32],
     rows: &R,
-    marks: Marks<'_>,
+    marks: WorldMarks<'_>,
     node: NodeId,
     steps: &mut Steps<L>,
 ) -> u32

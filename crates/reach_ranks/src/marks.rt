@@ -4,9 +4,16 @@ ghost use Rattle.reach_ranks.specs.Rounds.{is_node};
 
 use plan_base::NodeId;
 
-/// Which nodes are barred and which are granted, and one more that is barred.
+/// Which nodes are barred and which are granted.
 #[derive(Clone, Copy)]
 pub struct Marks<'a> {
+    pub barred: &'a [bool],
+    pub granted: &'a [bool],
+}
+
+/// Which nodes are barred and which are granted in one world, and the node that is barred in it as well.
+#[derive(Clone, Copy)]
+pub struct WorldMarks<'a> {
     pub barred: &'a [bool],
     pub granted: &'a [bool],
     pub extra: Option<NodeId>,
@@ -23,7 +30,7 @@ pub fn is_node(extra: Option<NodeId>, node: NodeId) -> bool
 }
 
 /// Whether the node is barred, by its mark or as the extra one.
-pub fn is_barred(marks: Marks<'_>, node: NodeId) -> bool
+pub fn is_barred(marks: WorldMarks<'_>, node: NodeId) -> bool
     requires { node.0 < length marks.barred.now }
     ensures { result ≡ (slice_index_or marks.entry.barred.now node.0 false || is_node marks.entry.extra node.0) }
 {

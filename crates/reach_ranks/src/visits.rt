@@ -1,5 +1,5 @@
 //! Visits: the node of the least key gets its rank, and the nodes that use it get their keys, until none has a key.
-ghost use Rattle.std.specs.Prelude.{◌≡◌, ℕ, ◌+◌, ◌*◌, ◌-◌, ◌^◌, ◌<◌, ◌≤◌, None, Some, false, true, All, length, replicate, slice_index, slice_index_or, slice_set};
+ghost use Rattle.std.specs.Prelude.{◌≡◌, ℕ, ◌+◌, ◌-◌, ◌^◌, ◌<◌, ◌≤◌, None, false, true, All, length, replicate, slice_index, slice_index_or, slice_set};
 ghost use Rattle.index_heap.specs.Keys.{key_at};
 ghost use Rattle.reach_ranks.specs.Rounds.{world_under, IsWhole};
 ghost use Rattle.reach_ranks.specs.Ranks.{AreRanks};
@@ -8,7 +8,7 @@ ghost use Rattle.reach_ranks.specs.Floors.{AreAbove, IsFloor};
 
 use crate::given::given_rank;
 use crate::keys::{floor_of, is_key, next_kept, put, right_key};
-use crate::marks::Marks;
+use crate::marks::WorldMarks;
 use graph_store::Rows;
 use index_heap::Heap;
 use plan_base::{NodeId, Steps};
@@ -17,7 +17,7 @@ use plan_base::{NodeId, Steps};
 pub fn refresh<R: Rows<L>, L>(
     ranks: &[u32],
     rows: &R,
-    marks: Marks<'_>,
+    marks: WorldMarks<'_>,
     heap: &mut Heap,
     node: NodeId,
     steps: &mut Steps<L>,
@@ -39,7 +39,7 @@ pub fn refresh<R: Rows<L>, L>(
 pub fn refresh_all<R: Rows<L>, L>(
     ranks: &[u32],
     rows: &R,
-    marks: Marks<'_>,
+    marks: WorldMarks<'_>,
     heap: &mut Heap,
     nodes: &[NodeId],
     steps: &mut Steps<L>,
@@ -110,7 +110,7 @@ fn give_keys(ranks: &[u32], floor: &[u32], heap: &mut Heap, users: &[NodeId], co
 fn visit_least<R: Rows<L>, L>(
     ranks: &mut [u32],
     rows: &R,
-    marks: Marks<'_>,
+    marks: WorldMarks<'_>,
     floor: &[u32],
     heap: &mut Heap,
     steps: &mut Steps<L>,
@@ -155,7 +155,7 @@ fn visit_least<R: Rows<L>, L>(
 pub fn settle_above<R: Rows<L>, L>(
     ranks: &mut [u32],
     rows: &R,
-    marks: Marks<'_>,
+    marks: WorldMarks<'_>,
     floor: &[u32],
     heap: &mut Heap,
     steps: &mut Steps<L>,
@@ -177,7 +177,7 @@ pub fn settle_above<R: Rows<L>, L>(
 pub fn settle<R: Rows<L>, L>(
     ranks: &mut [u32],
     rows: &R,
-    marks: Marks<'_>,
+    marks: WorldMarks<'_>,
     heap: &mut Heap,
     steps: &mut Steps<L>,
 )
