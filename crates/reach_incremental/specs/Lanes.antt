@@ -3,6 +3,7 @@ use Rattle.std.specs.Prelude.{ℕ, ◌-◌, ◌^◌, ◌<◌, ◌≤◌, ◌≡�
 use Rattle.plan_base.specs.declared.NodeId.{NodeId}
 use Rattle.graph_store.specs.declared.Row.{Row}
 use Rattle.graph_store.specs.Rows.{has_node}
+use Rattle.reach_ranks.specs.declared.marks.Marks.{Marks}
 use Rattle.reach_ranks.specs.Rounds.{World, world}
 use Rattle.reach_ranks.specs.Ranks.{AreRanks, Agrees}
 use Rattle.reach_ranks.specs.Floors.{AreAbove, IsFloor}
@@ -18,7 +19,11 @@ pub record Worlds : Type 0 where
 abbrev pub worlds : List Row → List Bool → List Bool → List (Option NodeId) → Worlds
 worlds rows barred granted extras = record { rows = rows; barred = barred; granted = granted; extras = extras }
 
--- the worlds of the rows under the marks
+-- the worlds of the rows under the marks, in each of which the node of the lane is barred as well
+abbrev pub worlds_with : List Row → Marks → List (Option NodeId) → Worlds
+worlds_with rows marks extras = worlds rows marks.barred.now marks.granted.now extras
+
+-- the worlds of the rows under their marks
 abbrev pub worlds_under : List Row → LaneMarks → Worlds
 worlds_under rows marks = worlds rows marks.barred.now marks.granted.now marks.extras.now
 

@@ -1,7 +1,7 @@
 //! Ranks of sixteen worlds repaired after a change.
 ghost use Rattle.std.specs.Prelude.{◌≡◌, ℕ, ◌+◌, ◌*◌, ◌<◌, ◌≤◌, None, false, true, All, length, replicate, slice_index, slice_index_or};
 ghost use Rattle.graph_store.specs.Rows.{has_node};
-ghost use Rattle.reach_ranks.specs.Rounds.{world, IsWhole};
+ghost use Rattle.reach_ranks.specs.Rounds.{IsWhole};
 ghost use Rattle.reach_ranks.specs.Ranks.{AreRanks};
 ghost use Rattle.reach_ranks.specs.Floors.{is_above};
 ghost use Rattle.reach_incremental.specs.Lanes.{is_live, is_one, lane, worlds_under, base_of, AreLive, AgreeInLanes, AreLaneRanks, AreLanesAbove, AreSmall, IsLaneFloor};

@@ -7,13 +7,13 @@ ghost use Rattle.reach_ranks.specs.Given.{size_of};
 use graph_store::Rows;
 use index_heap::Heap;
 use plan_base::{NodeId, Steps};
-use reach_ranks::{Marks, refresh_all, settle};
+use reach_ranks::{Ranks, WorldMarks, refresh_all, settle};
 
 /// Leaves the ranks of the rows and marks as they are now, after a change of the nodes' rows and marks.
 pub fn repair<R: Rows<L>, L>(
-    ranks: &mut [u32],
+    ranks: &mut Ranks,
     rows: &R,
-    marks: Marks<'_>,
+    marks: WorldMarks<'_>,
     heap: &mut Heap,
     changed: &[NodeId],
     steps: &mut Steps<L>,
@@ -28,6 +28,6 @@ pub fn repair<R: Rows<L>, L>(
     ensures later { steps.old ≤ steps.new }
 {
     let _count = rows.len();
-    refresh_all(ranks, rows, marks, heap, changed, steps);
-    settle(ranks, rows, marks, heap, steps);
+    refresh_all(&ranks.of, rows, marks, heap, changed, steps);
+    settle(&mut ranks.of, rows, marks, heap, steps);
 }

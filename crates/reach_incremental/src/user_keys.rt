@@ -1,5 +1,5 @@
 //! The keys of the nodes that use a node, after it got other ranks in some lanes.
-ghost use Rattle.std.specs.Prelude.{◌≡◌, ℕ, ◌<◌, ◌≤◌, ◌==◌, ◌&&◌, not, Option, false, true, All, length, max, min, slice_index, slice_index_or, slice_set};
+ghost use Rattle.std.specs.Prelude.{◌≡◌, ℕ, ◌<◌, ◌≤◌, ◌==◌, ◌&&◌, not, false, true, All, length, slice_index, slice_index_or, slice_set};
 ghost use Rattle.index_heap.specs.Keys.{key_at};
 ghost use Rattle.reach_ranks.specs.Ranks.{is_one_to};
 ghost use Rattle.reach_ranks.specs.Given.{is_by, key_after};
