@@ -1,12 +1,11 @@
 -- The lanes of blocks, and the slots.
 use Rattle.std.specs.Prelude.{map, position}
-use Rattle.std.proofs.Common.{◌≡◌, ◌≢◌, ℕ, zero, suc, ◌+◌, ◌-◌, ◌^◌, ◌<◌, ◌≤◌, Bool, true, false, not, cond, eqb, ltb, List, [], ◌∷◌, ◌++◌, Option, Some, None, length, slice_get, get_or, take, drop, refl, sym, ◌∙◌, ap, ap₂, subst, arith, inl, inr}
+use Rattle.std.proofs.Common.{◌≡◌, ◌≢◌, ℕ, zero, suc, ◌+◌, ◌-◌, ◌^◌, ◌<◌, ◌≤◌, Bool, true, false, not, cond, eqb, ltb, List, [], ◌∷◌, ◌++◌, Option, Some, None, length, slice_get, get_or, refl, sym, ◌∙◌, ap, ap₂, subst, arith, inl, inr}
 use Rattle.std.proofs.Math.ListN.{replicate, set, get_or-eq_default}
 use Rattle.std.proofs.lemmas.Bool.{cases_lt, cases_eq}
 use Rattle.std.proofs.lemmas.Option.{slice_get-get_or, slice_get_past}
 use Rattle.std.proofs.lemmas.List.{length-set, get_or-set_same, get_or-set_other, set-get_or, get_or-replicate, length-map, ext_get_or}
 use Rattle.std.specs.List.{prefix_len}
-use Rattle.std.proofs.Math.Seq.{take-append_seam}
 use Rattle.plan_base.specs.declared.NodeId.{NodeId}
 use Rattle.reach_incremental.specs.Lanes.{lane, AreSmall}
 use Rattle.reach_incremental.proofs.LaneLemmas.{lane-at, lane-long, lane-set}
@@ -226,11 +225,6 @@ occupied nodes b l node ranks old new before after lt was e are extra_is extras_
         ];
       };
     }
-
--- a slice that is lent by a vector and comes back
-
-pub whole-back : {X : Type 0} (n : ℕ) (xs ys : List X) → length xs ≡ n → take n (xs ++ drop (length xs) ys) ≡ xs
-whole-back {X} n xs ys e = ap (λ k. take k (xs ++ drop (length xs) ys)) (sym e) ∙ take-append_seam xs (drop (length xs) ys)
 
 -- the place of a milestone
 

@@ -3,9 +3,9 @@ ghost use Rattle.std.specs.Prelude.{◌≡◌, ℕ, ◌<◌, None, Some, length,
 ghost use Rattle.reach_incremental.specs.Lanes.{lane, AreSmall};
 ghost use Rattle.milestone_masks.specs.Held.{extra_at, AreBlocks, AreCopies, Grows, Occupies};
 
-use crate::ranks::WorldRanks;
 use plan_base::NodeId;
 use reach_incremental::Lanes;
+use reach_ranks::Ranks;
 use std::alloc::{AllocError, Global};
 
 /// The ranks of sixteen worlds, by node, and the milestone of each; a lane without one is idle.
@@ -119,7 +119,7 @@ fn put_rank(row: &mut Lanes, l: usize, rank: u32)
 }
 
 /// Writes the ranks of a world into a lane.
-fn write_lane(to: &mut [Lanes], l: usize, from: &WorldRanks)
+fn write_lane(to: &mut [Lanes], l: usize, from: &Ranks)
     requires lane { l < 16 }
     requires long { length to.old ≡ length from.now }
     requires small { AreSmall to.old }
@@ -144,7 +144,7 @@ fn name(extras: &mut [Option<NodeId>; 16], l: usize, node: NodeId)
 }
 
 /// Gives a lane of a block to a milestone.
-fn fill(block: &mut Block, l: usize, node: NodeId, ranks: &WorldRanks)
+fn fill(block: &mut Block, l: usize, node: NodeId, ranks: &Ranks)
     requires lane { l < 16 }
     requires long { length block.old.ranks.items ≡ length ranks.now }
     requires small { AreSmall block.old.ranks.items }
@@ -160,7 +160,7 @@ fn fill(block: &mut Block, l: usize, node: NodeId, ranks: &WorldRanks)
 }
 
 /// Gives an idle lane to a milestone.
-pub fn occupy(blocks: &mut [Block], place: Place, node: NodeId, ranks: &WorldRanks)
+pub fn occupy(blocks: &mut [Block], place: Place, node: NodeId, ranks: &Ranks)
     requires inside { (place.block < length blocks.old) × (place.lane < 16) }
     requires blocks { AreBlocks (length ranks.now) blocks.old }
     ensures { Occupies (length ranks.now) place.block place.lane node ranks.now blocks.old blocks.new }

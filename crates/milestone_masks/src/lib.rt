@@ -1,13 +1,17 @@
 //! One world for each milestone: the game with that milestone barred, and the ranks in it.
 #![tactic(auto)]
 
+mod additions;
 mod blocks;
 mod laws;
+mod masks;
 mod milestones;
 mod missing;
-mod ranks;
+mod questions;
+mod row_blocks;
 mod slot_repairs;
 mod slots;
+mod supports;
 mod why;
 mod worlds;
 

@@ -1,19 +1,19 @@
 //! The milestones in their order, with the ranks of their worlds.
 ghost use Rattle.std.specs.Prelude.{◌≡◌, ◌+◌, ◌*◌, ◌<◌, ◌≤◌, None, Some, [], All, insert, length, map, remove, replicate, slice_get, slice_index, IfOk, OnErr, OnOk};
 ghost use Rattle.std.specs.Bool.{OnTrue};
-ghost use Rattle.reach_ranks.specs.Rounds.{world, IsWhole};
+ghost use Rattle.reach_ranks.specs.Rounds.{world_with, IsWhole};
 ghost use Rattle.reach_ranks.specs.Ranks.{AgreeBut, AreRanks};
 ghost use Rattle.reach_ranks.specs.Given.{sum_below};
 ghost use Rattle.milestone_masks.specs.Worlds.{place_of, size_in_world};
 
 use crate::blocks::{Block, copy_blocks};
-use crate::ranks::WorldRanks;
 use crate::slot_repairs::repair_slots;
 use crate::slots::{Slot, are_same, insert_slot, place_in, rank_at, remove_slot};
 use crate::worlds::Milestone;
 use graph_store::Rows;
 use index_heap::Heap;
 use plan_base::{NoMemory, NodeId, Steps};
+use reach_ranks::{Marks, Ranks};
 use std::alloc::{AllocError, Global};
 use std::marker::Model;
 
@@ -137,22 +137,21 @@ impl Milestones {
     /// Repairs the ranks of each milestone's world, where those of the base world are right.
     pub fn repair_each<R: Rows<L>, L>(
         &mut self,
-        base: &WorldRanks,
+        base: &Ranks,
         rows: &R,
-        barred: &[bool],
-        granted: &[bool],
+        marks: Marks<'_>,
         heap: &mut Heap,
         changed: &[NodeId],
         steps: &mut Steps<L>,
     )
         requires nodes { self.old.nodes ≡ length (R.rows rows.now) }
-        requires marks { IsWhole (world (R.rows rows.now) barred.now granted.now None) }
-        requires base { AreRanks (world (R.rows rows.now) barred.now granted.now None) base.now }
+        requires marks { IsWhole (world_with (R.rows rows.now) marks None) }
+        requires base { AreRanks (world_with (R.rows rows.now) marks None) base.now }
         requires heap { heap.old ≡ replicate (length (R.rows rows.now)) None }
         requires changed { All (λ n. n.0 < length (R.rows rows.now)) changed.now }
-        requires agree { All (λ m. AgreeBut (world (R.rows rows.now) barred.now granted.now (Some m.node)) changed.now m.ranks) self.old.items }
+        requires agree { All (λ m. AgreeBut (world_with (R.rows rows.now) marks (Some m.node)) changed.now m.ranks) self.old.items }
         ensures nodes { self.new.nodes ≡ self.old.nodes }
-        ensures ranks { All (λ m. AreRanks (world (R.rows rows.now) barred.now granted.now (Some m.node)) m.ranks) self.new.items }
+        ensures ranks { All (λ m. AreRanks (world_with (R.rows rows.now) marks.entry (Some m.node)) m.ranks) self.new.items }
         ensures milestones { map (λ m. m.node) self.new.items ≡ map (λ m. m.node) self.old.items }
         ensures heap { heap.new ≡ heap.old }
         ensures steps { steps.new ≤ steps.old
@@ -164,8 +163,7 @@ impl Milestones {
             &self.slots,
             base,
             rows,
-            barred,
-            granted,
+            marks,
             heap,
             changed,
             steps,

@@ -5,13 +5,13 @@ ghost use Rattle.graph_store.specs.Rows.{HasMembersBelow};
 ghost use Rattle.reach_ranks.specs.Rounds.{is_satisfied};
 ghost use Rattle.milestone_masks.specs.Worlds.{missing_in, ranked};
 
-use crate::ranks::WorldRanks;
 use graph_store::{Group, Row};
 use plan_base::{Items, NodeId};
+use reach_ranks::Ranks;
 use std::alloc::{AllocError, Global};
 
 /// Whether the node has a rank.
-fn is_ranked(ranks: &WorldRanks, node: NodeId) -> bool
+fn is_ranked(ranks: &Ranks, node: NodeId) -> bool
     requires { node.0 < length ranks.now }
     ensures { result ≡ ranked ranks.now node.0 }
 {
@@ -19,7 +19,7 @@ fn is_ranked(ranks: &WorldRanks, node: NodeId) -> bool
 }
 
 /// Whether all the members have a rank.
-fn are_all_ranked(ranks: &WorldRanks, members: &[NodeId]) -> bool
+fn are_all_ranked(ranks: &Ranks, members: &[NodeId]) -> bool
     requires { All (λ m. m.0 < length ranks.now) members.now }
     ensures { result ≡ list_all (λ m. ranked ranks.now m.0) members.now }
 {
@@ -27,7 +27,7 @@ fn are_all_ranked(ranks: &WorldRanks, members: &[NodeId]) -> bool
 }
 
 /// Whether one of the members has a rank.
-fn is_any_ranked(ranks: &WorldRanks, members: &[NodeId]) -> bool
+fn is_any_ranked(ranks: &Ranks, members: &[NodeId]) -> bool
     requires { All (λ m. m.0 < length ranks.now) members.now }
     ensures { result ≡ list_any (λ m. ranked ranks.now m.0) members.now }
 {
@@ -35,7 +35,7 @@ fn is_any_ranked(ranks: &WorldRanks, members: &[NodeId]) -> bool
 }
 
 /// Whether the nodes that have a rank satisfy the group.
-fn is_group_satisfied(ranks: &WorldRanks, group: &Group) -> bool
+fn is_group_satisfied(ranks: &Ranks, group: &Group) -> bool
     requires { All (λ m. m.0 < length ranks.now) group.now.members }
     ensures { result ≡ is_satisfied (ranked ranks.now) group.now }
 {
@@ -47,11 +47,7 @@ fn is_group_satisfied(ranks: &WorldRanks, group: &Group) -> bool
 }
 
 /// The members that have no rank.
-fn unranked(
-    alloc: Global,
-    ranks: &WorldRanks,
-    members: &[NodeId],
-) -> Result<Vec<NodeId>, AllocError>
+fn unranked(alloc: Global, ranks: &Ranks, members: &[NodeId]) -> Result<Vec<NodeId>, AllocError>
     requires { All (λ m. m.0 < length ranks.now) members.now }
     ensures { IfOk result (λ nodes. nodes.items ≡ filter (λ m. not (ranked ranks.now m.0)) members.now) }
 {
@@ -65,11 +61,7 @@ fn unranked(
 }
 
 /// The groups that the nodes with a rank don't satisfy, each with its members that have none.
-fn missing_groups(
-    alloc: Global,
-    ranks: &WorldRanks,
-    groups: &[Group],
-) -> Result<Vec<Group>, AllocError>
+fn missing_groups(alloc: Global, ranks: &Ranks, groups: &[Group]) -> Result<Vec<Group>, AllocError>
     requires { All (λ group. All (λ m. m.0 < length ranks.now) group.members) groups.now }
     ensures { IfOk result (λ missing. missing.items ≡ map (λ g. record { all = g.all; members = filter (λ m. not (ranked ranks.now m.0)) g.members }) (filter (λ g. not (is_satisfied (ranked ranks.now) g)) groups.now)) }
 {
@@ -87,7 +79,7 @@ fn missing_groups(
 }
 
 /// Of the row's groups those that aren't satisfied, each with its members that have no rank.
-pub fn missing_of(alloc: Global, ranks: &WorldRanks, row: &Row) -> Result<Vec<Group>, AllocError>
+pub fn missing_of(alloc: Global, ranks: &Ranks, row: &Row) -> Result<Vec<Group>, AllocError>
     requires { HasMembersBelow (length ranks.now) row.now }
     ensures { IfOk result (λ missing. missing.items ≡ missing_in (ranked ranks.now) (Some row.now)) }
 {

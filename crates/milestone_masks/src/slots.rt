@@ -4,8 +4,8 @@ ghost use Rattle.std.specs.Bool.{OnTrue};
 ghost use Rattle.milestone_masks.specs.Held.{extra_at, has_slot, milestones_in, ranks_at, rows_of, AreBlocks, AreSlots};
 
 use crate::blocks::{Block, make_room, occupy};
-use crate::ranks::WorldRanks;
 use plan_base::{NoMemory, NodeId};
+use reach_ranks::Ranks;
 use std::alloc::Global;
 
 /// A milestone, and the lane of a block that has its ranks.
@@ -23,7 +23,7 @@ pub fn insert_slot(
     alloc: Global,
     order: usize,
     node: NodeId,
-    ranks: &WorldRanks,
+    ranks: &Ranks,
 ) -> Result<(), NoMemory>
     requires kept { AreSlots (length ranks.now) blocks.old.items slots.old.items }
     requires order { order ≤ length slots.old.items }

@@ -6,25 +6,25 @@ use Rattle.reach_ranks.specs.Rounds.{world}
 use Rattle.reach_ranks.specs.Ranks.{Agrees}
 use Rattle.reach_ranks.proofs.RankLemmas.{Agrees-from_ranks}
 use Rattle.milestone_masks.proofs.WorldLemmas.{agrees-barred, size-same}
-use Rattle.milestone_masks.proofs.worlds.add.Goals as goal
+use Rattle.milestone_masks.proofs.additions.add.Goals as goal
 
 pub repair-requires-clause-agree : goal.repair-requires-clause-agree
 repair-requires-clause-agree g c = record {
   as_long = ap length c.in-Ok.ensures ∙ c.requires.base.as_long;
   each = λ n inside h.
       subst
-      (λ (ranks : List ℕ). Agrees (world (g.R.Rows.rows c.args.rows.now) c.args.barred.now c.args.granted.now (Some c.args.node)) ranks n)
+      (λ (ranks : List ℕ). Agrees (world (g.R.Rows.rows c.args.rows.now) c.args.marks.barred.now c.args.marks.granted.now (Some c.args.node)) ranks n)
       (sym c.in-Ok.ensures)
       (agrees-barred
       (g.R.Rows.rows c.args.rows.now)
-      c.args.barred.now
-      c.args.granted.now
+      c.args.marks.barred.now
+      c.args.marks.granted.now
       c.args.node
       n
       c.args.base.now
       (eqb-false c.args.node.0 n (or_parts (c.args.node.0 == n) false h).0)
       (Agrees-from_ranks
-      (world (g.R.Rows.rows c.args.rows.now) c.args.barred.now c.args.granted.now None)
+      (world (g.R.Rows.rows c.args.rows.now) c.args.marks.barred.now c.args.marks.granted.now None)
       c.requires.marks
       c.args.base.now
       c.requires.base
@@ -37,12 +37,12 @@ returns-in_default-insert-clause-steps g c = λ ranks are.
       arith,
       c.repair.ensures.steps,
       size-same
-          (world (g.R.Rows.rows c.args.rows.now) c.args.barred.now c.args.granted.now (Some c.args.node))
+          (world (g.R.Rows.rows c.args.rows.now) c.args.marks.barred.now c.args.marks.granted.now (Some c.args.node))
           (g.R.Rows.rows c.args.rows.now)
           (c.args.node ∷ [])
           c.in-Ok.ranks
           c.args.base.now
-          c.repair.new.self
+          c.repair.new.ranks
           ranks
           c.in-Ok.ensures
           c.repair.ensures.ranks
@@ -55,12 +55,12 @@ returns-clause-steps g c = λ ranks are.
       arith,
       c.repair.ensures.steps,
       size-same
-          (world (g.R.Rows.rows c.args.rows.now) c.args.barred.now c.args.granted.now (Some c.args.node))
+          (world (g.R.Rows.rows c.args.rows.now) c.args.marks.barred.now c.args.marks.granted.now (Some c.args.node))
           (g.R.Rows.rows c.args.rows.now)
           (c.args.node ∷ [])
           c.in-Ok.ranks
           c.args.base.now
-          c.repair.new.self
+          c.repair.new.ranks
           ranks
           c.in-Ok.ensures
           c.repair.ensures.ranks

@@ -1,7 +1,7 @@
 -- One milestone more is looked at.
 use Rattle.std.proofs.Common.{arith}
 use Rattle.milestone_masks.proofs.MaskLemmas.{mask-more}
-use Rattle.milestone_masks.proofs.worlds.mask_in.Goals as goal
+use Rattle.milestone_masks.proofs.masks.mask_in.Goals as goal
 
 pub loop-k-preserved : goal.loop-k-preserved
 loop-k-preserved c =

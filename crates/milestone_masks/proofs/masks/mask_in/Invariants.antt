@@ -1,7 +1,7 @@
 use Rattle.std.proofs.Common.{◌≡◌, take, map, not}
 use Rattle.std.specs.List.{filter}
 use Rattle.milestone_masks.specs.Worlds.{ranked}
-use Rattle.milestone_masks.proofs.worlds.mask_in.Given as goal
+use Rattle.milestone_masks.proofs.masks.mask_in.Given as goal
 
 abbrev pub invariant-loop-k : goal.invariant-loop-k
 invariant-loop-k l =

@@ -1,7 +1,7 @@
 -- One milestone more is counted.
 use Rattle.std.proofs.Common.{◌+◌, arith, ap}
 use Rattle.milestone_masks.proofs.MaskLemmas.{count-more}
-use Rattle.milestone_masks.proofs.worlds.mask_len_in.Goals as goal
+use Rattle.milestone_masks.proofs.masks.mask_len_in.Goals as goal
 
 pub loop-k-preserved : goal.loop-k-preserved
 loop-k-preserved c = record {

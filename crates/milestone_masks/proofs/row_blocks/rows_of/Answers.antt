@@ -5,7 +5,7 @@ use Rattle.graph_store.specs.declared.Row.{Row}
 use Rattle.graph_store.specs.Rows.{HasMembersBelow}
 use Rattle.milestone_masks.specs.Found.{AreRowsOf}
 use Rattle.milestone_masks.proofs.WhyLemmas.{get-all, row-read}
-use Rattle.milestone_masks.proofs.why.rows_of.Goals as goal
+use Rattle.milestone_masks.proofs.row_blocks.rows_of.Goals as goal
 
 pub loop-k-preserved : goal.loop-k-preserved
 loop-k-preserved g c = record {

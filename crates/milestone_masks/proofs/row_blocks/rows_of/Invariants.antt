@@ -2,7 +2,7 @@
 use Rattle.std.proofs.Common.{◌≡◌, ◌+◌, ◌≤◌, All, length, map}
 use Rattle.graph_store.specs.Rows.{HasMembersBelow}
 use Rattle.milestone_masks.specs.Found.{AreRowsOf}
-use Rattle.milestone_masks.proofs.why.rows_of.Given as goal
+use Rattle.milestone_masks.proofs.row_blocks.rows_of.Given as goal
 
 abbrev pub invariant-loop-k : goal.invariant-loop-k
 invariant-loop-k g l = record {

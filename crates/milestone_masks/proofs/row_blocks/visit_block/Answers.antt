@@ -4,7 +4,7 @@ use Rattle.plan_base.specs.declared.NodeId.{NodeId}
 use Rattle.graph_store.specs.declared.Row.{Row}
 use Rattle.milestone_masks.specs.Found.{AreRowsOf, IsGathered}
 use Rattle.milestone_masks.proofs.WhyLemmas.{on-ok}
-use Rattle.milestone_masks.proofs.why.visit_block.Goals as goal
+use Rattle.milestone_masks.proofs.row_blocks.visit_block.Goals as goal
 
 pub returns-then-all_begin_below-clause-gathered : goal.returns-then-all_begin_below-clause-gathered
 returns-then-all_begin_below-clause-gathered g c =

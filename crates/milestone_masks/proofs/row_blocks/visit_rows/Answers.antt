@@ -4,7 +4,7 @@ use Rattle.plan_base.specs.declared.NodeId.{NodeId}
 use Rattle.graph_store.specs.declared.Row.{Row}
 use Rattle.milestone_masks.specs.Found.{stands_by, Grows, IsGathered}
 use Rattle.milestone_masks.proofs.WhyLemmas.{row-visited}
-use Rattle.milestone_masks.proofs.why.visit_rows.Goals as goal
+use Rattle.milestone_masks.proofs.row_blocks.visit_rows.Goals as goal
 
 pub loop-k-preserved : goal.loop-k-preserved
 loop-k-preserved c = record {

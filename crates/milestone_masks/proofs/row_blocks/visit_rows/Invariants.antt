@@ -4,7 +4,7 @@ use Rattle.std.specs.Prelude.{slice_index_or}
 use Rattle.plan_base.specs.declared.NodeId.{NodeId}
 use Rattle.graph_store.specs.declared.Row.{Row}
 use Rattle.milestone_masks.specs.Found.{AreRowsOf, AreSeen, IsGathered}
-use Rattle.milestone_masks.proofs.why.visit_rows.Given as goal
+use Rattle.milestone_masks.proofs.row_blocks.visit_rows.Given as goal
 
 abbrev pub invariant-loop-k : goal.invariant-loop-k
 invariant-loop-k l = record {

@@ -13,8 +13,8 @@ loop-b-preserved g c =
       heap = c.repair_block.ensures.heap ∙ c.loop-b.invariant.heap;
       repaired = blocks_repaired-more
           (g.R.Rows.rows c.args.rows.now)
-          c.args.barred.now
-          c.args.granted.now
+          c.args.marks.barred.now
+          c.args.marks.granted.now
           c.loop-b.b
           c.args.blocks.now
           c.loop-b.blocks
@@ -33,8 +33,8 @@ loop-b-preserved g c =
         c.loop-b.invariant.steps,
         block_sizes-more
             (g.R.Rows.rows c.args.rows.now)
-            c.args.barred.now
-            c.args.granted.now
+            c.args.marks.barred.now
+            c.args.marks.granted.now
             c.args.changed.now
             c.loop-b.b
             c.args.blocks.now

@@ -5,15 +5,15 @@ use Rattle.milestone_masks.proofs.slot_repairs.repair_slots.Goals as goal
 
 pub repair_blocks-requires-clause-agree : goal.repair_blocks-requires-clause-agree
 repair_blocks-requires-clause-agree g c =
-    lanes-agree (g.R.Rows.rows c.args.rows.now) c.args.barred.now c.args.granted.now c.args.changed.now c.args.blocks.now c.args.slots.now c.requires.kept c.requires.agree
+    lanes-agree (g.R.Rows.rows c.args.rows.now) c.args.marks.barred.now c.args.marks.granted.now c.args.changed.now c.args.blocks.now c.args.slots.now c.requires.kept c.requires.agree
 
 pub returns-clause-kept : goal.returns-clause-kept
 returns-clause-kept g c =
-    slots-repaired (g.R.Rows.rows c.args.rows.now) c.args.barred.now c.args.granted.now c.args.blocks.now c.repair_blocks.new.blocks c.args.slots.now c.requires.kept c.repair_blocks.ensures.repaired
+    slots-repaired (g.R.Rows.rows c.args.rows.now) c.args.marks.barred.now c.args.marks.granted.now c.args.blocks.now c.repair_blocks.new.blocks c.args.slots.now c.requires.kept c.repair_blocks.ensures.repaired
 
 pub returns-clause-ranks : goal.returns-clause-ranks
 returns-clause-ranks g c =
-    slot-ranks (g.R.Rows.rows c.args.rows.now) c.args.barred.now c.args.granted.now c.args.blocks.now c.repair_blocks.new.blocks c.args.slots.now c.requires.kept c.repair_blocks.ensures.repaired
+    slot-ranks (g.R.Rows.rows c.args.rows.now) c.args.marks.barred.now c.args.marks.granted.now c.args.blocks.now c.repair_blocks.new.blocks c.args.slots.now c.requires.kept c.repair_blocks.ensures.repaired
 
 pub returns-clause-milestones : goal.returns-clause-milestones
 returns-clause-milestones g c = slot-nodes c.args.blocks.now c.repair_blocks.new.blocks c.args.slots.now
@@ -23,5 +23,5 @@ returns-clause-steps g c =
     omega (
       arith,
       c.repair_blocks.ensures.steps,
-      sizes-fit (g.R.Rows.rows c.args.rows.now) c.args.barred.now c.args.granted.now c.args.changed.now c.args.blocks.now c.repair_blocks.new.blocks c.args.slots.now c.requires.kept,
+      sizes-fit (g.R.Rows.rows c.args.rows.now) c.args.marks.barred.now c.args.marks.granted.now c.args.changed.now c.args.blocks.now c.repair_blocks.new.blocks c.args.slots.now c.requires.kept,
     )

@@ -5,7 +5,7 @@ use Rattle.milestone_masks.specs.declared.worlds.Milestone.{Milestone}
 use Rattle.milestone_masks.specs.declared.slots.Slot.{Slot}
 use Rattle.milestone_masks.specs.declared.blocks.Block.{Block}
 use Rattle.milestone_masks.specs.Held.{milestones_in, AreSlots, Grows, Occupies}
-use Rattle.milestone_masks.proofs.SlotLemmas.{whole-back}
+use Rattle.reach_incremental.proofs.RepairLemmas.{whole-back}
 use Rattle.milestone_masks.proofs.OwnedLemmas.{milestones-grown, milestones-inserted, slots-grown, slots-inserted, with_ranks}
 use Rattle.milestone_masks.proofs.slots.insert_slot.Goals as goal
 

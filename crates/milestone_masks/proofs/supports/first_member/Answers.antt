@@ -5,8 +5,8 @@ use Rattle.std.proofs.lemmas.List.{take_all}
 use Rattle.plan_base.specs.declared.NodeId.{NodeId}
 use Rattle.milestone_masks.specs.Found.{IsBestOf}
 use Rattle.milestone_masks.proofs.WhyLemmas.{best-taken, best-kept, first-of_best, same-some}
-use Rattle.milestone_masks.proofs.why.first_member.Goals as goal
-use Rattle.milestone_masks.proofs.why.first_member.Goals.{then-is_better, else-is_better}
+use Rattle.milestone_masks.proofs.supports.first_member.Goals as goal
+use Rattle.milestone_masks.proofs.supports.first_member.Goals.{then-is_better, else-is_better}
 
 pub loop-m-preserved : goal.loop-m-preserved
 loop-m-preserved c =

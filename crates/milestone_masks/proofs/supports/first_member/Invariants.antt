@@ -1,7 +1,7 @@
 use Rattle.std.proofs.Common.{◌<◌, length, take}
 use Rattle.std.specs.Option.{ForSome}
 use Rattle.milestone_masks.specs.Found.{IsBestOf}
-use Rattle.milestone_masks.proofs.why.first_member.Given as goal
+use Rattle.milestone_masks.proofs.supports.first_member.Given as goal
 
 abbrev pub invariant-loop-m : goal.invariant-loop-m
 invariant-loop-m l = record {

@@ -5,7 +5,7 @@ use Rattle.std.specs.Prelude.{true}
 use Rattle.plan_base.specs.declared.NodeId.{NodeId}
 use Rattle.milestone_masks.specs.Found.{AreSeen}
 use Rattle.milestone_masks.proofs.WhyLemmas.{seen-push}
-use Rattle.milestone_masks.proofs.why.note.Goals as goal
+use Rattle.milestone_masks.proofs.supports.note.Goals as goal
 
 pub returns-in_ok-push-clause-seen : goal.returns-in_ok-push-clause-seen
 returns-in_ok-push-clause-seen c =

@@ -2,7 +2,7 @@ use Rattle.std.proofs.Common.{take}
 use Rattle.std.specs.List.{list_any}
 use Rattle.milestone_masks.specs.Why.{is_support_in}
 use Rattle.milestone_masks.specs.Found.{AreSeen, Grows}
-use Rattle.milestone_masks.proofs.why.note_row.Given as goal
+use Rattle.milestone_masks.proofs.supports.note_row.Given as goal
 
 abbrev pub invariant-loop-group : goal.invariant-loop-group
 invariant-loop-group l = record {

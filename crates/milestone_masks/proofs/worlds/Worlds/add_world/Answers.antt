@@ -11,9 +11,9 @@ pub returns-clause-added : goal.returns-clause-added
 returns-clause-added g c =
     on_ok_weaker
     c.add.result
-    (λ (adds : AddsWorld (world (g.R.Rows.rows c.args.rows.now) c.args.barred.now c.args.granted.now (Some c.args.node)) c.args.node c.args.place c.self.inside.milestones.items c.add.new.milestones.items).
+    (λ (adds : AddsWorld (world (g.R.Rows.rows c.args.rows.now) c.args.marks.barred.now c.args.marks.granted.now (Some c.args.node)) c.args.node c.args.place c.self.inside.milestones.items c.add.new.milestones.items).
     added-nodes
-    (world (g.R.Rows.rows c.args.rows.now) c.args.barred.now c.args.granted.now (Some c.args.node))
+    (world (g.R.Rows.rows c.args.rows.now) c.args.marks.barred.now c.args.marks.granted.now (Some c.args.node))
     c.args.node
     c.args.place
     c.self.inside.milestones.items
@@ -24,16 +24,16 @@ returns-clause-added g c =
 
 pub returns-clause-worlds : goal.returns-clause-worlds
 returns-clause-worlds g c =
-    let are : AreWorlds (g.R.Rows.rows c.args.rows.now) c.args.barred.now c.args.granted.now (record { base = c.self.inside.base; milestones = c.self.inside.milestones.items }) =
-    subst (λ (kept : Kept). AreWorlds (g.R.Rows.rows c.args.rows.now) c.args.barred.now c.args.granted.now kept) (sym c.self.view_is) c.requires.worlds in
+    let are : AreWorlds (g.R.Rows.rows c.args.rows.now) c.args.marks.barred.now c.args.marks.granted.now (record { base = c.self.inside.base; milestones = c.self.inside.milestones.items }) =
+    subst (λ (kept : Kept). AreWorlds (g.R.Rows.rows c.args.rows.now) c.args.marks.barred.now c.args.marks.granted.now kept) (sym c.self.view_is) c.requires.worlds in
     let le : c.args.place ≤ length c.self.inside.milestones.items =
     subst (λ (kept : Kept). c.args.place ≤ length kept.milestones) (sym c.self.view_is) c.requires.place in
     either-way
     c.add.result
-    (AddsWorld (world (g.R.Rows.rows c.args.rows.now) c.args.barred.now c.args.granted.now (Some c.args.node)) c.args.node c.args.place c.self.inside.milestones.items c.add.new.milestones.items)
+    (AddsWorld (world (g.R.Rows.rows c.args.rows.now) c.args.marks.barred.now c.args.marks.granted.now (Some c.args.node)) c.args.node c.args.place c.self.inside.milestones.items c.add.new.milestones.items)
     (c.add.new.milestones.items ≡ c.self.inside.milestones.items)
-    (AreWorlds (g.R.Rows.rows c.args.rows.now) c.args.barred.now c.args.granted.now (record { base = c.self.inside.base; milestones = c.add.new.milestones.items }))
+    (AreWorlds (g.R.Rows.rows c.args.rows.now) c.args.marks.barred.now c.args.marks.granted.now (record { base = c.self.inside.base; milestones = c.add.new.milestones.items }))
     c.add.ensures.added
     c.add.ensures.err
-    (added-worlds (g.R.Rows.rows c.args.rows.now) c.args.barred.now c.args.granted.now c.args.node c.args.place c.self.inside.base c.self.inside.milestones.items c.add.new.milestones.items le are)
-    (same-worlds (g.R.Rows.rows c.args.rows.now) c.args.barred.now c.args.granted.now c.self.inside.base c.self.inside.milestones.items c.add.new.milestones.items are)
+    (added-worlds (g.R.Rows.rows c.args.rows.now) c.args.marks.barred.now c.args.marks.granted.now c.args.node c.args.place c.self.inside.base c.self.inside.milestones.items c.add.new.milestones.items le are)
+    (same-worlds (g.R.Rows.rows c.args.rows.now) c.args.marks.barred.now c.args.marks.granted.now c.self.inside.base c.self.inside.milestones.items c.add.new.milestones.items are)

@@ -1,0 +1,135 @@
+//! Nodes visited in blocks, so that their rows are on their way from memory at the same time.
+ghost use Rattle.std.specs.Prelude.{◌≡◌, ◌+◌, ◌-◌, ◌<◌, ◌≤◌, ℕ, List, true, All, length, map, IfOk, OnOk};
+ghost use Rattle.graph_store.specs.declared.Row.{Row};
+ghost use Rattle.graph_store.specs.Rows.{HasMembersBelow};
+ghost use Rattle.milestone_masks.specs.Found.{AreRowsOf, AreSeen, IsGathered};
+
+use crate::supports::visit;
+use graph_store::{Group, Row, Rows};
+use plan_base::{NodeId, Steps};
+use reach_ranks::Ranks;
+use std::alloc::{AllocError, Global};
+
+/// The rows of so many nodes from a place on, in order.
+fn rows_of<'a, R: Rows<L>, L>(
+    alloc: Global,
+    rows: &'a R,
+    nodes: &[NodeId],
+    start: usize,
+    count: usize,
+    steps: &mut Steps<L>,
+) -> Result<Vec<&'a Row>, AllocError>
+    requires nodes { All (λ m. m.0 < length (R.rows rows.now)) nodes.now }
+    requires within { start + count ≤ length nodes.now }
+    ensures long { IfOk result (λ block. length block.items ≡ count) }
+    ensures members { IfOk result (λ block. All (λ r. HasMembersBelow (length (R.rows rows.now)) r.now) block.items) }
+    ensures rows { IfOk result (λ block. AreRowsOf (R.rows rows.now) start nodes.now (map (λ r. r.now) block.items)) }
+    ensures steps { steps.new ≤ steps.old + count }
+    ensures later { steps.old ≤ steps.new }
+{
+    let _count = rows.len();
+    let mut block = Vec::new(alloc);
+    for k in 0..count {
+        let node = nodes[start + k];
+        block.push(rows.row(node, steps))?;
+    }
+    Ok(block)
+}
+
+/// Whether the first member of the group is one of the first so many nodes, as each is.
+fn begins_below(group: &Group, count: usize) -> bool
+    requires { All (λ m. m.0 < count) group.now.members }
+    ensures { result ≡ true }
+{
+    match group.members.as_slice().first() {
+        Some(m) => (m.0 as usize) < count,
+        None => true,
+    }
+}
+
+/// Whether the groups of the row begin so.
+fn row_begins_below(row: &Row, count: usize) -> bool
+    requires { HasMembersBelow count row.now }
+    ensures { result ≡ true }
+{
+    for group in row.groups.as_slice() {
+        if !begins_below(group, count) {
+            return false;
+        }
+    }
+    true
+}
+
+/// Whether the groups of all these rows begin so.
+///
+/// None of these reads waits for another, so that the rows come from memory together; then they are at hand.
+fn all_begin_below(block: &[&Row], count: usize) -> bool
+    requires { All (λ r. HasMembersBelow count r.now) block.now }
+    ensures { result ≡ true }
+{
+    for row in block {
+        if !row_begins_below(row, count) {
+            return false;
+        }
+    }
+    true
+}
+
+/// Adds what the nodes from a place on stand on, whose rows these are.
+fn visit_rows(
+    found: &mut Vec<NodeId>,
+    seen: &mut [bool],
+    ranks: &Ranks,
+    granted: &[bool],
+    start: usize,
+    block: &[&Row],
+) -> Result<(), AllocError>
+    requires seen { AreSeen found.old.items seen.old }
+    requires ranks { length ranks.now ≡ length seen.old }
+    requires granted { length granted.now ≡ length seen.old }
+    requires within { start + length block.now ≤ length found.old.items }
+    requires members { All (λ r. HasMembersBelow (length seen.old) r.now) block.now }
+    ensures seen { OnOk result (AreSeen found.new.items seen.new) }
+    ensures gathered { OnOk result ((rows : List Row) (root : ℕ) → AreRowsOf rows start found.old.items (map (λ r. r.now) block.now)
+        → IsGathered rows granted.now ranks.now root start found.old.items
+        → IsGathered rows granted.now ranks.now root (start + length block.now) found.new.items) }
+{
+    for k in 0..block.len() {
+        let node = found[start + k];
+        visit(found, seen, ranks, granted, node, block[k])?;
+    }
+    Ok(())
+}
+
+/// Adds what the nodes from a place to another stand on.
+pub fn visit_block<R: Rows<L>, L>(
+    alloc: Global,
+    found: &mut Vec<NodeId>,
+    seen: &mut [bool],
+    ranks: &Ranks,
+    rows: &R,
+    granted: &[bool],
+    start: usize,
+    end: usize,
+    steps: &mut Steps<L>,
+) -> Result<(), AllocError>
+    requires seen { AreSeen found.old.items seen.old }
+    requires long { length seen.old ≡ length (R.rows rows.now) }
+    requires ranks { length ranks.now ≡ length (R.rows rows.now) }
+    requires granted { length granted.now ≡ length (R.rows rows.now) }
+    requires start { start ≤ end }
+    requires end { end ≤ length found.old.items }
+    ensures seen { OnOk result (AreSeen found.new.items seen.new) }
+    ensures gathered { OnOk result ((root : ℕ) → IsGathered (R.rows rows.now) granted.now ranks.now root start found.old.items
+        → IsGathered (R.rows rows.now) granted.now ranks.now root end found.new.items) }
+    ensures steps { steps.new ≤ steps.old + (end - start) }
+    ensures later { steps.old ≤ steps.new }
+{
+    let count = rows.len() as usize;
+    let block = rows_of(alloc, rows, found, start, end - start, steps)?;
+    if all_begin_below(&block, count) {
+        visit_rows(found, seen, ranks, granted, start, &block)
+    } else {
+        Ok(())
+    }
+}
