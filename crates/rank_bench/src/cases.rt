@@ -2,8 +2,8 @@
 //!
 //! A line has three parts with `|` between: the rows of the nodes with `;` between, each with `,` between its groups; the
 //! nodes that are granted; and the commands with `,` between, each with its node.
-ghost use Rattle.std.specs.Prelude.{◌≡◌, ◌<◌, ◌≤◌, None, length, IfOk};
-ghost use Rattle.reach_ranks.specs.Rounds.{world, IsWhole};
+ghost use Rattle.std.specs.Prelude.{◌≡◌, ◌<◌, None, length};
+ghost use Rattle.reach_ranks.specs.Rounds.{world, world_with, IsWhole};
 ghost use Rattle.milestone_masks.specs.Worlds.{AreWorlds};
 ghost use Rattle.rank_bench.specs.Dropped.{StaysWorlds};
 
@@ -12,6 +12,7 @@ use crate::worlds::{Bench, toggle, worlds_of};
 use graph_store::{Graph, Group, Row, Rows};
 use milestone_masks::{MilestoneFault, Worlds};
 use plan_base::{Items, NodeId, Steps};
+use reach_ranks::Marks;
 use std::alloc::{AllocError, Global};
 use std::io;
 
@@ -191,17 +192,16 @@ fn put_first(
     alloc: Global,
     worlds: &mut Worlds,
     graph: &Graph,
-    barred: &[bool],
-    granted: &[bool],
+    marks: Marks<'_>,
     node: NodeId,
     steps: &mut Steps<Bench>,
 ) -> &'static str
-    requires marks { IsWhole (world graph.now barred.now granted.now None) }
-    requires worlds { AreWorlds graph.now barred.now granted.now worlds.old }
+    requires marks { IsWhole (world_with graph.now marks None) }
+    requires worlds { AreWorlds graph.now marks.barred.now marks.granted.now worlds.old }
     requires node { node.0 < length graph.now }
-    ensures worlds { AreWorlds graph.now barred.now granted.now worlds.new }
+    ensures worlds { AreWorlds graph.now marks.entry.barred.now marks.entry.granted.now worlds.new }
 {
-    let answer = worlds.add_world(alloc, graph, barred, granted, node, 0, steps);
+    let answer = worlds.add_world(alloc, graph, marks, node, 0, steps);
     ending(answer)
 }
 
@@ -246,7 +246,8 @@ fn command(
             println!(rt; "turn {}", node.0)
         }
         "milestone" => {
-            let end = put_first(rt.alloc(), worlds, graph, barred, granted, node, steps);
+            let marks = Marks { barred, granted };
+            let end = put_first(rt.alloc(), worlds, graph, marks, node, steps);
             println!(rt; "milestone {}: {end}", node.0)
         }
         "drop" => {
@@ -300,7 +301,7 @@ fn over_marks(
 ) -> io::Result<()>
     requires { IsWhole (world graph.now barred.old granted.now None) }
 {
-    let Some(mut worlds) = worlds_of(rt.alloc(), graph, barred, granted) else {
+    let Some(mut worlds) = worlds_of(rt.alloc(), graph, Marks { barred, granted }) else {
         return Err(no_memory());
     };
     let mut steps = Steps::new(Bench);

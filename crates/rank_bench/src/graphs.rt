@@ -1,5 +1,5 @@
 //! Graphs made from a seed.
-ghost use Rattle.std.specs.Prelude.{◌≡◌, ◌<◌, ◌≤◌, ◌*◌, ◌^◌, true, All, length, IfOk};
+ghost use Rattle.std.specs.Prelude.{◌≡◌, ◌<◌, true, All};
 ghost use Rattle.graph_store.specs.Rows.{AreMembersBelow, HasMembersBelow};
 
 use graph_store::{Graph, Group, Row};

@@ -13,7 +13,7 @@ use cases::carry_out_line;
 use graph_store::{Graph, Rows};
 use graphs::{Numbers, graph_of, no_memory, rows, wide_rows};
 use plan_base::Steps;
-use reach_ranks::{ranks_afresh, ranks_by_rounds};
+use reach_ranks::{WorldMarks, ranks_afresh, ranks_by_rounds};
 use std::alloc::{AllocError, Global};
 use std::env;
 use std::io::{self, BufRead, BufReader};
@@ -43,14 +43,19 @@ fn number(words: &[String], at: usize, default: u32) -> u32 {
 /// The steps of one call over an unmarked graph, and the digest of its ranks.
 fn ranks_of(alloc: Global, graph: &Graph, afresh: bool) -> Option<(u64, u32, u64)> {
     let nodes = <Graph as Rows<Bench>>::len(graph);
-    let marks = vec![in alloc; false; nodes as usize].ok()?;
+    let none = vec![in alloc; false; nodes as usize].ok()?;
+    let marks = WorldMarks {
+        barred: &none,
+        granted: &none,
+        extra: None,
+    };
     let mut steps = Steps::new(Bench);
     let ranks = if afresh {
-        ranks_afresh(alloc, graph, &marks, &marks, None, &mut steps).ok()?
+        ranks_afresh(alloc, graph, marks, &mut steps).ok()?
     } else {
-        ranks_by_rounds(alloc, graph, &marks, &marks, None, &mut steps).ok()?
+        ranks_by_rounds(alloc, graph, marks, &mut steps).ok()?
     };
-    let (reached, sum) = digest(&ranks.of);
+    let (reached, sum) = digest(ranks.as_slice());
     Some((steps.taken(), reached, sum))
 }
 

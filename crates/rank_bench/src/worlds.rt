@@ -1,13 +1,13 @@
 //! Bars and permits of nodes, in all worlds.
 ghost use Rattle.std.specs.Prelude.{◌≡◌, ◌<◌, None, length, IfSome};
-ghost use Rattle.reach_ranks.specs.Rounds.{world, IsWhole};
+ghost use Rattle.reach_ranks.specs.Rounds.{world, world_with, IsWhole};
 ghost use Rattle.milestone_masks.specs.Worlds.{AreWorlds};
 
 use crate::graphs::Numbers;
 use graph_store::{Graph, Rows};
 use milestone_masks::Worlds;
 use plan_base::{NoMemory, NodeId, Steps};
-use reach_ranks::ranks_afresh;
+use reach_ranks::{Marks, WorldMarks, ranks_afresh};
 use std::alloc::Global;
 
 /// Marks the counter of the bench.
@@ -15,13 +15,18 @@ use std::alloc::Global;
 pub struct Bench;
 
 /// The worlds of a graph with these marks; no node is a milestone.
-pub fn worlds_of(alloc: Global, graph: &Graph, barred: &[bool], granted: &[bool]) -> Option<Worlds>
-    requires { IsWhole (world graph.now barred.now granted.now None) }
-    ensures { IfSome result (λ worlds. AreWorlds graph.now barred.now granted.now worlds) }
+pub fn worlds_of(alloc: Global, graph: &Graph, marks: Marks<'_>) -> Option<Worlds>
+    requires { IsWhole (world_with graph.now marks None) }
+    ensures { IfSome result (λ worlds. AreWorlds graph.now marks.entry.barred.now marks.entry.granted.now worlds) }
 {
     let _count = <Graph as Rows<Bench>>::len(graph);
     let mut steps = Steps::new(Bench);
-    let base = ranks_afresh(alloc, graph, barred, granted, None, &mut steps).ok()?;
+    let in_base = WorldMarks {
+        barred: marks.barred,
+        granted: marks.granted,
+        extra: None,
+    };
+    let base = ranks_afresh(alloc, graph, in_base, &mut steps).ok()?;
     Worlds::make(alloc, base).ok()
 }
 
@@ -41,7 +46,7 @@ pub fn toggle(
     ensures worlds { AreWorlds graph.now barred.new granted.now worlds.new }
 {
     barred[node.0 as usize] = !barred[node.0 as usize];
-    worlds.repair_all(graph, barred, granted, &[node], steps);
+    worlds.repair_all(graph, Marks { barred, granted }, &[node], steps);
 }
 
 /// Bars nodes and permits each again, with repair of all worlds each time.
@@ -90,9 +95,10 @@ fn add_worlds(
     if count == 0 {
         return;
     }
+    let marks = Marks { barred, granted };
     for _ in 0..wanted {
         let node = NodeId(numbers.below(count));
-        let _answer = worlds.add_world(alloc, graph, barred, granted, node, 0, steps);
+        let _answer = worlds.add_world(alloc, graph, marks, node, 0, steps);
     }
 }
 
@@ -107,10 +113,19 @@ fn all_anew(
 ) -> Result<(), NoMemory>
     requires marks { IsWhole (world graph.now barred.now granted.now None) }
 {
-    let _base = ranks_afresh(alloc, graph, barred, granted, None, steps)?;
+    let in_base = WorldMarks {
+        barred,
+        granted,
+        extra: None,
+    };
+    let _base = ranks_afresh(alloc, graph, in_base, steps)?;
     for k in 0..worlds.count() {
-        let extra = Some(worlds.milestone(k));
-        let _ranks = ranks_afresh(alloc, graph, barred, granted, extra, steps)?;
+        let in_world = WorldMarks {
+            barred,
+            granted,
+            extra: Some(worlds.milestone(k)),
+        };
+        let _ranks = ranks_afresh(alloc, graph, in_world, steps)?;
     }
     Ok(())
 }
@@ -157,7 +172,7 @@ fn pairs_over(
     requires { IsWhole (world graph.now barred.old granted.now None) }
 {
     let count = <Graph as Rows<Bench>>::len(graph);
-    let mut worlds = worlds_of(alloc, graph, barred, granted)?;
+    let mut worlds = worlds_of(alloc, graph, Marks { barred, granted })?;
     let mut steps = Steps::new(Bench);
     add_worlds(
         alloc,
@@ -226,7 +241,7 @@ fn bars_over(
     requires { IsWhole (world graph.now barred.old granted.now None) }
 {
     let count = <Graph as Rows<Bench>>::len(graph);
-    let mut worlds = worlds_of(alloc, graph, barred, granted)?;
+    let mut worlds = worlds_of(alloc, graph, Marks { barred, granted })?;
     if count == 0 {
         return None;
     }
