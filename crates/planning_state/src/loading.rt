@@ -15,7 +15,7 @@ use depend_rows::{RowsFault, rows_within};
 use graph_store::{Graph, Row, Rows};
 use milestone_masks::Worlds;
 use plan_base::{NoMemory, Steps};
-use reach_ranks::ranks_afresh;
+use reach_ranks::{WorldMarks, ranks_afresh};
 use std::alloc::Global;
 
 // The rows of a book as a graph, and the ranks of its base world.
@@ -97,13 +97,11 @@ fn first_worlds<R: Rows<L>, L>(
     ensures steps { IfOk result (λ _. steps.new ≤ steps.old + 4 * (node_count (shape_of book.now.game) + member_count (rows_of book.now.game))) }
     ensures later { steps.old ≤ steps.new }
 {
-    let ranks = ranks_afresh(
-        alloc,
-        graph,
-        book.barred.as_slice(),
-        book.granted.as_slice(),
-        None,
-        steps,
-    )?;
+    let marks = WorldMarks {
+        barred: book.barred.as_slice(),
+        granted: book.granted.as_slice(),
+        extra: None,
+    };
+    let ranks = ranks_afresh(alloc, graph, marks, steps)?;
     Worlds::make(alloc, ranks)
 }

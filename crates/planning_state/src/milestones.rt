@@ -24,6 +24,7 @@ use graph_store::Rows;
 use milestone_masks::{MilestoneFault, Worlds};
 use plan_base::{NoMemory, NodeId, Steps};
 use plan_lines::Object;
+use reach_ranks::Marks;
 use state_changes::{Refusal, Undo, entry_fault, milestone_fault, node_named, put};
 use std::alloc::Global;
 
@@ -48,15 +49,11 @@ fn add_at<R: Rows<L>, L>(
     ensures steps { steps.new ≤ steps.old + 8 * size_of (rows_of book.now.game) (node ∷ []) (ranks_in (world_of book.now None)) (ranks_in (world_of book.now (Some node))) }
     ensures later { steps.old ≤ steps.new }
 {
-    worlds.add_world(
-        alloc,
-        graph,
-        book.barred.as_slice(),
-        book.granted.as_slice(),
-        node,
-        place,
-        steps,
-    )
+    let marks = Marks {
+        barred: book.barred.as_slice(),
+        granted: book.granted.as_slice(),
+    };
+    worlds.add_world(alloc, graph, marks, node, place, steps)
 }
 
 /// Makes the node that an object names the last milestone, and answers what takes that back.

@@ -16,6 +16,7 @@ use depend_rows::rows_for;
 use graph_store::{ReplaceRows, Rows};
 use milestone_masks::Worlds;
 use plan_base::{NoMemory, NodeId, Steps};
+use reach_ranks::Marks;
 use std::alloc::Global;
 
 // Puts the rows of the book in the place of those of these nodes. Where there are none it takes no time.
@@ -69,13 +70,11 @@ fn repair<R: Rows<L>, L>(
     ensures later { steps.old ≤ steps.new }
 {
     let before = steps.taken();
-    worlds.repair_all(
-        graph,
-        book.barred.as_slice(),
-        book.granted.as_slice(),
-        nodes,
-        steps,
-    );
+    let marks = Marks {
+        barred: book.barred.as_slice(),
+        granted: book.granted.as_slice(),
+    };
+    worlds.repair_all(graph, marks, nodes, steps);
     remembered.note(alloc, book, nodes, steps.taken().saturating_sub(before));
 }
 

@@ -11,8 +11,8 @@ ranks_afresh-requires g c = whole-as c.args.book.now (g.R.Rows.rows c.args.graph
 
 pub make-requires : goal.make-requires
 make-requires g c =
-    few-ranks c.args.book.now c.in_ok-ranks.ranks.of.items None c.requires.sound
-    (subst (λ (w : World). AreRanks w c.in_ok-ranks.ranks.of.items) (same_world (g.R.Rows.rows c.args.graph.now) _ c.as_slice.result.now _ c.as_slice-2.result.now _ None c.requires.rows c.as_slice.ensures c.as_slice-2.ensures) c.in_ok-ranks.ensures.ranks)
+    few-ranks c.args.book.now c.in_ok-ranks.ranks None c.requires.sound
+    (subst (λ (w : World). AreRanks w c.in_ok-ranks.ranks) (same_world (g.R.Rows.rows c.args.graph.now) _ c.as_slice.result.now _ c.as_slice-2.result.now _ None c.requires.rows c.as_slice.ensures c.as_slice-2.ensures) c.in_ok-ranks.ensures.ranks)
 
 pub returns-clause-steps : goal.returns-clause-steps
 returns-clause-steps g c = first-steps c.make.result c.args.book.now (g.R.Rows.rows c.args.graph.now) c.args.steps.now c.ranks_afresh.new.steps c.requires.rows c.in_ok-ranks.ensures.steps
