@@ -8,53 +8,14 @@ ghost use Rattle.milestone_masks.specs.Worlds.{AreWorlds};
 ghost use Rattle.rank_bench.specs.Dropped.{StaysWorlds};
 
 use crate::graphs::{graph_of, no_memory};
+use crate::words::{nodes_in, rows_in, word_and_node};
 use crate::worlds::{Bench, toggle, worlds_of};
-use graph_store::{Graph, Group, Row, Rows};
+use graph_store::{Graph, Group, Rows};
 use milestone_masks::{MilestoneFault, Worlds};
-use plan_base::{Items, NodeId, Steps};
+use plan_base::{NodeId, Steps};
 use reach_ranks::Marks;
 use std::alloc::{AllocError, Global};
 use std::io;
-
-/// The numbers among words.
-fn nodes_in(alloc: Global, words: &str) -> Result<Vec<NodeId>, AllocError> {
-    let mut nodes = Vec::new(alloc);
-    for word in words.split(' ') {
-        if let Ok(node) = word.parse() {
-            nodes.push(NodeId(node))?;
-        }
-    }
-    Ok(nodes)
-}
-
-/// The group that words tell: `all` or `any`, and the members.
-fn group_in(alloc: Global, words: &str) -> Result<Group, AllocError> {
-    let members = Items::from_vec(nodes_in(alloc, words)?);
-    let all = words.contains("all");
-    Ok(Group { all, members })
-}
-
-/// The row that words tell: its groups with commas between.
-fn row_in(alloc: Global, words: &str) -> Result<Row, AllocError> {
-    let mut groups = Vec::new(alloc);
-    for part in words.split(',') {
-        if part.len() > 1 {
-            groups.push(group_in(alloc, part)?)?;
-        }
-    }
-    Ok(Row {
-        groups: Items::from_vec(groups),
-    })
-}
-
-/// The rows that words tell, with semicolons between.
-fn rows_in(alloc: Global, words: &str) -> Result<Vec<Row>, AllocError> {
-    let mut rows = Vec::new(alloc);
-    for part in words.split(';') {
-        rows.push(row_in(alloc, part)?)?;
-    }
-    Ok(rows)
-}
 
 /// Sets the marks of nodes.
 fn mark(marks: &mut [bool], nodes: &[NodeId])
@@ -224,7 +185,7 @@ fn print_place(rt: &impl Print, node: NodeId, place: Option<u32>) -> io::Result<
 }
 
 /// Carries out a command and prints what it is answered.
-fn command(
+pub(crate) fn command(
     rt: &(impl Print + AllocGlobal),
     worlds: &mut Worlds,
     graph: &Graph,
@@ -255,15 +216,6 @@ fn command(
             print_place(rt, node, place)
         }
         _ => print_answer(rt, worlds, graph, granted, word, node, steps),
-    }
-}
-
-/// The word of a command and its node.
-fn word_and_node(words: &str) -> Option<(&str, NodeId)> {
-    let (word, node) = words.trim().split_once(' ')?;
-    match node.parse() {
-        Ok(node) => Some((word, NodeId(node))),
-        Err(_) => None,
     }
 }
 

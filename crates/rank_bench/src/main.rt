@@ -7,6 +7,7 @@
 
 mod cases;
 mod graphs;
+mod words;
 mod worlds;
 
 use cases::carry_out_line;
