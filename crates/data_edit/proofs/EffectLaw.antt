@@ -1,5 +1,5 @@
 -- An accepted edit does what it says and changes the book; one that is refused for changing nothing would change nothing.
-use Rattle.std.proofs.Common.{◌≡◌, ℕ, ◌+◌, ◌<◌, Bool, true, false, List, Option, Some, None, Ok, Err, length, get_or, set, refl, sym, ap, ◌∙◌, nat_lt}
+use Rattle.std.proofs.Common.{◌≡◌, ℕ, ◌+◌, ◌<◌, Bool, true, false, List, Option, Some, None, Result, Ok, Err, length, get_or, set, refl, sym, ap, ◌∙◌, nat_lt}
 use Rattle.std.specs.Prelude.{◌≢◌, slice_get, if◌then◌else◌}
 use Rattle.std.specs.Bool.{Decides}
 use Rattle.std.proofs.lemmas.List.{get_or-set_same, set-get_or}
@@ -23,28 +23,28 @@ use Rattle.data_edit.specs.declared.parts.Inverse.{Inverse}
 use Rattle.data_edit.specs.declared.parts.Inverse.TheVariants.{Recipe as OfRecipe, Unlocks, Barred, Granted}
 use Rattle.data_edit.specs.declared.parts.RecipePart.TheVariants.{Ingredients, Products, Time, Enabled}
 use Rattle.data_edit.specs.Lists.{is_fraction, is_part, is_product, is_unlock, part_key, plain_part, plain_product, product_key, same_lists, with_entry, without}
-use Rattle.data_edit.specs.Faults.{Outcome, ◌▸◌, changed_flag, changed_list, changed_time, known, known_below, positive}
+use Rattle.data_edit.specs.Faults.{◌▸◌, changed_flag, changed_list, changed_time, known, known_below, positive}
 use Rattle.data_edit.specs.Edits.{effect, enabled_set, good_in, ingredients_dropped, ingredients_set, mark_set, products_dropped, products_set, recipe_in, restored, tech_in, time_set, unlocks_set, unlocks_switched, with_mark, with_recipe_part, with_unlocks}
 use Rattle.plan_base.specs.Places.{changed_at, with_at}
 use Rattle.data_edit.specs.CarriedOut.{Accepts, RefusesNoChange, carried_out}
 use Rattle.data_edit.proofs.Sameness.{Decides-fraction, Decides-lists, Decides-part, Decides-product, Decides-unlock}
 
 -- ---- outcomes: what holds of a value, and what holds where nothing would change
-abbrev pub Means : {A : Type 0} → Outcome A → (A → Type 0) → Type 0 → Type 0
+abbrev pub Means : {A : Type 0} → Result A EditFault → (A → Type 0) → Type 0 → Type 0
 Means {A} outcome P Q = ((x : A) → outcome ≡ Ok x → P x) × (outcome ≡ Err NoChange → Q)
 
-means_known : {A B : Type 0} (found : Option A) (next : A → Outcome B) (P : B → Type 0) (Q : Type 0) → ((x : A) → found ≡ Some x → Means (next x) P Q) → Means (known found ▸ next) P Q
+means_known : {A B : Type 0} (found : Option A) (next : A → Result B EditFault) (P : B → Type 0) (Q : Type 0) → ((x : A) → found ≡ Some x → Means (next x) P Q) → Means (known found ▸ next) P Q
 means_known None next P Q h = (λ x e. absurd cc, λ e. absurd cc)
 means_known (Some x) next P Q h = h x refl
 
-means_below : {B : Type 0} (count number : ℕ) (next : Unit {0} → Outcome B) (P : B → Type 0) (Q : Type 0) → Means (next tt) P Q → Means (known_below count number ▸ next) P Q
+means_below : {B : Type 0} (count number : ℕ) (next : Unit {0} → Result B EditFault) (P : B → Type 0) (Q : Type 0) → Means (next tt) P Q → Means (known_below count number ▸ next) P Q
 means_below count number next P Q h = cases (nat_lt number count)
   where
     cases : (b : Bool) → Means ((if b then Ok tt else Err Unknown) ▸ next) P Q
     cases true = h
     cases false = (λ x e. absurd cc, λ e. absurd cc)
 
-means_positive : {B : Type 0} (number : Fraction) (next : Unit {0} → Outcome B) (P : B → Type 0) (Q : Type 0) → Means (next tt) P Q → Means (positive number ▸ next) P Q
+means_positive : {B : Type 0} (number : Fraction) (next : Unit {0} → Result B EditFault) (P : B → Type 0) (Q : Type 0) → Means (next tt) P Q → Means (positive number ▸ next) P Q
 means_positive number next P Q h = cases (is_positive number)
   where
     cases : (b : Bool) → Means ((if b then Ok tt else Err NotPositive) ▸ next) P Q
@@ -92,13 +92,13 @@ FoundAnother {E} xs place get change new = (old : E) × (slice_get xs place ≡ 
 abbrev pub FoundSame : {E A : Type 0} → List E → ℕ → (E → A) → (E → A) → Type 0
 FoundSame {E} xs place get change = (old : E) × (slice_get xs place ≡ Some old) × (change old ≡ get old)
 
-abbrev pub Law : Outcome Book → Book → Book → Type 0
+abbrev pub Law : Result Book EditFault → Book → Book → Type 0
 Law outcome after before = Accepts outcome after before × RefusesNoChange outcome after before
 
 module _ {E A : Type 0} (book : Book) (list_of : Book → List E) (put : List E → Book) (back : (ys : List E) → list_of (put ys) ≡ ys) (unchanged : put (list_of book) ≡ book)
     (place : ℕ) (get : E → A) (with : A → E → E) (get-with : (a : A) (x : E) → get (with a x) ≡ a) (with-get : (x : E) → with (get x) x ≡ x)
     (make : A → Inverse) (restores : (a : A) → restored (make a) book ≡ put (with_at (with a) place (list_of book))) (change : E → A) where
-  part_law : (outcome : Outcome A) → Means outcome (FoundAnother (list_of book) place get change) (FoundSame (list_of book) place get change)
+  part_law : (outcome : Result A EditFault) → Means outcome (FoundAnother (list_of book) place get change) (FoundSame (list_of book) place get change)
       → Law ((outcome ▸ λ a. Ok (make a)) ▸ λ part. Ok (restored part book)) (put (with_at (λ x. with (change x) x) place (list_of book))) book
   part_law (Ok a) means =
       let m : FoundAnother (list_of book) place get change a = means.0 a refl in
@@ -135,7 +135,7 @@ abbrev with_granted : Book → List Bool → Book
 with_granted book marks = record book { granted = marks }
 
 -- from what an outcome means for what is found to what it means for the place
-found : {E A : Type 0} (xs : List E) (place : ℕ) (get change : E → A) (x : E) (outcome : Outcome A) → slice_get xs place ≡ Some x
+found : {E A : Type 0} (xs : List E) (place : ℕ) (get change : E → A) (x : E) (outcome : Result A EditFault) → slice_get xs place ≡ Some x
     → Means outcome (λ new. (new ≡ change x) × (change x ≢ get x)) (change x ≡ get x) → Means outcome (FoundAnother xs place get change) (FoundSame xs place get change)
 found xs place get change x outcome e means = (λ new h. (x, e, (means.0 new h).0, (means.0 new h).1), λ h. (x, e, means.1 h))
 

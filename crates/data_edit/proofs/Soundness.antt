@@ -37,7 +37,7 @@ use Rattle.data_edit.specs.declared.parts.RecipePart.TheVariants.{Ingredients, P
 use Rattle.data_edit.specs.declared.parts.Inverse.{Inverse}
 use Rattle.data_edit.specs.declared.parts.Inverse.TheVariants.{Recipe as OfRecipe, Unlocks, Barred, Granted}
 use Rattle.data_edit.specs.Lists.{part_key, product_key, unlock_key, is_part, is_product, is_unlock, plain_part, plain_product, same_lists, with_entry, with_unlock, without}
-use Rattle.data_edit.specs.Faults.{Outcome, ◌▸◌, known, known_below, positive, changed_list}
+use Rattle.data_edit.specs.Faults.{◌▸◌, known, known_below, positive, changed_list}
 use Rattle.data_edit.specs.Edits.{with_recipe_part, with_unlocks, with_mark, restored, recipe_in, tech_in, good_in, ingredients_set, ingredients_dropped, products_set, products_dropped, unlocks_switched, unlocks_set, time_set, enabled_set, mark_set, replacement}
 use Rattle.plan_base.specs.Places.{changed_at, with_at}
 use Rattle.plan_base.proofs.Places.{length-with_at}
@@ -145,7 +145,7 @@ module _ (g : Game) (recipes : List Recipe) (techs : List Tech) (same : length g
   }
 
 -- ---- steps that may be refused
-pub bind_ok : {A B : Type 0} (first : Outcome A) (next : A → Outcome B) (y : B) → (first ▸ next) ≡ Ok y → (x : A) × (first ≡ Ok x) × (next x ≡ Ok y)
+pub bind_ok : {A B : Type 0} (first : Result A EditFault) (next : A → Result B EditFault) (y : B) → (first ▸ next) ≡ Ok y → (x : A) × (first ≡ Ok x) × (next x ≡ Ok y)
 bind_ok (Ok x) next y e = (x, refl, e)
 bind_ok (Err fault) next y e = absurd cc
 
@@ -288,7 +288,7 @@ unlocks_set_sound book tech recipe on list s e =
     (All-switched (λ r. r.0 < length book.game.recipes) recipe on found.0.unlocks known_recipe old.unlocks)
 
 -- what an outcome gives has what each of its values gives
-made : {A : Type 0} (make : A → Inverse) (book : Book) (first : Outcome A) (part : Inverse) → ((x : A) → first ≡ Ok x → IsSoundPart (make x) book)
+made : {A : Type 0} (make : A → Inverse) (book : Book) (first : Result A EditFault) (part : Inverse) → ((x : A) → first ≡ Ok x → IsSoundPart (make x) book)
     → (first ▸ λ x. Ok (make x)) ≡ Ok part → IsSoundPart part book
 made make book (Ok x) part sound e =
     let same : make x ≡ part = cc in

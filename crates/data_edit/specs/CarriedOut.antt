@@ -1,5 +1,5 @@
 -- What an edit does to a book, whatever stood there before: the law of its effect.
-use Rattle.std.specs.Prelude.{◌≡◌, ◌≢◌, ℕ, Bool, true, false, Ok, Err}
+use Rattle.std.specs.Prelude.{◌≡◌, ◌≢◌, ℕ, Bool, true, false, Result, Ok, Err}
 use Rattle.fractions.specs.Fraction.{Fraction}
 use Rattle.plan_base.specs.declared.RecipeId.{RecipeId}
 use Rattle.plan_base.specs.declared.TechId.{TechId}
@@ -8,9 +8,9 @@ use Rattle.game_types.specs.declared.research.Tech.{Tech}
 use Rattle.data_edit.specs.declared.books.Book.{Book}
 use Rattle.data_edit.specs.declared.edits.Edit.{Edit}
 use Rattle.data_edit.specs.declared.edits.Edit.TheVariants.{SetIngredient, DropIngredient, SetProduct, DropProduct, SetUnlock, SetTime, SetEnabled, Forbid, Permit, Grant, Revoke}
+use Rattle.data_edit.specs.declared.edits.EditFault.{EditFault}
 use Rattle.data_edit.specs.declared.edits.EditFault.TheVariants.{NoChange}
 use Rattle.data_edit.specs.Lists.{part_key, plain_part, plain_product, product_key, with_entry, without}
-use Rattle.data_edit.specs.Faults.{Outcome}
 use Rattle.data_edit.specs.Edits.{effect, unlocks_switched}
 use Rattle.plan_base.specs.Places.{with_at}
 
@@ -37,8 +37,8 @@ carried_out (Revoke node) book = record book { granted = with_at (λ old. false)
 
 -- an outcome that is accepted is this book, which is another than before; and where it is refused for changing nothing,
 -- this book is the one before
-abbrev pub Accepts : Outcome Book → Book → Book → Type 0
+abbrev pub Accepts : Result Book EditFault → Book → Book → Type 0
 Accepts outcome after before = (new : Book) → outcome ≡ Ok new → (new ≡ after) × (new ≢ before)
 
-abbrev pub RefusesNoChange : Outcome Book → Book → Book → Type 0
+abbrev pub RefusesNoChange : Result Book EditFault → Book → Book → Type 0
 RefusesNoChange outcome after before = outcome ≡ Err NoChange → after ≡ before

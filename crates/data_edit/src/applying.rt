@@ -6,7 +6,7 @@ ghost use Rattle.data_edit.specs.Edits.{Edits, effect, restored};
 use crate::exchanges::exchange;
 use crate::replacements::replacement;
 use crate::{Book, Edit, EditFault, Inverse};
-use plan_base::NoMemory;
+use plan_base::{Denied, NoMemory};
 use std::alloc::Global;
 
 /// Applies an edit, and answers what takes it back.
@@ -20,7 +20,7 @@ use std::alloc::Global;
 /// isn't positive, `NoChange` where the book would be as before, `Limit` where a list would be longer than 1,024. Or
 /// `NoMemory` where memory could not be had. The book is then as before.
 #[tactic(auto, unfolding(crate::specs::Edits::effect))]
-pub fn apply_edit(alloc: Global, book: &mut Book, edit: &Edit) -> Result<Inverse, EditFault>
+pub fn apply_edit(alloc: Global, book: &mut Book, edit: &Edit) -> Result<Inverse, Denied<EditFault>>
     requires { IsSoundBook book.old }
     ensures effect { Edits (effect edit.now book.old) result book.new }
     ensures err { OnErr result (book.new ≡ book.old) }

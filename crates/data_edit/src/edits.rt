@@ -1,9 +1,8 @@
 //! Edits, and why they are refused.
 ghost use Rattle.std.specs.Prelude.{◌≡◌};
-ghost use Rattle.data_edit.specs.declared.edits.EditFault.TheVariants.{NoMemory as OutOfMemory};
 
 use fractions::Ratio;
-use plan_base::{GoodId, NoMemory, NodeId, RecipeId, TechId};
+use plan_base::{Denied, GoodId, NodeId, RecipeId, TechId};
 
 /// The most entries that a list of a recipe or of a technology may have after an edit.
 pub const LIST_LIMIT: usize = 1_024;
@@ -70,14 +69,14 @@ pub enum EditFault {
     NoChange,
     /// X4: a list would be longer than 1,024.
     Limit,
-    /// Memory could not be had.
-    NoMemory,
 }
 
-impl From<NoMemory> for EditFault {
-    ghost from_gives = { λ _ fault. fault ≡ OutOfMemory };
+impl From<EditFault> for Denied<EditFault> {
+    ghost use Rattle.plan_base.specs.declared.denied.Denied.TheVariants.{Refused};
 
-    fn from(_: NoMemory) -> Self {
-        EditFault::NoMemory
+    ghost from_gives = { λ fault denied. denied ≡ Refused fault };
+
+    fn from(fault: EditFault) -> Self {
+        Denied::Refused(fault)
     }
 }

@@ -1,13 +1,14 @@
 //! Lists of entries, each about a good or a recipe.
 ghost use Rattle.std.specs.Prelude.{◌≡◌, ℕ, Bool, IfOk};
+ghost use Rattle.plan_base.specs.Outcomes.{Gives};
 ghost use Rattle.game_types.specs.Fitting.{names_recipe};
 ghost use Rattle.data_edit.specs.Lists.{is_bound, is_fraction, is_part, is_product, is_unlock, part_key, product_key, same_lists, unlock_key, with_entry, with_unlock, without};
-ghost use Rattle.data_edit.specs.Faults.{Gives, changed_list};
+ghost use Rattle.data_edit.specs.Faults.{changed_list};
 
 use crate::{EditFault, LIST_LIMIT};
 use fractions::Ratio;
 use game_types::{Part, Product};
-use plan_base::{Items, NoMemory, RecipeId};
+use plan_base::{Denied, Items, NoMemory, RecipeId};
 use std::alloc::Global;
 
 /// An entry of a list.
@@ -162,11 +163,11 @@ pub(crate) fn set_entry<E: Entry>(
     alloc: Global,
     entries: &[E],
     entry: E,
-) -> Result<Items<E>, EditFault>
+) -> Result<Items<E>, Denied<EditFault>>
     ensures { Gives (changed_list E.same entries.now (with_entry E.key entry entries.now)) result }
 {
     let list = with_entry(alloc, entries, entry)?;
-    changed_list(entries, list)
+    Ok(changed_list(entries, list)?)
 }
 
 /// The list without the entries of a key.
@@ -178,11 +179,11 @@ pub(crate) fn drop_entries<E: Entry>(
     alloc: Global,
     entries: &[E],
     key: u32,
-) -> Result<Items<E>, EditFault>
+) -> Result<Items<E>, Denied<EditFault>>
     ensures { Gives (changed_list E.same entries.now (without E.key key entries.now)) result }
 {
     let list = without(alloc, entries, key)?;
-    changed_list(entries, list)
+    Ok(changed_list(entries, list)?)
 }
 
 fn names_recipe(unlocks: &[RecipeId], recipe: RecipeId) -> bool
@@ -215,9 +216,9 @@ pub(crate) fn add_unlock(
     alloc: Global,
     unlocks: &[RecipeId],
     recipe: RecipeId,
-) -> Result<Items<RecipeId>, EditFault>
+) -> Result<Items<RecipeId>, Denied<EditFault>>
     ensures { Gives (changed_list is_unlock unlocks.now (with_unlock recipe unlocks.now)) result }
 {
     let list = with_unlock(alloc, unlocks, recipe)?;
-    changed_list(unlocks, list)
+    Ok(changed_list(unlocks, list)?)
 }

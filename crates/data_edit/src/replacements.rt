@@ -1,14 +1,15 @@
 //! What an edit puts in the place of what: the new part of the book, or why the edit is refused.
 ghost use Rattle.std.specs.Prelude.{◌≡◌};
+ghost use Rattle.plan_base.specs.Outcomes.{Gives, seen_as};
 ghost use Rattle.data_edit.specs.Books.{IsSoundBook};
-ghost use Rattle.data_edit.specs.Faults.{Gives, changed_flag, changed_time, positive, seen_as};
+ghost use Rattle.data_edit.specs.Faults.{changed_flag, changed_time, positive};
 ghost use Rattle.data_edit.specs.Edits.{enabled_set, good_in, ingredients_dropped, ingredients_set, mark_set, products_dropped, products_set, recipe_in, replacement, tech_in, time_set, unlocks_set};
 
 use crate::entries::{add_unlock, drop_entries, is_fraction, set_entry};
 use crate::{Book, Edit, EditFault, Inverse, RecipePart};
 use fractions::Ratio;
 use game_types::{Part, Product, Recipe, Tech};
-use plan_base::{GoodId, Items, NodeId, RecipeId, TechId};
+use plan_base::{Denied, GoodId, Items, NodeId, RecipeId, TechId};
 use std::alloc::Global;
 
 fn recipe_in(book: &Book, recipe: RecipeId) -> Result<&Recipe, EditFault>
@@ -77,7 +78,7 @@ fn ingredients_set(
     recipe: RecipeId,
     good: GoodId,
     amount: Ratio,
-) -> Result<Items<Part>, EditFault>
+) -> Result<Items<Part>, Denied<EditFault>>
     requires { IsSoundBook book.now }
     ensures { Gives (ingredients_set book.now recipe good amount) result }
 {
@@ -99,7 +100,7 @@ fn ingredients_dropped(
     book: &Book,
     recipe: RecipeId,
     good: GoodId,
-) -> Result<Items<Part>, EditFault>
+) -> Result<Items<Part>, Denied<EditFault>>
     requires { IsSoundBook book.now }
     ensures { Gives (ingredients_dropped book.now recipe good) result }
 {
@@ -115,7 +116,7 @@ fn products_set(
     recipe: RecipeId,
     good: GoodId,
     amount: Ratio,
-) -> Result<Items<Product>, EditFault>
+) -> Result<Items<Product>, Denied<EditFault>>
     requires { IsSoundBook book.now }
     ensures { Gives (products_set book.now recipe good amount) result }
 {
@@ -139,7 +140,7 @@ fn products_dropped(
     book: &Book,
     recipe: RecipeId,
     good: GoodId,
-) -> Result<Items<Product>, EditFault>
+) -> Result<Items<Product>, Denied<EditFault>>
     requires { IsSoundBook book.now }
     ensures { Gives (products_dropped book.now recipe good) result }
 {
@@ -155,7 +156,7 @@ fn unlocks_set(
     tech: TechId,
     recipe: RecipeId,
     on: bool,
-) -> Result<Items<RecipeId>, EditFault>
+) -> Result<Items<RecipeId>, Denied<EditFault>>
     ensures { Gives (unlocks_set book.now tech recipe on) result }
 {
     let old = tech_in(book, tech)?;
@@ -199,7 +200,11 @@ fn mark_set(marks: &Items<bool>, node: NodeId, on: bool) -> Result<bool, EditFau
 /// # Errors
 ///
 /// The first refusal, or `NoMemory`.
-pub(crate) fn replacement(alloc: Global, book: &Book, edit: &Edit) -> Result<Inverse, EditFault>
+pub(crate) fn replacement(
+    alloc: Global,
+    book: &Book,
+    edit: &Edit,
+) -> Result<Inverse, Denied<EditFault>>
     requires { IsSoundBook book.now }
     ensures { Gives (replacement edit.now book.now) result }
 {

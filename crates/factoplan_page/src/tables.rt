@@ -5,8 +5,8 @@ ghost use Rattle.planner_tables.specs.Effects.{IsSoundOn};
 
 use game_types::Game;
 use linear_table::Linear;
-use plan_base::NoMemory;
-use production_table::{Table, TableFault};
+use plan_base::{Denied, NoMemory};
+use production_table::Table;
 use std::alloc::Global;
 
 /// The place of the table of a name.
@@ -27,8 +27,8 @@ pub fn linear_form(alloc: Global, game: &Game, table: &Table) -> Result<Option<L
 {
     match table.to_linear(alloc, game) {
         Ok(linear) => Ok(Some(linear)),
-        Err(TableFault::NoMemory) => Err(NoMemory),
-        Err(_) => Ok(None),
+        Err(Denied::Refused(_)) => Ok(None),
+        Err(Denied::NoMemory) => Err(NoMemory),
     }
 }
 

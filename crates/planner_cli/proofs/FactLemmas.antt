@@ -1,5 +1,5 @@
 -- The headline of a session and of a trial.
-use Rattle.std.proofs.Common.{◌≡◌, ◌+◌, ◌∷◌, [], ℕ, false, List, ap, sym, subst, refl, ◌∙◌, inl, inr, slice_index_or}
+use Rattle.std.proofs.Common.{◌≡◌, ◌+◌, ◌∷◌, [], ℕ, false, List, ap, sym, subst, refl, ◌∙◌, inl, inr, slice_index_or, Result}
 use Rattle.std.specs.Prelude.{All, Option, Some, None, Ok, Err, ◌⊎◌}
 use Rattle.std.proofs.lemmas.List.Elements.{All-cons, All-nil}
 use Rattle.edit_undo.specs.Edits.{apply_edits}
@@ -18,7 +18,7 @@ use Rattle.plan_lines.specs.declared.command.Command.TheVariants as command
 use Rattle.plan_lines.specs.declared.reply.RefusalCode.{RefusalCode}
 use Rattle.plan_lines.specs.declared.reply.RefusalCode.TheVariants as code
 use Rattle.plan_lines.specs.declared.reply.Reply.{Reply}
-use Rattle.table_words.specs.Refusals.{Outcome, refused}
+use Rattle.table_words.specs.Refusals.{refused}
 use Rattle.table_words.specs.declared.refusals.TableRefusal.{TableRefusal}
 use Rattle.production_table.specs.declared.tables.Table.{Table}
 use Rattle.game_types.specs.Steps.{◌▸◌}
@@ -60,15 +60,15 @@ by_rounds a is = record {
 }
 
 -- a table with no linear form
-refusal_at : (g : Game) (ts : List Table) (budget : ℕ) (r : Reply) (o : Outcome ℕ) (refusal : TableRefusal) → (o ▸ λ place. linear_outcome g (table_at ts place)) ≡ Err refusal → IsSolveReplyAt g ts budget o r → r ≡ refused g refusal None
-refusal_at g ts budget r (Ok place) refusal none is = subst (λ (o : Outcome Linear). IsSolvedWhere g (table_at ts place) budget o r) none is
+refusal_at : (g : Game) (ts : List Table) (budget : ℕ) (r : Reply) (o : Result ℕ TableRefusal) (refusal : TableRefusal) → (o ▸ λ place. linear_outcome g (table_at ts place)) ≡ Err refusal → IsSolveReplyAt g ts budget o r → r ≡ refused g refusal None
+refusal_at g ts budget r (Ok place) refusal none is = subst (λ (o : Result Linear TableRefusal). IsSolvedWhere g (table_at ts place) budget o r) none is
 refusal_at g ts budget r (Err first) refusal none is = let same : first ≡ refusal = cc in is ∙ ap (λ (x : TableRefusal). refused g x None) same
 
-solved_at : (g : Game) (ts : List Table) (budget : ℕ) (r : Reply) (o : Outcome ℕ) (l : Linear) → (o ▸ λ place. linear_outcome g (table_at ts place)) ≡ Ok l → IsSolveReplyAt g ts budget o r → is_refused r ≡ false
-solved_at g ts budget r (Ok place) l some is = ap is_refused (subst (λ (o : Outcome Linear). IsSolvedWhere g (table_at ts place) budget o r) some is).reply_is
+solved_at : (g : Game) (ts : List Table) (budget : ℕ) (r : Reply) (o : Result ℕ TableRefusal) (l : Linear) → (o ▸ λ place. linear_outcome g (table_at ts place)) ≡ Ok l → IsSolveReplyAt g ts budget o r → is_refused r ≡ false
+solved_at g ts budget r (Ok place) l some is = ap is_refused (subst (λ (o : Result Linear TableRefusal). IsSolvedWhere g (table_at ts place) budget o r) some is).reply_is
 solved_at g ts budget r (Err first) l some is = cc
 
-solves_by : (a : Answered) (table : List ℕ) (budget : ℕ) (o : Outcome Linear) → linear_named a.before.state.book.game a.before.state.tables table ≡ o → IsAnswered a → Asks a (command.Solve table budget)
+solves_by : (a : Answered) (table : List ℕ) (budget : ℕ) (o : Result Linear TableRefusal) → linear_named a.before.state.book.game a.before.state.tables table ≡ o → IsAnswered a → Asks a (command.Solve table budget)
     → IsSolveReply a.before.state.book.game a.before.state.tables table budget a.reply → TellsOfTable a.before.state table budget a.reply ⊎ TellsWhyNot a.before.state table a.reply
 unfolding linear_named IsSolveReply
 solves_by a table budget (Ok form) is answered asks solves =

@@ -8,7 +8,7 @@ use Rattle.plan_lines.specs.declared.command.Command.TheVariants as command
 use Rattle.plan_lines.specs.declared.reply.Reply.{Reply as AnyReply}
 use Rattle.planner_tables.specs.Effects.{table_at, table_named}
 use Rattle.planner_tables.specs.Questions.{IsSolveReply, IsSolveReplyAt, IsSolvedWhere, linear_outcome}
-use Rattle.table_words.specs.Refusals.{Outcome, refused}
+use Rattle.table_words.specs.Refusals.{refused}
 use Rattle.table_words.specs.declared.refusals.TableRefusal.{TableRefusal}
 use Rattle.production_table.specs.declared.tables.Table.{Table}
 use Rattle.game_types.specs.Steps.{◌▸◌}
@@ -65,8 +65,8 @@ pub posed_other : {E : Type 0} (result : Result Posed E) (line : ℕ) (p : Plann
 posed_other result line p asked r other told = IfOk-weaker result _ _ (λ said is. no_form line p asked r said (other_no_form p asked other) is) told
 
 -- ---- a `solve` line
-refused_at : (g : Game) (ts : List Table) (budget : ℕ) (refusal : TableRefusal) (o : Outcome ℕ) → (o ▸ λ place. linear_outcome g (table_at ts place)) ≡ Err refusal → IsSolveReplyAt g ts budget o (refused g refusal None)
-refused_at g ts budget refusal (Ok place) is = subst (λ (o : Outcome Linear). IsSolvedWhere g (table_at ts place) budget o (refused g refusal None)) (sym is) refl
+refused_at : (g : Game) (ts : List Table) (budget : ℕ) (refusal : TableRefusal) (o : Result ℕ TableRefusal) → (o ▸ λ place. linear_outcome g (table_at ts place)) ≡ Err refusal → IsSolveReplyAt g ts budget o (refused g refusal None)
+refused_at g ts budget refusal (Ok place) is = subst (λ (o : Result Linear TableRefusal). IsSolvedWhere g (table_at ts place) budget o (refused g refusal None)) (sym is) refl
 refused_at g ts budget refusal (Err first) is = let same : first ≡ refusal = cc in ap (λ (x : TableRefusal). refused g x None) (sym same)
 
 refused_reply : (g : Game) (ts : List Table) (table : List ℕ) (budget : ℕ) (refusal : TableRefusal) → linear_named g ts table ≡ Err refusal → IsSolveReply g ts table budget (refused g refusal None)
@@ -85,7 +85,7 @@ step_refused line p table budget refusal free is = record {
   grows = λ base from. from;
 }
 
-posed_table : (line : ℕ) (p : Planned) (table : List ℕ) (budget : ℕ) (said : Posed) (o : Outcome Linear) → p.batch ≡ None → linear_named p.state.book.game p.state.tables table ≡ o
+posed_table : (line : ℕ) (p : Planned) (table : List ℕ) (budget : ℕ) (said : Posed) (o : Result Linear TableRefusal) → p.batch ≡ None → linear_named p.state.book.game p.state.tables table ≡ o
     → IsPosedTable p.state.book.game o said → IsPosed line p (command.Solve table budget) p said
 unfolding IsPosed
 posed_table line p table budget said (Ok form) free is told =

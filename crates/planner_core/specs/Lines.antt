@@ -15,7 +15,7 @@ use Rattle.plan_lines.specs.declared.reply.Reply.{Reply}
 use Rattle.plan_lines.specs.declared.reply.Reply.TheVariants as reply
 use Rattle.planner_tables.specs.Questions.{rate_reply, IsSolveReply}
 use Rattle.state_changes.specs.declared.undos.Undo.{Undo}
-use Rattle.state_changes.specs.Actions.{Outcome, can_be_held, node_named}
+use Rattle.state_changes.specs.Actions.{can_be_held, node_named}
 use Rattle.state_changes.specs.States.{State, first_state}
 use Rattle.state_changes.specs.Effects.{effect_of, is_entry}
 use Rattle.state_changes.specs.Undoing.{LeadsBack}
@@ -92,7 +92,7 @@ Moves (entry ∷ entries) why session p r answer = (session_of r.kept ≡ sessio
 abbrev pub Says : Planned → Planned → Reply → Reply → Type 0
 Says p r answer told = (r ≡ p) × (answer ≡ told)
 
-abbrev pub Asks : Planned → Planned → Outcome NodeId → (NodeId → Reply → Type 0) → Reply → Type 0
+abbrev pub Asks : Planned → Planned → Result NodeId Refusal → (NodeId → Reply → Type 0) → Reply → Type 0
 Asks p r node ask answer = (r ≡ p) × AboutNode p.state.book.game node ask answer
 
 -- ---- a line where no batch is open

@@ -1,5 +1,5 @@
 -- What a line is answered where nothing is solved.
-use Rattle.std.specs.Prelude.{◌≡◌, ℕ, List, Option, None, Some, Ok, Err, ⊤}
+use Rattle.std.specs.Prelude.{◌≡◌, ℕ, List, Option, None, Some, Result, Ok, Err, ⊤}
 use Rattle.game_types.specs.declared.games.Game.{Game}
 use Rattle.linear_table.specs.declared.Linear.{Linear}
 use Rattle.linear_table.specs.Plans.{IsWellFormed}
@@ -7,12 +7,13 @@ use Rattle.plan_lines.specs.declared.command.Command.{Command}
 use Rattle.plan_lines.specs.declared.command.Command.TheVariants as command
 use Rattle.plan_lines.specs.declared.reply.Reply.{Reply as AnyReply}
 use Rattle.planner_tables.specs.Questions.{linear_named}
-use Rattle.table_words.specs.Refusals.{Outcome, refused}
+use Rattle.table_words.specs.declared.refusals.TableRefusal.{TableRefusal}
+use Rattle.table_words.specs.Refusals.{refused}
 use Rattle.planner_core.specs.Lines.{Held, IsStep, Planned, line_work}
 use Rattle.planner_core.specs.declared.posing.Posed.{Posed}
 use Rattle.planner_core.specs.declared.posing.Posed.TheVariants as posed
 
-abbrev pub form_of : Outcome Linear → Option Linear
+abbrev pub form_of : Result Linear TableRefusal → Option Linear
 form_of (Ok form) = Some form
 form_of (Err refusal) = None
 
@@ -39,7 +40,7 @@ IsFormed (posed.Reply answer) = ⊤
 IsFormed (posed.Linear form) = IsWellFormed form
 
 -- the form of a table, or the reply that refuses it
-abbrev pub IsPosedTable : Game → Outcome Linear → Posed → Type 0
+abbrev pub IsPosedTable : Game → Result Linear TableRefusal → Posed → Type 0
 IsPosedTable g (Ok form) said = said ≡ posed.Linear form
 IsPosedTable g (Err refusal) said = said ≡ posed.Reply (refused g refusal None)
 

@@ -1,5 +1,5 @@
 -- What lines are answered, by the planning state alone.
-use Rattle.std.specs.Prelude.{◌≡◌, ◌+◌, ℕ, Bool, true, false, List, [], Option, None, Some, Ok, Err, filter, if◌then◌else◌, length, map, slice_get, slice_index_or, sum_by}
+use Rattle.std.specs.Prelude.{◌≡◌, ◌+◌, ℕ, Bool, true, false, List, [], Option, None, Some, Result, Ok, Err, filter, if◌then◌else◌, length, map, slice_get, slice_index_or, sum_by}
 use Rattle.std.specs.List.{range_with_len}
 use Rattle.plan_base.specs.Shape.{count_of, first_of, node_count}
 use Rattle.plan_base.specs.declared.ids.NodeId.{NodeId}
@@ -24,19 +24,17 @@ use Rattle.plan_lines.specs.declared.reply.RefusalCode.{RefusalCode}
 use Rattle.plan_lines.specs.declared.reply.RefusalCode.TheVariants as code
 use Rattle.plan_lines.specs.declared.reply.Reply.{Reply}
 use Rattle.plan_lines.specs.declared.reply.Reply.TheVariants as reply
-use Rattle.state_changes.specs.Actions.{Outcome}
 use Rattle.state_changes.specs.States.{State}
 use Rattle.planning_state.specs.Worlds.{is_reached, mask_in, rank_of, ranks_in, world_of}
 
 -- ---- refusals
--- want of memory is no refusal, and its code here is never told
 abbrev pub edit_code : EditFault → RefusalCode
 edit_code of_edit.Unknown = code.X1
 edit_code of_edit.NotPositive = code.X3
 edit_code of_edit.NoChange = code.X2
 edit_code of_edit.Limit = code.X4
-edit_code of_edit.NoMemory = code.X1
 
+-- want of memory is no refusal, and its code here is never told
 abbrev pub milestone_code : MilestoneFault → RefusalCode
 milestone_code of_milestone.Full = code.M1
 milestone_code of_milestone.Already = code.M2
@@ -115,7 +113,7 @@ abbrev pub summary_reply : State → ℕ → ℕ → Reply
 summary_reply s done undone = reply.Summary (reached_count s.book) (node_count (shape_of s.book.game)) (length s.milestones) (bits_of s) (length s.tables) done undone
 
 -- a name that nothing has is refused, and else the node is asked about
-abbrev pub AboutNode : Game → Outcome NodeId → (NodeId → Reply → Type 0) → Reply → Type 0
+abbrev pub AboutNode : Game → Result NodeId Refusal → (NodeId → Reply → Type 0) → Reply → Type 0
 AboutNode g (Ok node) ask r = ask node r
 AboutNode g (Err refusal) ask r = r ≡ refused g refusal None
 

@@ -22,9 +22,9 @@ use crate::reached::{list_reply, summary_reply};
 use crate::refusals::{refused, refused_as};
 use edit_undo::{DoFault, History};
 use game_types::Game;
-use plan_base::{NoMemory, Steps, Text};
+use plan_base::{Denied, NoMemory, Steps, Text};
 use plan_lines::{Change, Command, RefusalCode, Reply};
-use planner_tables::{ChangeFault, linear_named, rate_reply, solve_reply};
+use planner_tables::{linear_named, rate_reply, solve_reply};
 use planning_state::{LoadFault, Planning, Undo, can_be_held};
 use production_table::Table;
 use std::alloc::Global;
@@ -343,10 +343,10 @@ impl Planner {
         let game = self.planning.game();
         match linear_named(self.alloc, game, self.planning.tables(), table) {
             Ok(linear) => Ok(Posed::Linear(linear)),
-            Err(ChangeFault::Refused(refusal)) => {
+            Err(Denied::Refused(refusal)) => {
                 Ok(Posed::Reply(planner_tables::refused(game, refusal, None)))
             }
-            Err(ChangeFault::NoMemory) => Err(NoMemory),
+            Err(Denied::NoMemory) => Err(NoMemory),
         }
     }
 }

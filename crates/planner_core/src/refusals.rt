@@ -9,9 +9,9 @@ ghost use Rattle.game_types.specs.Sound.{IsSound};
 use data_edit::EditFault;
 use game_types::Game;
 use milestone_masks::MilestoneFault;
-use plan_base::NoMemory;
+use plan_base::{Denied, NoMemory};
 use plan_lines::{Detail, Object, RefusalCode, Reply};
-use planning_state::{ChangeFault, Refusal};
+use planning_state::Refusal;
 
 fn edit_code(fault: EditFault) -> RefusalCode
     ensures { result ≡ edit_code fault }
@@ -21,7 +21,6 @@ fn edit_code(fault: EditFault) -> RefusalCode
         EditFault::NotPositive => RefusalCode::X3,
         EditFault::NoChange => RefusalCode::X2,
         EditFault::Limit => RefusalCode::X4,
-        EditFault::NoMemory => RefusalCode::X1,
     }
 }
 
@@ -82,12 +81,12 @@ pub fn refused(game: &Game, refusal: Refusal, at: Option<u32>) -> Reply
 }
 
 /// The reply where an object can't be found.
-pub fn not_found(game: &Game, fault: ChangeFault) -> Result<Reply, NoMemory>
+pub fn not_found(game: &Game, fault: Denied<Refusal>) -> Result<Reply, NoMemory>
     requires { IsSound game.now }
-    ensures { IfOk result (λ answer. (refusal : RefusalOf) × (fault ≡ ChangeFault.Refused refusal) × (answer ≡ refused game.now refusal None)) }
+    ensures { IfOk result (λ answer. (refusal : RefusalOf) × (fault ≡ Denied.Refused refusal) × (answer ≡ refused game.now refusal None)) }
 {
     match fault {
-        ChangeFault::Refused(refusal) => Ok(refused(game, refusal, None)),
-        ChangeFault::NoMemory => Err(NoMemory),
+        Denied::Refused(refusal) => Ok(refused(game, refusal, None)),
+        Denied::NoMemory => Err(NoMemory),
     }
 }

@@ -18,7 +18,6 @@ use Rattle.plan_lines.specs.declared.change.Change.TheVariants as change
 use Rattle.production_table.specs.declared.tables.Table.{Table}
 use Rattle.production_table.specs.Changes.{empty_table}
 use Rattle.production_table.specs.Tables.{IsSoundTable}
-use Rattle.table_words.specs.declared.refusals.ChangeFault.TheVariants.{Refused}
 use Rattle.table_words.specs.declared.refusals.TableRefusal.{TableRefusal}
 use Rattle.table_words.specs.declared.refusals.TableRefusal.TheVariants.{NameUsed, Full}
 use Rattle.planner_tables.specs.declared.splices.Splice.TheVariants.{Remove}
@@ -29,7 +28,6 @@ use Rattle.planner_tables.specs.declared.undos.TableUndo.{TableUndo}
 use Rattle.planner_tables.specs.declared.undos.TableUndo.TheVariants as undo
 use Rattle.planner_tables.specs.Effects.{AreSoundTables, HaveOwnNames, IsSoundOn, is_name, placed, table_at, table_named, tables_effect, with_table}
 use Rattle.table_words.specs.Names.{good_named, setup_named}
-use Rattle.table_words.specs.Refusals.{Outcome}
 use Rattle.planner_tables.specs.Steps.{MakesTable, MakesTables, is_step, step_effect, step_named, step_table}
 use Rattle.planner_tables.specs.Undoing.{has_room, part_restored, spliced, tables_restored}
 use Rattle.plan_base.proofs.Places.{put_back}
@@ -57,7 +55,7 @@ same_after (Ok x) f k h = h x
 same_after (Err e) f k h = refl
 
 -- what follows a table's place
-abbrev after : Game → List Table → Change → ℕ → Outcome (List Table)
+abbrev after : Game → List Table → Change → ℕ → Result (List Table) TableRefusal
 after g ts c place = step_named g c ▸ λ s. placed ts place (step_effect g s (table_at ts place))
 
 -- a step is taken: its table, its names, and what the table makes of it
@@ -236,6 +234,3 @@ drop_made g ts us name place room back s h within z k e b =
       back = b;
       sound = subst (AreSoundTables g) (sym is) on;
     }
-
-pub refused_same : (cause refusal : TableRefusal) → Refused cause ≡ Refused refusal → cause ≡ refusal
-refused_same cause refusal h = cc

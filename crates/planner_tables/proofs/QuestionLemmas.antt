@@ -1,21 +1,26 @@
 -- What is answered about tables.
-use Rattle.std.proofs.Common.{◌≡◌, ◌∙◌, ℕ, ◌+◌, ◌<◌, ◌≤◌, List, [], ◌∷◌, length, get_or, drop, Some, None, Ok, Err, sym, ap, subst}
+use Rattle.std.proofs.Common.{◌≡◌, ◌∙◌, ℕ, ◌+◌, ◌<◌, ◌≤◌, List, [], ◌∷◌, length, get_or, drop, Some, None, Ok, Err, refl, sym, ap, subst}
 use Rattle.std.specs.Prelude.{All, Bool, true, false, cond, find, Result}
 use Rattle.std.proofs.lemmas.List.Elements.{All-head, All-tail}
+use Rattle.plan_base.specs.declared.denied.Denied.{Denied}
+use Rattle.plan_base.specs.declared.denied.Denied.TheVariants.{Refused, NoMemory}
+use Rattle.plan_base.specs.Outcomes.{Gives, IsRefused}
+use Rattle.plan_base.proofs.Outcomes.{refused_same}
 use Rattle.linear_table.specs.declared.Linear.{Linear}
 use Rattle.linear_table.specs.declared.LinearColumn.{LinearColumn}
 use Rattle.game_types.specs.declared.games.Game.{Game}
 use Rattle.game_types.specs.Steps.{◌▸◌}
 use Rattle.game_types.proofs.Walks.{next as next_of, drop_all}
+use Rattle.production_table.specs.declared.faults.TableFault.{TableFault}
 use Rattle.production_table.specs.declared.tables.Table.{Table}
 use Rattle.production_table.specs.declared.tables.TableRow.{TableRow}
 use Rattle.production_table.specs.Tables.{labels_of}
 use Rattle.plan_lines.specs.declared.reply.Reply.{Reply}
 use Rattle.table_words.specs.declared.refusals.TableRefusal.{TableRefusal}
-use Rattle.table_words.specs.declared.refusals.ChangeFault.{ChangeFault}
+use Rattle.planner_tables.specs.Causes.{cause, caused, denied_as}
 use Rattle.planner_tables.specs.Effects.{table_at, table_named}
 use Rattle.planner_tables.specs.Questions.{column_names, rate_outcome, row_rates_outcome, IsSolvedWhere, IsSolveReply, IsSolveReplyAt, linear_named, linear_outcome}
-use Rattle.table_words.specs.Refusals.{Gives, Outcome, refused}
+use Rattle.table_words.specs.Refusals.{refused}
 
 -- ---- labels
 pub labels_next : (rows : List TableRow) (k : ℕ) (row : TableRow) → k < length rows → row ≡ get_or rows k row → labels_of (drop k rows) ≡ row.label ∷ labels_of (drop (k + 1) rows)
@@ -43,25 +48,30 @@ found_all P p (y ∷ ys) x h hs = by_test (p y) (λ e. found_all P p ys x e (All
 pub rate_at : (g : Game) (ts : List Table) (name label : List ℕ) (place : ℕ) (t : Table) → table_named ts name ≡ Ok place → table_at ts place ≡ t → rate_outcome g ts name label ≡ row_rates_outcome g t label
 unfolding rate_outcome
 rate_at g ts name label place t h e =
-    ap (λ (o : Outcome ℕ). o ▸ λ p. row_rates_outcome g (table_at ts p) label) h ∙ ap (λ (x : Table). row_rates_outcome g x label) e
+    ap (λ (o : Result ℕ TableRefusal). o ▸ λ p. row_rates_outcome g (table_at ts p) label) h ∙ ap (λ (x : Table). row_rates_outcome g x label) e
 
 -- ---- solving
 pub solve_refused : (g : Game) (ts : List Table) (name : List ℕ) (budget : ℕ) (refusal : TableRefusal) (r : Reply) → table_named ts name ≡ Err refusal → r ≡ refused g refusal None → IsSolveReply g ts name budget r
 unfolding IsSolveReply
-solve_refused g ts name budget refusal r h e = subst (λ (o : Outcome ℕ). IsSolveReplyAt g ts budget o r) (sym h) e
+solve_refused g ts name budget refusal r h e = subst (λ (o : Result ℕ TableRefusal). IsSolveReplyAt g ts budget o r) (sym h) e
 
 pub solve_asked : (g : Game) (ts : List Table) (name : List ℕ) (budget place : ℕ) (t : Table) (r : Reply) → table_named ts name ≡ Ok place → table_at ts place ≡ t → IsSolvedWhere g t budget (linear_outcome g t) r → IsSolveReply g ts name budget r
 unfolding IsSolveReply
 solve_asked g ts name budget place t r h e s =
-    subst (λ (o : Outcome ℕ). IsSolveReplyAt g ts budget o r) (sym h)
+    subst (λ (o : Result ℕ TableRefusal). IsSolveReplyAt g ts budget o r) (sym h)
     (subst (λ (x : Table). IsSolvedWhere g x budget (linear_outcome g x) r) (sym e) s)
 
-pub linear_refused : (g : Game) (ts : List Table) (name : List ℕ) (fault : ChangeFault) → Gives (table_named ts name) (Err fault) → Gives (linear_named g ts name) (Err fault)
+pub linear_refused : (g : Game) (ts : List Table) (name : List ℕ) (fault : Denied TableRefusal) → Gives (table_named ts name) (Err fault) → Gives (linear_named g ts name) (Err fault)
 unfolding linear_named
-linear_refused g ts name fault given = λ refusal is. ap (λ (o : Outcome ℕ). o ▸ λ place. linear_outcome g (table_at ts place)) (given refusal is)
+linear_refused g ts name fault given = λ refusal is. ap (λ (o : Result ℕ TableRefusal). o ▸ λ place. linear_outcome g (table_at ts place)) (given refusal is)
 
-pub linear_asked : (g : Game) (ts : List Table) (name : List ℕ) (place : ℕ) (t : Table) (r : Result Linear ChangeFault) → table_named ts name ≡ Ok place → table_at ts place ≡ t → Gives (linear_outcome g t) r → Gives (linear_named g ts name) r
+pub linear_asked : (g : Game) (ts : List Table) (name : List ℕ) (place : ℕ) (t : Table) (r : Result Linear (Denied TableRefusal)) → table_named ts name ≡ Ok place → table_at ts place ≡ t → Gives (linear_outcome g t) r → Gives (linear_named g ts name) r
 unfolding linear_named
 linear_asked g ts name place t r h e given =
-    subst (λ (o : Outcome ℕ). Gives (o ▸ λ p. linear_outcome g (table_at ts p)) r) (sym h)
+    subst (λ (o : Result ℕ TableRefusal). Gives (o ▸ λ p. linear_outcome g (table_at ts p)) r) (sym h)
     (subst (λ (x : Table). Gives (linear_outcome g x) r) (sym e) given)
+
+-- a linear form that is refused
+pub caused_as : {A : Type 0} (meant : Result A TableFault) (unknown refusal : TableRefusal) (fault : Denied TableFault) → IsRefused meant fault → denied_as unknown fault ≡ Refused refusal → caused unknown meant ≡ Err refusal
+caused_as meant unknown refusal (Refused fault) h k = ap (caused unknown) (h fault refl) ∙ ap Err (refused_same (cause unknown fault) refusal k)
+caused_as meant unknown refusal NoMemory h k = absurd cc

@@ -1,18 +1,22 @@
 -- What a change makes of one table, and that its part leads back.
-use Rattle.std.proofs.Common.{◌≡◌, ◌≢◌, ◌∙◌, ℕ, suc, ◌<◌, ◌≤◌, List, [], ◌∷◌, ◌++◌, true, false, length, get_or, drop, take, Option, Some, None, Result, Ok, Err, refl, sym, ap, subst, arith}
+use Rattle.std.proofs.Common.{◌≡◌, ◌∙◌, ℕ, suc, ◌<◌, ◌≤◌, List, [], ◌∷◌, ◌++◌, true, false, length, get_or, drop, take, Option, Some, None, Result, Ok, Err, refl, sym, ap, subst, arith}
 use Rattle.std.specs.Prelude.{All, if◌then◌else◌, ◌==◌, nat_lt, insert, remove, slice_get, slice_set, position, vec_capacity, vec_len, Vec}
 use Rattle.std.specs.Global.{Global}
 use Rattle.std.proofs.lemmas.List.Elements.{All-cons, All-head, All-tail, All-push, All-set, All-take, All-drop, All-append, All-get_or}
 use Rattle.std.proofs.lemmas.Option.{get_or_from_slice_get}
 use Rattle.fractions.specs.Fraction.{Fraction}
+use Rattle.plan_base.specs.declared.denied.Denied.{Denied}
+use Rattle.plan_base.specs.declared.denied.Denied.TheVariants.{Refused, NoMemory}
 use Rattle.plan_base.specs.declared.ids.GoodId.{GoodId}
+use Rattle.plan_base.specs.Outcomes.{IsRefused}
+use Rattle.plan_base.proofs.Outcomes.{refused_same}
 use Rattle.game_types.specs.declared.setups.Setup.{Setup}
 use Rattle.game_types.specs.declared.games.Game.{Game}
 use Rattle.game_types.specs.Goods.{good_count}
 use Rattle.game_types.specs.Steps.{◌▸◌}
 use Rattle.table_rows.specs.Setups.{IsFitting, checked_setup}
 use Rattle.production_table.specs.declared.faults.TableFault.{TableFault}
-use Rattle.production_table.specs.declared.faults.TableFault.TheVariants.{Full, LabelUsed, Negative, NoMemory}
+use Rattle.production_table.specs.declared.faults.TableFault.TheVariants.{Full, LabelUsed, Negative}
 use Rattle.production_table.specs.declared.tables.Table.{Table}
 use Rattle.production_table.specs.declared.tables.TableRow.{TableRow}
 use Rattle.production_table.specs.Changes.{dropped, in_table, is_used, new_row, place_of, priced, with_import, with_price, with_row, with_surplus, with_want, without_row}
@@ -27,8 +31,7 @@ use Rattle.planner_tables.specs.declared.splices.Splice.TheVariants.{Remove, Ins
 use Rattle.planner_tables.specs.declared.undos.Numbers.TheVariants.{Wants, Imports, Surpluses}
 use Rattle.planner_tables.specs.declared.undos.TablePart.TheVariants as part
 use Rattle.planner_tables.specs.Effects.{AreGoods, IsSoundOn, table_after}
-use Rattle.table_words.specs.Refusals.{Outcome}
-use Rattle.planner_tables.specs.Causes.{cause}
+use Rattle.planner_tables.specs.Causes.{cause, denied_as}
 use Rattle.planner_tables.specs.Steps.{MakesTable}
 use Rattle.planner_tables.specs.Undoing.{spliced, with_price_at, with_row_price, with_rows}
 use Rattle.plan_base.proofs.Places.{put_back}
@@ -47,7 +50,7 @@ sound_rows g t u rows s e su fits =
     } in
     subst (IsSoundOn g) (sym e) on
 
-makes_rows : (g : Game) (t u : Table) (rows : List TableRow) (meant : Outcome Table) (splice : Splice TableRow) → IsSoundOn g t → meant ≡ Ok u → u ≡ record t { rows = rows } → IsSoundTable u → All (Fits g) rows
+makes_rows : (g : Game) (t u : Table) (rows : List TableRow) (meant : Result Table TableRefusal) (splice : Splice TableRow) → IsSoundOn g t → meant ≡ Ok u → u ≡ record t { rows = rows } → IsSoundTable u → All (Fits g) rows
     → spliced splice rows ≡ t.rows → MakesTable g meant (part.Rows splice) t u
 makes_rows g t u rows meant splice s m e su fits back = record {
   made = m;
@@ -59,10 +62,10 @@ makes_rows g t u rows meant splice s m e su fits back = record {
 ok_same : {A F : Type 0} (v w : A) → (let r : Result A F = Ok v in r) ≡ Ok w → v ≡ w
 ok_same v w h = cc
 
--- a change that is refused, by a cause that isn't want of memory
-pub refused_as : {A : Type 0} (meant : Result (A × Table) TableFault) (unknown refusal : TableRefusal) (fault : TableFault) → (fault ≢ NoMemory → meant ≡ Err fault) → (fault ≢ NoMemory) × (cause unknown fault ≡ refusal)
-    → table_after unknown meant ≡ Err refusal
-refused_as meant unknown refusal fault h k = ap (table_after unknown) (h k.0) ∙ ap Err k.1
+-- a change that is refused
+pub refused_as : {A : Type 0} (meant : Result (A × Table) TableFault) (unknown refusal : TableRefusal) (fault : Denied TableFault) → IsRefused meant fault → denied_as unknown fault ≡ Refused refusal → table_after unknown meant ≡ Err refusal
+refused_as meant unknown refusal (Refused fault) h k = ap (table_after unknown) (h fault refl) ∙ ap Err (refused_same (cause unknown fault) refusal k)
+refused_as meant unknown refusal NoMemory h k = absurd cc
 
 -- ---- a row more
 four : {A F : Type 0} (r s u : Result (Unit {0}) F) (v w : A) → ((r ▸ λ _. s ▸ λ _. u) ▸ λ _. Ok v) ≡ Ok w → v ≡ w

@@ -17,19 +17,18 @@ use Rattle.table_rows.specs.Setups.{IsFitting}
 use Rattle.table_words.specs.declared.refusals.TableRefusal.{TableRefusal}
 use Rattle.table_words.specs.declared.refusals.TableRefusal.TheVariants.{NoName, NoPrice, NameUsed, Full}
 use Rattle.table_words.specs.Names.{good_named, setup_named}
-use Rattle.table_words.specs.Refusals.{Outcome}
 use Rattle.planner_tables.specs.Causes.{cause}
 
 -- ---- tables by their names
 abbrev pub is_name : List ℕ → Table → Bool
 is_name name t = bytes_eq name t.name
 
-abbrev pub named : {A : Type 0} → List ℕ → Option A → Outcome A
+abbrev pub named : {A : Type 0} → List ℕ → Option A → Result A TableRefusal
 named name None = Err (NoName name)
 named name (Some thing) = Ok thing
 
 -- the place of the first table of a name
-unfoldable pub table_named : List Table → List ℕ → Outcome ℕ
+unfoldable pub table_named : List Table → List ℕ → Result ℕ TableRefusal
 table_named ts name = named name (position (is_name name) ts)
 
 -- the table at a place; where none is, which comes at no place that a name gives, an empty one
@@ -38,24 +37,24 @@ table_at ts place = slice_index_or ts place (empty_table [])
 
 -- ---- what a change makes of them
 -- a new table comes in at the end: first its name, then the room
-unfoldable pub with_table : List ℕ → List Table → Outcome (List Table)
+unfoldable pub with_table : List ℕ → List Table → Result (List Table) TableRefusal
 with_table name ts =
     if list_any (is_name name) ts then Err NameUsed
     else if nat_lt (length ts) 64 then Ok (ts ++ empty_table name ∷ [])
     else Err Full
 
 -- a table after a change, beside which it answers what undoes it; or its refusal, with the name that it doesn't know
-abbrev pub table_after : {A : Type 0} → TableRefusal → Result (A × Table) TableFault → Outcome Table
+abbrev pub table_after : {A : Type 0} → TableRefusal → Result (A × Table) TableFault → Result Table TableRefusal
 table_after unknown (Ok both) = Ok both.1
 table_after unknown (Err fault) = Err (cause unknown fault)
 
 -- another table at a place
-abbrev pub placed : List Table → ℕ → Outcome Table → Outcome (List Table)
+abbrev pub placed : List Table → ℕ → Result Table TableRefusal → Result (List Table) TableRefusal
 placed ts place new = new ▸ λ t. Ok (slice_set ts place t)
 
 -- The tables after a change, or its first refusal. Names come before all else, word by word: the table's, those of a row's
 -- set-up or the good's; then what the table itself refuses, in its order. A change of the game and its marks leaves them.
-unfoldable pub tables_effect : Game → List Table → Change → Outcome (List Table)
+unfoldable pub tables_effect : Game → List Table → Change → Result (List Table) TableRefusal
 tables_effect g ts (change.Table name) = with_table name ts
 tables_effect g ts (change.Untable name) = table_named ts name ▸ λ place. Ok (remove ts place)
 tables_effect g ts (change.Row table label does machine parts) =

@@ -20,13 +20,14 @@ use Rattle.production_table.specs.Linear.{linear_of}
 use Rattle.production_table.specs.Tables.{is_label, labels_of}
 use Rattle.plan_lines.specs.declared.reply.Reply.{Reply}
 use Rattle.plan_lines.specs.declared.reply.Reply.TheVariants as reply
+use Rattle.table_words.specs.declared.refusals.TableRefusal.{TableRefusal}
 use Rattle.table_words.specs.declared.refusals.TableRefusal.TheVariants.{NoName, Wide as WideRow}
 use Rattle.planner_tables.specs.Effects.{named, table_at, table_named}
 use Rattle.planner_tables.specs.Figures.{answer_figures, nothing, summed}
-use Rattle.table_words.specs.Refusals.{Outcome, refused}
+use Rattle.table_words.specs.Refusals.{refused}
 use Rattle.planner_tables.specs.Causes.{caused}
 
-abbrev pub answered : Game → Outcome Reply → Reply
+abbrev pub answered : Game → Result Reply TableRefusal → Reply
 answered g (Ok answer) = answer
 answered g (Err refusal) = refused g refusal None
 
@@ -35,15 +36,15 @@ abbrev pub rates_reply : Table → TableRow → Effects × Rates × Fraction →
 rates_reply t row rates = reply.Rate t.name row.label rates.0 rates.1 rates.2
 
 -- the first step of a row's rates that is past the limits of fractions; neither the sums of its column nor its draw are asked
-abbrev pub rates_outcome : Table → TableRow → Result (Effects × Rates × Fraction) Wide → Outcome Reply
+abbrev pub rates_outcome : Table → TableRow → Result (Effects × Rates × Fraction) Wide → Result Reply TableRefusal
 rates_outcome t row (Ok rates) = Ok (rates_reply t row rates)
 rates_outcome t row (Err wide) = Err (WideRow row.label wide.step)
 
-abbrev pub row_rates_outcome : Game → Table → List ℕ → Outcome Reply
+abbrev pub row_rates_outcome : Game → Table → List ℕ → Result Reply TableRefusal
 row_rates_outcome g t label = named label (find (is_label label) t.rows) ▸ λ row. rates_outcome t row (figures_of g row.setup)
 
 -- first the table, then its row
-unfoldable pub rate_outcome : Game → List Table → List ℕ → List ℕ → Outcome Reply
+unfoldable pub rate_outcome : Game → List Table → List ℕ → List ℕ → Result Reply TableRefusal
 rate_outcome g ts table label = table_named ts table ▸ λ place. row_rates_outcome g (table_at ts place) label
 
 abbrev pub rate_reply : Game → List Table → List ℕ → List ℕ → Reply
@@ -70,11 +71,11 @@ solved g t l a =
     reply.Solved t.name (labels_of t.rows) l.goods (column_names l.columns) (answer_figures g t.rows a) (summed nothing (answer_figures g t.rows a)) a
 
 -- the linear form of a table, or the first refusal: no table of this name, a row that is too wide, too many goods
-abbrev pub linear_outcome : Game → Table → Outcome Linear
+abbrev pub linear_outcome : Game → Table → Result Linear TableRefusal
 linear_outcome g t = caused (NoName t.name) (linear_of g t)
 
 -- that of the table of a name, or the first refusal
-unfoldable pub linear_named : Game → List Table → List ℕ → Outcome Linear
+unfoldable pub linear_named : Game → List Table → List ℕ → Result Linear TableRefusal
 linear_named g ts table = table_named ts table ▸ λ place. linear_outcome g (table_at ts place)
 
 -- a reply that holds an answer of the solver
@@ -83,11 +84,11 @@ pub record IsSolved (g : Game) (t : Table) (l : Linear) (budget : ℕ) (r : Repl
   pub is_answer : IsSolveAnswer l budget answer
   pub reply_is : r ≡ solved g t l answer
 
-abbrev pub IsSolvedWhere : Game → Table → ℕ → Outcome Linear → Reply → Type 0
+abbrev pub IsSolvedWhere : Game → Table → ℕ → Result Linear TableRefusal → Reply → Type 0
 IsSolvedWhere g t budget (Ok l) r = IsSolved g t l budget r
 IsSolvedWhere g t budget (Err refusal) r = r ≡ refused g refusal None
 
-abbrev pub IsSolveReplyAt : Game → List Table → ℕ → Outcome ℕ → Reply → Type 0
+abbrev pub IsSolveReplyAt : Game → List Table → ℕ → Result ℕ TableRefusal → Reply → Type 0
 IsSolveReplyAt g ts budget (Ok place) r = IsSolvedWhere g (table_at ts place) budget (linear_outcome g (table_at ts place)) r
 IsSolveReplyAt g ts budget (Err refusal) r = r ≡ refused g refusal None
 

@@ -1,5 +1,5 @@
 -- What a change makes of one table.
-use Rattle.std.specs.Prelude.{◌≡◌, ◌<◌, ℕ, List, [], Bool, true, false, Ok, Err}
+use Rattle.std.specs.Prelude.{◌≡◌, ◌<◌, ℕ, List, [], Bool, true, false, Result, Ok}
 use Rattle.game_types.specs.declared.games.Game.{Game}
 use Rattle.game_types.specs.Goods.{good_count}
 use Rattle.game_types.specs.Sound.{IsSoundSetup}
@@ -8,8 +8,6 @@ use Rattle.plan_lines.specs.declared.change.Change.{Change}
 use Rattle.plan_lines.specs.declared.change.Change.TheVariants as change
 use Rattle.production_table.specs.declared.tables.Table.{Table}
 use Rattle.production_table.specs.Changes.{with_balance, with_import, with_price, with_row, with_surplus, with_want, without_row}
-use Rattle.table_words.specs.declared.refusals.ChangeFault.{ChangeFault}
-use Rattle.table_words.specs.declared.refusals.ChangeFault.TheVariants.{Refused}
 use Rattle.table_words.specs.declared.refusals.TableRefusal.{TableRefusal}
 use Rattle.table_words.specs.declared.refusals.TableRefusal.TheVariants.{NoName, NoPrice}
 use Rattle.planner_tables.specs.declared.steps.Step.{Step}
@@ -18,22 +16,17 @@ use Rattle.planner_tables.specs.declared.undos.TablePart.{TablePart}
 use Rattle.planner_tables.specs.declared.undos.TableUndo.{TableUndo}
 use Rattle.planner_tables.specs.Effects.{AreSoundTables, IsSoundOn, table_after}
 use Rattle.table_words.specs.Names.{good_named, setup_named}
-use Rattle.table_words.specs.Refusals.{Outcome}
 use Rattle.planner_tables.specs.Undoing.{part_restored, tables_restored}
 
 -- the table that is meant, of the same name and sound, and the part that leads back
-pub record MakesTable (g : Game) (meant : Outcome Table) (part : TablePart) (old new : Table) : Type 0 where
+pub record MakesTable (g : Game) (meant : Result Table TableRefusal) (part : TablePart) (old new : Table) : Type 0 where
   pub made : meant ≡ Ok new
   pub back : part_restored part new ≡ old
   pub name : new.name ≡ old.name
   pub sound : IsSoundOn g new
 
--- the refusal that is meant, unless memory could not be had
-abbrev pub IsRefused : {A : Type 0} → Outcome A → ChangeFault → Type 0
-IsRefused meant fault = (refusal : TableRefusal) → fault ≡ Refused refusal → meant ≡ Err refusal
-
 -- ---- steps: changes of one table, with things in place of their names
-abbrev pub step_effect : Game → Step → Table → Outcome Table
+abbrev pub step_effect : Game → Step → Table → Result Table TableRefusal
 step_effect g (step.Row label setup) t = table_after (NoName label) (with_row g label setup t)
 step_effect g (step.Unrow label) t = table_after (NoName label) (without_row label t)
 step_effect g (step.Price label price) t = table_after (NoName label) (with_price label price t)
@@ -74,7 +67,7 @@ step_table (change.Power table on) = table
 step_table other = []
 
 -- the step that a change asks for; changes that are no step ask for none
-unfoldable pub step_named : Game → Change → Outcome Step
+unfoldable pub step_named : Game → Change → Result Step TableRefusal
 step_named g (change.Row table label does machine parts) = setup_named g does machine parts ▸ λ setup. Ok (step.Row label setup)
 step_named g (change.Unrow table label) = Ok (step.Unrow label)
 step_named g (change.Price table label price) = Ok (step.Price label price)
@@ -85,7 +78,7 @@ step_named g (change.Power table on) = Ok (step.Power on)
 step_named g other = Ok (step.Power false)
 
 -- ---- the tables that are meant, sound, and the part that leads back
-pub record MakesTables (g : Game) (meant : Outcome (List Table)) (undo : TableUndo) (old new : List Table) : Type 0 where
+pub record MakesTables (g : Game) (meant : Result (List Table) TableRefusal) (undo : TableUndo) (old new : List Table) : Type 0 where
   pub made : meant ≡ Ok new
   pub back : tables_restored undo new ≡ old
   pub sound : AreSoundTables g new

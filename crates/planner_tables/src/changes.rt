@@ -1,20 +1,19 @@
 //! Changes of tables.
 ghost use Rattle.std.specs.Prelude.{◌≡◌, ◌<◌, ◌≤◌, ◌++◌, ◌∷◌, [], true, Ok, Err, IfOk, IfErr, OnErr, length, position, vec_len, vec_capacity};
 ghost use Rattle.std.specs.List.{list_any};
+ghost use Rattle.plan_base.specs.Outcomes.{Gives, IsRefused};
 ghost use Rattle.game_types.specs.Sound.{IsSound};
-ghost use Rattle.table_words.specs.declared.refusals.TableRefusal.{TableRefusal as RefusalOf};
 ghost use Rattle.planner_tables.specs.Effects.{AreSoundTables, is_name, is_of_tables, table_named, tables_effect};
-ghost use Rattle.table_words.specs.Refusals.{Gives};
-ghost use Rattle.planner_tables.specs.Steps.{IsRefused, MakesTables, StepFits, is_step, step_named, step_table};
+ghost use Rattle.planner_tables.specs.Steps.{MakesTables, StepFits, is_step, step_named, step_table};
 ghost use Rattle.planner_tables.specs.Undoing.{tables_restored};
 
 use crate::faults::no_name;
 use crate::splices::exchange_element;
 use crate::steps::{Step, take_step};
-use crate::{ChangeFault, Splice, TableRefusal, TableUndo};
+use crate::{Splice, TableRefusal, TableUndo};
 use fractions::Ratio;
 use game_types::Game;
-use plan_base::Text;
+use plan_base::{Denied, Text};
 use plan_lines::Change;
 use production_table::Table;
 use std::alloc::Global;
@@ -33,7 +32,7 @@ pub(crate) fn table_named(
     alloc: Global,
     tables: &[Table],
     name: &Text,
-) -> Result<usize, ChangeFault>
+) -> Result<usize, Denied<TableRefusal>>
     ensures place { Gives (table_named tables.now name.now) result }
     ensures within { IfOk result (λ place. place < length tables.now) }
 {
@@ -54,7 +53,7 @@ fn copied_price(price: &Option<Ratio>) -> Option<Ratio>
 
 #[tactic(auto, unfolding(crate::specs::Steps::step_named))]
 // The step that a change asks for.
-fn step_named(alloc: Global, game: &Game, change: &Change) -> Result<Step, ChangeFault>
+fn step_named(alloc: Global, game: &Game, change: &Change) -> Result<Step, Denied<TableRefusal>>
     requires game { IsSound game.now }
     requires step { is_step change.now ≡ true }
     ensures step { Gives (step_named game.now change.now) result }
@@ -122,7 +121,7 @@ fn change_table(
     tables: &mut Vec<Table>,
     name: &Text,
     change: &Change,
-) -> Result<TableUndo, ChangeFault>
+) -> Result<TableUndo, Denied<TableRefusal>>
     requires game { IsSound game.now }
     requires sound { AreSoundTables game.now tables.old.items }
     requires step { is_step change.now ≡ true }
@@ -162,7 +161,7 @@ fn add_table(
     game: &Game,
     tables: &mut Vec<Table>,
     name: &Text,
-) -> Result<TableUndo, ChangeFault>
+) -> Result<TableUndo, Denied<TableRefusal>>
     requires sound { AreSoundTables game.now tables.old.items }
     ensures ok { IfOk result (λ undo. MakesTables game.now (tables_effect game.now tables.old.items (Change.Table name.now)) undo tables.old.items tables.new.items) }
     ensures fault { IfErr result (IsRefused (tables_effect game.now tables.old.items (Change.Table name.now))) }
@@ -170,20 +169,20 @@ fn add_table(
 {
     let _game = game;
     if has_table(tables.as_slice(), name) {
-        return Err(ChangeFault::Refused(TableRefusal::NameUsed));
+        return Err(Denied::Refused(TableRefusal::NameUsed));
     }
     let place = tables.len();
     if place >= 64 {
-        return Err(ChangeFault::Refused(TableRefusal::Full));
+        return Err(Denied::Refused(TableRefusal::Full));
     }
     let Ok(room) = Vec::with_capacity(alloc, place) else {
-        return Err(ChangeFault::NoMemory);
+        return Err(Denied::NoMemory);
     };
     let Ok(table) = Table::make(alloc, name.as_str()) else {
-        return Err(ChangeFault::NoMemory);
+        return Err(Denied::NoMemory);
     };
     if tables.reserve(1).is_err() {
-        return Err(ChangeFault::NoMemory);
+        return Err(Denied::NoMemory);
     }
     put(tables, table);
     Ok(TableUndo::Tables(Splice::Remove { place, room }))
@@ -195,7 +194,7 @@ fn drop_table(
     game: &Game,
     tables: &mut Vec<Table>,
     name: &Text,
-) -> Result<TableUndo, ChangeFault>
+) -> Result<TableUndo, Denied<TableRefusal>>
     requires sound { AreSoundTables game.now tables.old.items }
     ensures ok { IfOk result (λ undo. MakesTables game.now (tables_effect game.now tables.old.items (Change.Untable name.now)) undo tables.old.items tables.new.items) }
     ensures fault { IfErr result (IsRefused (tables_effect game.now tables.old.items (Change.Untable name.now))) }
@@ -204,7 +203,7 @@ fn drop_table(
     let _game = game;
     let place = table_named(alloc, tables.as_slice(), name)?;
     let Ok(room) = Vec::with_capacity(alloc, tables.len()) else {
-        return Err(ChangeFault::NoMemory);
+        return Err(Denied::NoMemory);
     };
     let back = exchange_element(tables, Splice::Remove { place, room });
     Ok(TableUndo::Tables(back))
@@ -216,7 +215,7 @@ fn make_change(
     game: &Game,
     tables: &mut Vec<Table>,
     change: &Change,
-) -> Result<TableUndo, ChangeFault>
+) -> Result<TableUndo, Denied<TableRefusal>>
     requires sound { IsSound game.now }
     requires tables { AreSoundTables game.now tables.old.items }
     requires change { is_of_tables change.now ≡ true }
@@ -248,13 +247,13 @@ pub fn change_tables(
     game: &Game,
     tables: &mut Vec<Table>,
     change: &Change,
-) -> Result<TableUndo, ChangeFault>
+) -> Result<TableUndo, Denied<TableRefusal>>
     requires sound { IsSound game.now }
     requires tables { AreSoundTables game.now tables.old.items }
     requires change { is_of_tables change.now ≡ true }
     ensures ok { IfOk result (λ undo. tables_effect game.now tables.old.items change.now ≡ Ok tables.new.items) }
     ensures back { IfOk result (λ undo. tables_restored undo tables.new.items ≡ tables.old.items) }
-    ensures fault { IfErr result (λ fault. (refusal : RefusalOf) → fault ≡ ChangeFault.Refused refusal → tables_effect game.now tables.old.items change.now ≡ Err refusal) }
+    ensures fault { IfErr result (IsRefused (tables_effect game.now tables.old.items change.now)) }
     ensures err { OnErr result (tables.new.items ≡ tables.old.items) }
     ensures sound { AreSoundTables game.now tables.new.items }
 {

@@ -1,21 +1,21 @@
 //! What the solver says of tables.
 ghost use Rattle.std.specs.Prelude.{◌≡◌, IfOk};
+ghost use Rattle.plan_base.specs.Outcomes.{Gives};
 ghost use Rattle.game_types.specs.Sound.{IsSound};
 ghost use Rattle.linear_table.specs.Plans.{IsWellFormed};
 ghost use Rattle.production_table.specs.Tables.{labels_of};
 ghost use Rattle.planner_tables.specs.Effects.{AreSoundTables, IsSoundOn};
 ghost use Rattle.planner_tables.specs.Figures.{answer_figures};
 ghost use Rattle.planner_tables.specs.Questions.{column_names, IsSolved, IsSolvedWhere, IsSolveReply, linear_named, linear_outcome, solved};
-ghost use Rattle.table_words.specs.Refusals.{Gives};
 
 use crate::changes::table_named;
 use crate::faults::row_fault;
 use crate::figures::{answer_figures, summed};
-use crate::{ChangeFault, refused};
+use crate::{TableRefusal, refused};
 use game_types::Game;
 use linear_table::{Column, Linear, LinearColumn, SolveAnswer};
 use pivot_solver::solve;
-use plan_base::{Items, NoMemory, Text};
+use plan_base::{Denied, Items, NoMemory, Text};
 use plan_lines::{Figures, Reply};
 use production_table::{Table, TableRow};
 use std::alloc::Global;
@@ -126,7 +126,7 @@ fn solved_within(
 }
 
 // The linear form of a table, or why it has none.
-fn linear_of(alloc: Global, game: &Game, table: &Table) -> Result<Linear, ChangeFault>
+fn linear_of(alloc: Global, game: &Game, table: &Table) -> Result<Linear, Denied<TableRefusal>>
     requires sound { IsSound game.now }
     requires table { IsSoundOn game.now table.now }
     ensures linear { Gives (linear_outcome game.now table.now) result }
@@ -148,7 +148,7 @@ pub fn linear_named(
     game: &Game,
     tables: &[Table],
     table: &Text,
-) -> Result<Linear, ChangeFault>
+) -> Result<Linear, Denied<TableRefusal>>
     requires sound { IsSound game.now }
     requires tables { AreSoundTables game.now tables.now }
     ensures linear { Gives (linear_named game.now tables.now table.now) result }
@@ -166,8 +166,8 @@ fn solve_table(alloc: Global, game: &Game, table: &Table, budget: u32) -> Result
 {
     match linear_of(alloc, game, table) {
         Ok(linear) => solved_within(alloc, game, table, linear, budget),
-        Err(ChangeFault::Refused(refusal)) => Ok(refused(game, refusal, None)),
-        Err(ChangeFault::NoMemory) => Err(NoMemory),
+        Err(Denied::Refused(refusal)) => Ok(refused(game, refusal, None)),
+        Err(Denied::NoMemory) => Err(NoMemory),
     }
 }
 
@@ -193,7 +193,7 @@ pub fn solve_reply(
             let reply = solve_table(alloc, game, &tables[place], budget)?;
             Ok(reply)
         }
-        Err(ChangeFault::Refused(refusal)) => Ok(refused(game, refusal, None)),
-        Err(ChangeFault::NoMemory) => Err(NoMemory),
+        Err(Denied::Refused(refusal)) => Ok(refused(game, refusal, None)),
+        Err(Denied::NoMemory) => Err(NoMemory),
     }
 }

@@ -1,19 +1,19 @@
 //! What is answered about the rates of a row.
 ghost use Rattle.std.specs.Prelude.{◌≡◌, IfOk, find, option_map};
+ghost use Rattle.plan_base.specs.Outcomes.{Gives};
 ghost use Rattle.game_types.specs.Sound.{IsSound};
 ghost use Rattle.production_table.specs.Tables.{is_label};
 ghost use Rattle.table_rows.specs.Columns.{figures_of};
 ghost use Rattle.table_rows.specs.Setups.{IsFitting};
 ghost use Rattle.planner_tables.specs.Effects.{AreSoundTables, IsSoundOn};
 ghost use Rattle.planner_tables.specs.Questions.{rate_outcome, rate_reply, rates_outcome, rates_reply, row_rates_outcome};
-ghost use Rattle.table_words.specs.Refusals.{Gives};
 
 use crate::changes::table_named;
 use crate::faults::no_name;
-use crate::{ChangeFault, TableRefusal, refused};
+use crate::{TableRefusal, refused};
 use fractions::Ratio;
 use game_types::{Effects, Game, Rates};
-use plan_base::{NoMemory, Text};
+use plan_base::{Denied, NoMemory, Text};
 use plan_lines::Reply;
 use production_table::{Table, TableRow};
 use std::alloc::Global;
@@ -47,7 +47,12 @@ fn rates_reply(
 }
 
 // The rates of a row, or that a step of them is too wide.
-fn rates_of(alloc: Global, game: &Game, table: &Table, row: &TableRow) -> Result<Reply, ChangeFault>
+fn rates_of(
+    alloc: Global,
+    game: &Game,
+    table: &Table,
+    row: &TableRow,
+) -> Result<Reply, Denied<TableRefusal>>
     requires sound { IsSound game.now }
     requires fits { IsFitting game.now row.now.setup }
     ensures { Gives (rates_outcome table.now row.now (figures_of game.now row.now.setup)) result }
@@ -59,7 +64,7 @@ fn rates_of(alloc: Global, game: &Game, table: &Table, row: &TableRow) -> Result
         }
         Err(wide) => {
             let label = Text::copy(alloc, row.label.as_str())?;
-            Err(ChangeFault::Refused(TableRefusal::Wide {
+            Err(Denied::Refused(TableRefusal::Wide {
                 label,
                 step: wide.step,
             }))
@@ -73,7 +78,7 @@ fn row_rates_of(
     game: &Game,
     table: &Table,
     label: &Text,
-) -> Result<Reply, ChangeFault>
+) -> Result<Reply, Denied<TableRefusal>>
     requires sound { IsSound game.now }
     requires table { IsSoundOn game.now table.now }
     ensures { Gives (row_rates_outcome game.now table.now label.now) result }
@@ -92,7 +97,7 @@ fn rates_named(
     tables: &[Table],
     table: &Text,
     label: &Text,
-) -> Result<Reply, ChangeFault>
+) -> Result<Reply, Denied<TableRefusal>>
     requires sound { IsSound game.now }
     requires tables { AreSoundTables game.now tables.now }
     ensures { Gives (rate_outcome game.now tables.now table.now label.now) result }
@@ -119,7 +124,7 @@ pub fn rate_reply(
 {
     match rates_named(alloc, game, tables, table, label) {
         Ok(reply) => Ok(reply),
-        Err(ChangeFault::Refused(refusal)) => Ok(refused(game, refusal, None)),
-        Err(ChangeFault::NoMemory) => Err(NoMemory),
+        Err(Denied::Refused(refusal)) => Ok(refused(game, refusal, None)),
+        Err(Denied::NoMemory) => Err(NoMemory),
     }
 }

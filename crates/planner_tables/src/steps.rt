@@ -3,18 +3,19 @@
 //! Some functions here and in `changes` have a game of which their clauses alone speak: its tables fit it before and behind. Their
 //! bodies read it by `let _game = game;`.
 ghost use Rattle.std.specs.Prelude.{◌≡◌, ◌<◌, Ok, IfOk, IfErr, OnErr};
+ghost use Rattle.plan_base.specs.Outcomes.{IsRefused};
 ghost use Rattle.game_types.specs.Goods.{good_count};
 ghost use Rattle.game_types.specs.Sound.{IsSound, IsSoundSetup};
 ghost use Rattle.production_table.specs.Changes.{with_balance, with_import, with_price, with_row, with_surplus, with_want, without_row};
 ghost use Rattle.planner_tables.specs.Effects.{IsSoundOn, table_after};
-ghost use Rattle.planner_tables.specs.Steps.{IsRefused, MakesTable, StepFits, step_effect};
+ghost use Rattle.planner_tables.specs.Steps.{MakesTable, StepFits, step_effect};
 
-use crate::faults::{good_fault, no_name, row_fault};
+use crate::faults::{good_fault, no_name, row_fault, row_refusal};
 use crate::undos::copied;
-use crate::{ChangeFault, Numbers, Splice, TablePart, TableRefusal};
+use crate::{Numbers, Splice, TablePart, TableRefusal};
 use fractions::Ratio;
 use game_types::{Game, Setup};
-use plan_base::{GoodId, Text};
+use plan_base::{Denied, GoodId, Text};
 use plan_lines::Object;
 use production_table::Table;
 use std::alloc::Global;
@@ -58,7 +59,7 @@ fn add_row(
     table: &mut Table,
     label: &Text,
     setup: Setup,
-) -> Result<TablePart, ChangeFault>
+) -> Result<TablePart, Denied<TableRefusal>>
     requires game { IsSound game.now }
     requires setup { IsSoundSetup game.now setup }
     requires table { IsSoundOn game.now table.old }
@@ -68,7 +69,7 @@ fn add_row(
 {
     let place = table.rows.len();
     let Ok(room) = Vec::with_capacity(alloc, place) else {
-        return Err(ChangeFault::NoMemory);
+        return Err(Denied::NoMemory);
     };
     match table.add_row(alloc, game, label.as_str(), setup) {
         Ok(()) => Ok(TablePart::Rows(Splice::Remove { place, room })),
@@ -82,7 +83,7 @@ fn drop_row(
     game: &Game,
     table: &mut Table,
     label: &Text,
-) -> Result<TablePart, ChangeFault>
+) -> Result<TablePart, Denied<TableRefusal>>
     requires table { IsSoundOn game.now table.old }
     ensures ok { IfOk result (λ part. MakesTable game.now (table_after (TableRefusal.NoName label.now) (without_row label.now table.old)) part table.old table.new) }
     ensures fault { IfErr result (IsRefused (table_after (TableRefusal.NoName label.now) (without_row label.now table.old))) }
@@ -90,7 +91,7 @@ fn drop_row(
 {
     let _game = game;
     let Ok(room) = Vec::with_capacity(alloc, table.rows.len()) else {
-        return Err(ChangeFault::NoMemory);
+        return Err(Denied::NoMemory);
     };
     match table.drop_row(alloc, label.as_str()) {
         Ok((place, row)) => Ok(TablePart::Rows(Splice::Insert {
@@ -98,7 +99,7 @@ fn drop_row(
             item: row,
             room,
         })),
-        Err(fault) => Err(row_fault(alloc, label, fault)),
+        Err(fault) => Err(row_refusal(alloc, label, fault)),
     }
 }
 
@@ -109,7 +110,7 @@ fn set_price(
     table: &mut Table,
     label: &Text,
     price: &Ratio,
-) -> Result<TablePart, ChangeFault>
+) -> Result<TablePart, Denied<TableRefusal>>
     requires table { IsSoundOn game.now table.old }
     ensures ok { IfOk result (λ part. MakesTable game.now (table_after (TableRefusal.NoName label.now) (with_price label.now price.now table.old)) part table.old table.new) }
     ensures fault { IfErr result (IsRefused (table_after (TableRefusal.NoName label.now) (with_price label.now price.now table.old))) }
@@ -121,7 +122,7 @@ fn set_price(
     };
     match table.set_price(alloc, label.as_str(), price) {
         Ok(price) => Ok(TablePart::Price { row, price }),
-        Err(fault) => Err(row_fault(alloc, label, fault)),
+        Err(fault) => Err(row_refusal(alloc, label, fault)),
     }
 }
 
@@ -133,7 +134,7 @@ fn set_want(
     object: &Object,
     good: GoodId,
     rate: &Ratio,
-) -> Result<TablePart, ChangeFault>
+) -> Result<TablePart, Denied<TableRefusal>>
     requires table { IsSoundOn game.now table.old }
     requires good { good.0 < good_count game.now }
     ensures ok { IfOk result (λ part. MakesTable game.now (table_after (TableRefusal.NoPrice object.now) (with_want good rate.now table.old)) part table.old table.new) }
@@ -142,7 +143,7 @@ fn set_want(
 {
     let _game = game;
     let Ok(numbers) = copied(alloc, &table.wants) else {
-        return Err(ChangeFault::NoMemory);
+        return Err(Denied::NoMemory);
     };
     match table.set_want(alloc, good, rate) {
         Ok(_) => Ok(TablePart::Goods {
@@ -161,7 +162,7 @@ fn set_import(
     object: &Object,
     good: GoodId,
     price: Option<Ratio>,
-) -> Result<TablePart, ChangeFault>
+) -> Result<TablePart, Denied<TableRefusal>>
     requires table { IsSoundOn game.now table.old }
     requires good { good.0 < good_count game.now }
     ensures ok { IfOk result (λ part. MakesTable game.now (table_after (TableRefusal.NoPrice object.now) (with_import good price table.old)) part table.old table.new) }
@@ -170,7 +171,7 @@ fn set_import(
 {
     let _game = game;
     let Ok(numbers) = copied(alloc, &table.imports) else {
-        return Err(ChangeFault::NoMemory);
+        return Err(Denied::NoMemory);
     };
     match table.set_import(alloc, good, price) {
         Ok(_) => Ok(TablePart::Goods {
@@ -189,7 +190,7 @@ fn set_surplus(
     object: &Object,
     good: GoodId,
     price: Option<Ratio>,
-) -> Result<TablePart, ChangeFault>
+) -> Result<TablePart, Denied<TableRefusal>>
     requires table { IsSoundOn game.now table.old }
     requires good { good.0 < good_count game.now }
     ensures ok { IfOk result (λ part. MakesTable game.now (table_after (TableRefusal.NoPrice object.now) (with_surplus good price table.old)) part table.old table.new) }
@@ -198,7 +199,7 @@ fn set_surplus(
 {
     let _game = game;
     let Ok(numbers) = copied(alloc, &table.surpluses) else {
-        return Err(ChangeFault::NoMemory);
+        return Err(Denied::NoMemory);
     };
     match table.set_surplus(alloc, good, price) {
         Ok(_) => Ok(TablePart::Goods {
@@ -224,7 +225,7 @@ pub(crate) fn take_step(
     game: &Game,
     table: &mut Table,
     step: Step,
-) -> Result<TablePart, ChangeFault>
+) -> Result<TablePart, Denied<TableRefusal>>
     requires game { IsSound game.now }
     requires table { IsSoundOn game.now table.old }
     requires step { StepFits game.now step }

@@ -13,9 +13,10 @@ use Rattle.depend_rows.specs.Rows.{rows_of}
 use Rattle.plan_lines.specs.declared.change.Object.{Object}
 use Rattle.plan_lines.specs.declared.change.Change.{Change}
 use Rattle.plan_lines.specs.declared.change.Change.TheVariants.{Grant, Revoke, Forbid, Permit, Milestone, Unmilestone, Ingredient, Product, Unlock, Time, Enabled, Table, Untable, Row, Unrow, Price, Want, Import, Surplus, Power}
+use Rattle.state_changes.specs.declared.refusals.Refusal.{Refusal}
 use Rattle.state_changes.specs.declared.undos.Undo.{Undo}
 use Rattle.state_changes.specs.declared.undos.Undo.TheVariants.{Taken}
-use Rattle.state_changes.specs.Actions.{Outcome, can_be_held, node_named}
+use Rattle.state_changes.specs.Actions.{can_be_held, node_named}
 use Rattle.state_changes.specs.States.{State, state_of, AreSoundMilestones}
 use Rattle.state_changes.specs.Undoing.{Fits, FitsTaken, LeadsBack, taken_back}
 use Rattle.planning_state.specs.Work.{milestone_named, work_by, work_of, work_of_book, work_of_milestone}
@@ -81,7 +82,7 @@ work-put (Ok u) s own t book changes node place old new e b f fits put h =
 
     worth : work_of_milestone (node_named own.book.game fits.object) own t ≡ 8 * size_of (rows_of book.game) (node ∷ []) (ranks_in (world_of book None)) (ranks_in (world_of book (Some node)))
     worth =
-        ap (λ (o : Outcome NodeId). work_of_milestone o own t) (ap (λ (c : Book). node_named c.game fits.object) f ∙ fits.named)
+        ap (λ (o : Result NodeId Refusal). work_of_milestone o own t) (ap (λ (c : Book). node_named c.game fits.object) f ∙ fits.named)
         ∙ (ap (λ (c : Bool). if c then 8 * size_of (rows_of t.book.game) (node ∷ []) (ranks_in (world_of t.book None)) (ranks_in (world_of t.book (Some node))) else 0) longer
         ∙ ap (λ (c : Book). 8 * size_of (rows_of c.game) (node ∷ []) (ranks_in (world_of c None)) (ranks_in (world_of c (Some node)))) b)
 

@@ -28,7 +28,7 @@ use Rattle.state_changes.specs.declared.undos.Undo.TheVariants.{Part, OfTables, 
 use Rattle.production_table.specs.declared.tables.Table.{Table as ProductionTable}
 use Rattle.table_words.specs.declared.refusals.TableRefusal.{TableRefusal}
 use Rattle.planner_tables.specs.Effects.{AreSoundTables, is_of_tables, tables_effect}
-use Rattle.state_changes.specs.Actions.{Outcome, ◌▸◌, can_be_held, edit_named, edit_and, edits_named}
+use Rattle.state_changes.specs.Actions.{◌▸◌, can_be_held, edit_named, edit_and, edits_named}
 use Rattle.state_changes.specs.States.{State, state_of}
 use Rattle.state_changes.specs.Effects.{edited, effect_of, is_entry, with_book, with_tables}
 use Rattle.state_changes.specs.Undoing.{Fits, LeadsBack, all_restored, all_tables_restored, is_of_milestone, taken_back}
@@ -104,7 +104,7 @@ held-none s t changes same = record {
   game = λ marks. ap (λ (b : Book). b.game) (sym same);
 }
 
-pub ok-same : (s t : State) → (let o : Outcome State = Ok s in o) ≡ Ok t → s ≡ t
+pub ok-same : (s t : State) → (let o : Result State Refusal = Ok s in o) ≡ Ok t → s ≡ t
 ok-same s t f = cc
 
 held-edit : (s t : State) (change : Change) (edit : Edit) → edit_named s.book.game change ≡ Ok (Some edit) → (outcome : Result Book EditFault) → effect edit s.book ≡ outcome → with_book s outcome ≡ Ok t → Held s (change ∷ []) t
@@ -114,12 +114,12 @@ held-edit s t change edit named (Ok book) e f =
     record {
       names = edit_keeps edit s.book t.book effect_is;
       stays = λ n untouched. touches_all edit s.book t.book effect_is n (untouched-one s.book change edit n named untouched);
-      alike = subst (λ (o : Outcome (Option Edit)). AlikeBut (edit_and o []) s.book.game t.book.game) (sym named) (alike_law edit s.book t.book effect_is);
+      alike = subst (λ (o : Result (Option Edit) Refusal). AlikeBut (edit_and o []) s.book.game t.book.game) (sym named) (alike_law edit s.book t.book effect_is);
       game = λ marks. marks-game edit s.book t.book effect_is (one-mark s.book change edit named marks);
     }
 held-edit s t change edit named (Err fault) e f = absurd cc
 
-held-named : (s t : State) (change : Change) (outcome : Outcome (Option Edit)) → edit_named s.book.game change ≡ outcome → (outcome ▸ edited s) ≡ Ok t → Held s (change ∷ []) t
+held-named : (s t : State) (change : Change) (outcome : Result (Option Edit) Refusal) → edit_named s.book.game change ≡ outcome → (outcome ▸ edited s) ≡ Ok t → Held s (change ∷ []) t
 held-named s t change (Ok (Some edit)) e f = held-edit s t change edit e (effect edit s.book) refl f
 held-named s t change (Ok None) e f = held-none s t (change ∷ []) (ap (λ (u : State). u.book) (ok-same s t f))
 held-named s t change (Err refusal) e f = absurd cc
@@ -136,7 +136,7 @@ held-one s t change held e = by-kind (is_of_tables change) refl
     by-kind true is = held-tables s t change (tables_effect s.book.game s.tables change) (sym (effect-tables s change is) ∙ e)
     by-kind false is = held-named s t change (edit_named s.book.game change) refl (sym (effect-book s change held is) ∙ e)
 
-pub then-ok : (r : Outcome State) (place : ℕ) (next : State → Result State (ℕ × Refusal)) (t : State) → then_apply r place next ≡ Ok t → (u : State) × (r ≡ Ok u) × (next u ≡ Ok t)
+pub then-ok : (r : Result State Refusal) (place : ℕ) (next : State → Result State (ℕ × Refusal)) (t : State) → then_apply r place next ≡ Ok t → (u : State) × (r ≡ Ok u) × (next u ≡ Ok t)
 then-ok (Ok u) place next t e = (u, refl, e)
 then-ok (Err refusal) place next t e = absurd cc
 

@@ -11,6 +11,7 @@ use Rattle.std.proofs.lemmas.List.Quantifiers.{all_pairs_remove}
 use Rattle.std.proofs.lemmas.List.Sums.{passes_at_first, prefix_len-le-length}
 use Rattle.std.proofs.lemmas.List.Elements.{All-append, All-drop, All-take}
 use Rattle.std.proofs.lemmas.List.Folds.{position_or_len_push}
+use Rattle.plan_base.specs.declared.denied.Denied.TheVariants.{Refused}
 use Rattle.plan_base.specs.Shape.{node_count}
 use Rattle.plan_base.specs.declared.ids.NodeId.{NodeId}
 use Rattle.graph_store.specs.declared.Row.{Row}
@@ -36,10 +37,9 @@ use Rattle.plan_lines.specs.declared.change.Change.{Change}
 use Rattle.plan_lines.specs.declared.change.Change.TheVariants.{Milestone as MilestoneLine, Unmilestone as UnmilestoneLine}
 use Rattle.state_changes.specs.declared.refusals.Refusal.{Refusal}
 use Rattle.state_changes.specs.declared.refusals.Refusal.TheVariants.{OfMilestone}
-use Rattle.state_changes.specs.declared.refusals.ChangeFault.TheVariants.{Refused}
 use Rattle.state_changes.specs.declared.undos.Undo.{Undo}
 use Rattle.state_changes.specs.declared.undos.Undo.TheVariants.{Added, Taken}
-use Rattle.state_changes.specs.Actions.{Outcome, ◌▸◌, node_named}
+use Rattle.state_changes.specs.Actions.{◌▸◌, node_named}
 use Rattle.state_changes.specs.Effects.{effect_of, is_entry, with_milestone, without_milestone}
 use Rattle.state_changes.specs.Faults.{milestone_fault}
 use Rattle.state_changes.specs.Undoing.{Fits, LeadsBack, removed_at, taken_back}
@@ -241,22 +241,22 @@ entry-one change = record { some = omega arith; few = omega arith; taken = refl 
 
 pub add-unnamed : (s : State) (object : Object) (refusal : Refusal) → node_named s.book.game object ≡ Err refusal → apply_edits effect_of s (MilestoneLine object ∷ []) ≡ Err (0, refusal)
 unfolding effect_of
-add-unnamed s object refusal e = ap (λ (o : Outcome NodeId). then_apply (o ▸ λ node. with_milestone s node (milestone_place s.milestones node.0)) 0 (λ t. Ok t)) e
+add-unnamed s object refusal e = ap (λ (o : Result NodeId Refusal). then_apply (o ▸ λ node. with_milestone s node (milestone_place s.milestones node.0)) 0 (λ t. Ok t)) e
 
 pub take-unnamed : (s : State) (object : Object) (refusal : Refusal) → node_named s.book.game object ≡ Err refusal → apply_edits effect_of s (UnmilestoneLine object ∷ []) ≡ Err (0, refusal)
 unfolding effect_of
-take-unnamed s object refusal e = ap (λ (o : Outcome NodeId). then_apply (o ▸ λ node. without_milestone s (milestone_place s.milestones node.0)) 0 (λ t. Ok t)) e
+take-unnamed s object refusal e = ap (λ (o : Result NodeId Refusal). then_apply (o ▸ λ node. without_milestone s (milestone_place s.milestones node.0)) 0 (λ t. Ok t)) e
 
 add-named : (s : State) (object : Object) (node : NodeId) → node_named s.book.game object ≡ Ok node → effect_of s (MilestoneLine object) ≡ with_milestone s node (milestone_place s.milestones node.0)
 unfolding effect_of
-add-named s object node e = ap (λ (o : Outcome NodeId). o ▸ λ node. with_milestone s node (milestone_place s.milestones node.0)) e
+add-named s object node e = ap (λ (o : Result NodeId Refusal). o ▸ λ node. with_milestone s node (milestone_place s.milestones node.0)) e
 
 take-named : (s : State) (object : Object) (node : NodeId) → node_named s.book.game object ≡ Ok node → effect_of s (UnmilestoneLine object) ≡ without_milestone s (milestone_place s.milestones node.0)
 unfolding effect_of
-take-named s object node e = ap (λ (o : Outcome NodeId). o ▸ λ node. without_milestone s (milestone_place s.milestones node.0)) e
+take-named s object node e = ap (λ (o : Result NodeId Refusal). o ▸ λ node. without_milestone s (milestone_place s.milestones node.0)) e
 
-on-one : (s : State) (change : Change) (outcome : Outcome State) (whole : Result State (ℕ × Refusal)) → effect_of s change ≡ outcome → then_apply outcome 0 (λ t. Ok t) ≡ whole → apply_edits effect_of s (change ∷ []) ≡ whole
-on-one s change outcome whole e f = ap (λ (o : Outcome State). then_apply o 0 (λ t. Ok t)) e ∙ f
+on-one : (s : State) (change : Change) (outcome : Result State Refusal) (whole : Result State (ℕ × Refusal)) → effect_of s change ≡ outcome → then_apply outcome 0 (λ t. Ok t) ≡ whole → apply_edits effect_of s (change ∷ []) ≡ whole
+on-one s change outcome whole e f = ap (λ (o : Result State Refusal). then_apply o 0 (λ t. Ok t)) e ∙ f
 
 -- what is refused of a milestone more
 there : (o : Option ℕ) → IsSome o → (place : ℕ) × (o ≡ Some place)

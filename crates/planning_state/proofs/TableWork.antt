@@ -24,7 +24,8 @@ use Rattle.plan_lines.specs.declared.change.Change.TheVariants.{Grant, Revoke, F
 use Rattle.production_table.specs.declared.tables.Table.{Table as ProductionTable}
 use Rattle.table_words.specs.declared.refusals.TableRefusal.{TableRefusal}
 use Rattle.planner_tables.specs.Effects.{is_of_tables, tables_effect}
-use Rattle.state_changes.specs.Actions.{Outcome, can_be_held, edit_and, edits_named}
+use Rattle.state_changes.specs.declared.refusals.Refusal.{Refusal}
+use Rattle.state_changes.specs.Actions.{can_be_held, edit_and, edits_named}
 use Rattle.state_changes.specs.States.{State, state_of}
 use Rattle.state_changes.specs.Effects.{effect_of, with_tables}
 use Rattle.planning_state.specs.Work.{touched_in, work_of}
@@ -56,7 +57,7 @@ no-edits : (g : Game) (changes : List Change) → list_all is_of_tables changes 
 no-edits g [] h = refl
 no-edits g (change ∷ changes) h =
     let apart : (is_of_tables change ≡ true) × (list_all is_of_tables changes ≡ true) = and_parts (is_of_tables change) (list_all is_of_tables changes) h in
-    ap (λ (o : Outcome (Option Edit)). edit_and o (edits_named g changes)) (no-edit g change apart.0) ∙ no-edits g changes apart.1
+    ap (λ (o : Result (Option Edit) Refusal). edit_and o (edits_named g changes)) (no-edit g change apart.0) ∙ no-edits g changes apart.1
 
 none-among : (count : ℕ) (nodes : List NodeId) → All (λ (m : NodeId). m.0 < count) nodes → ((n : ℕ) → n < count → has_node nodes n ≡ false) → nodes ≡ []
 none-among count [] below none = refl

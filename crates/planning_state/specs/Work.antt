@@ -1,5 +1,5 @@
 -- How many steps an entry may take: eight times what its change amounts to, over all worlds.
-use Rattle.std.specs.Prelude.{ℕ, ◌*◌, List, [], ◌∷◌, Option, None, Some, Ok, Err, if◌then◌else◌, length, nat_lt}
+use Rattle.std.specs.Prelude.{ℕ, ◌*◌, List, [], ◌∷◌, Option, None, Some, Result, Ok, Err, if◌then◌else◌, length, nat_lt}
 use Rattle.plan_base.specs.declared.ids.NodeId.{NodeId}
 use Rattle.game_types.specs.Nodes.{shape_of}
 use Rattle.game_types.specs.declared.games.Game.{Game}
@@ -10,7 +10,8 @@ use Rattle.milestone_masks.specs.Worlds.{size_of_all}
 use Rattle.plan_lines.specs.declared.change.Object.{Object}
 use Rattle.plan_lines.specs.declared.change.Change.{Change}
 use Rattle.plan_lines.specs.declared.change.Change.TheVariants.{Milestone, Unmilestone}
-use Rattle.state_changes.specs.Actions.{Outcome, edits_named, node_named}
+use Rattle.state_changes.specs.declared.refusals.Refusal.{Refusal}
+use Rattle.state_changes.specs.Actions.{edits_named, node_named}
 use Rattle.state_changes.specs.States.{State}
 use Rattle.planning_state.specs.Worlds.{ranks_in, world_of, worlds_of}
 
@@ -19,7 +20,7 @@ abbrev pub touched_in : Game → List Change → List NodeId
 touched_in g changes = touched_by_all (shape_of g) (edits_named g changes)
 
 -- a milestone that comes is a new world, in which its node is barred from the base world on; one that goes takes no step
-abbrev pub work_of_milestone : Outcome NodeId → State → State → ℕ
+abbrev pub work_of_milestone : Result NodeId Refusal → State → State → ℕ
 work_of_milestone (Err refusal) before after = 0
 work_of_milestone (Ok node) before after =
     if nat_lt (length before.milestones) (length after.milestones)

@@ -14,4 +14,4 @@ pub use held::{apply_held, restore_held};
 pub use laws::tables_take_no_step;
 pub use milestones::{add_milestone, drop_milestone, put_milestone, take_milestone};
 pub use planning::{LoadFault, Planning};
-pub use state_changes::{ChangeFault, Refusal, Undo, can_be_held};
+pub use state_changes::{Refusal, Undo, can_be_held};

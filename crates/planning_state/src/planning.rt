@@ -1,5 +1,6 @@
 //! The planning state, with the rows and the ranks of every world beside it.
 ghost use Rattle.std.specs.Prelude.{◌≡◌, ◌≢◌, ℕ, ◌+◌, ◌*◌, ◌<◌, ◌≤◌, ◌∷◌, [], All, Bool, false, true, List, None, Some, Ok, IfErr, IfOk, MatchResult, OnErr, OnOk, length, slice_get, slice_index_or};
+ghost use Rattle.plan_base.specs.Outcomes.{Gives};
 ghost use Rattle.plan_base.specs.Shape.{count_of, first_of, node_count};
 ghost use Rattle.graph_store.specs.Rows.{member_count};
 ghost use Rattle.game_types.specs.Nodes.{shape_of};
@@ -9,7 +10,7 @@ ghost use Rattle.depend_index.specs.Indexed.{IsIndex};
 ghost use Rattle.depend_rows.specs.Rows.{rows_of};
 ghost use Rattle.milestone_masks.specs.Why.{IsWhy};
 ghost use Rattle.milestone_masks.specs.Worlds.{missing_in, AreWorlds};
-ghost use Rattle.state_changes.specs.Actions.{node_named, Gives};
+ghost use Rattle.state_changes.specs.Actions.{node_named};
 ghost use Rattle.planning_state.specs.Worlds.{is_reached, mask_in, rank_of, ranks_in, world_of};
 ghost use Rattle.planner_tables.specs.Effects.{AreSoundTables};
 ghost use Rattle.state_changes.specs.States.{first_state, state_of, State};
@@ -28,12 +29,10 @@ use edit_undo::{Editable, EntryFault};
 use game_types::Game;
 use graph_store::{Graph, Group};
 use milestone_masks::Worlds;
-use plan_base::{Kind, NoMemory, NodeId, Steps};
+use plan_base::{Denied, Kind, NoMemory, NodeId, Steps};
 use plan_lines::{Change, Object};
 use production_table::Table;
-use state_changes::{
-    Back, ChangeFault, Entry, Refusal, Undo, back_of, entry_of, node_named, nodes_of,
-};
+use state_changes::{Back, Entry, Refusal, Undo, back_of, entry_of, node_named, nodes_of};
 use std::alloc::Global;
 use std::marker::Model;
 
@@ -154,7 +153,7 @@ impl Planning {
     /// # Errors
     ///
     /// `Unknown` where nothing has the name. Or `NoMemory`.
-    pub fn node(&self, object: &Object) -> Result<NodeId, ChangeFault>
+    pub fn node(&self, object: &Object) -> Result<NodeId, Denied<Refusal>>
         ensures node { Gives (node_named self.now.book.game object.now) result }
         ensures within { IfOk result (λ node. node.0 < node_count (shape_of self.now.book.game)) }
     {

@@ -1,5 +1,5 @@
 -- Every good of a table balances in every plan.
-use Rattle.std.proofs.Common.{◌≡◌, ◌∙◌, ◌<◌, ◌+◌, ◌++◌, ℕ, suc, List, [], ◌∷◌, length, drop, refl, sym, ap, subst, arith, inl, inr}
+use Rattle.std.proofs.Common.{◌≡◌, ◌∙◌, ◌<◌, ◌+◌, ◌++◌, ℕ, suc, List, [], ◌∷◌, length, drop, refl, sym, ap, subst, arith, inl, inr, Result}
 use Rattle.std.specs.Prelude.{map, Bool, true, false, Ok, Err, nat_lt, if◌then◌else◌}
 use Rattle.std.proofs.lemmas.List.{length-map}
 use Rattle.fractions.specs.Fraction.{Fraction, zero_fraction, negated, ◌+ʳ◌, ◌*ʳ◌}
@@ -12,10 +12,10 @@ use Rattle.linear_table.specs.System.{sum_below}
 use Rattle.linear_table.specs.declared.Linear.{Linear}
 use Rattle.linear_table.specs.declared.LinearColumn.{LinearColumn}
 use Rattle.table_rows.specs.Columns.{column_of}
+use Rattle.production_table.specs.declared.faults.TableFault.{TableFault}
 use Rattle.production_table.specs.declared.faults.TableFault.TheVariants.{Full}
 use Rattle.production_table.specs.declared.tables.Table.{Table}
 use Rattle.production_table.specs.declared.tables.TableRow.{TableRow}
-use Rattle.production_table.specs.Answers.{Outcome}
 use Rattle.production_table.specs.Linear.{columns_of, few_enough, import_column, linear_of, linear_with, of_row, row_columns, surplus_column, table_goods, want_of, with_columns, with_goods}
 use Rattle.production_table.proofs.Columns.{through}
 use Rattle.production_table.proofs.Places.{all_kept, goods_in, goods_kept, spot, spot_get, spot_within, AllIn, Has}
@@ -24,7 +24,7 @@ use Rattle.production_laws.specs.Balance.{imported, left_over, rate_of, row_amou
 use Rattle.production_laws.proofs.Lists.{column_sum, column_sum_append, column_sum_is, number_at_map}
 use Rattle.production_laws.proofs.Parts.{has_or_not, imports_sum, no_amount, no_rate, no_rows, rows_sum, surpluses_sum}
 
-few_is : (b : Bool) (x l : Linear) → ◌≡◌ {A = Outcome Linear} (if b then Err Full else Ok x) (Ok l) → x ≡ l
+few_is : (b : Bool) (x l : Linear) → ◌≡◌ {A = Result Linear TableFault} (if b then Err Full else Ok x) (Ok l) → x ≡ l
 few_is true x l h = absurd (cc)
 few_is false x l h = cc
 

@@ -1,8 +1,11 @@
 -- A row that comes in.
 use Rattle.std.proofs.Common.{◌≡◌, ◌∙◌, ◌<◌, ◌++◌, ℕ, List, [], ◌∷◌, length, refl, sym, ap, subst, arith}
-use Rattle.std.specs.Prelude.{Bool, true, false, not, nat_lt, ◌≢◌, Result, Ok, Err}
+use Rattle.std.specs.Prelude.{Bool, true, false, not, nat_lt, Result, Ok, Err}
 use Rattle.std.specs.List.{insert}
 use Rattle.std.proofs.lemmas.Bool.Decides.{nat_tests}
+use Rattle.plan_base.specs.declared.denied.Denied.{Denied}
+use Rattle.plan_base.specs.declared.denied.Denied.TheVariants.{Refused}
+use Rattle.plan_base.proofs.Outcomes.{is_refused}
 use Rattle.fractions.specs.Fraction.{zero_fraction}
 use Rattle.fractions.proofs.Order.{≤ʳ_refl}
 use Rattle.game_types.specs.declared.setups.Setup.{Setup}
@@ -11,10 +14,9 @@ use Rattle.game_types.specs.Steps.{◌▸◌}
 use Rattle.table_rows.specs.declared.faults.SetupFault.{SetupFault}
 use Rattle.table_rows.specs.Setups.{checked_setup}
 use Rattle.production_table.specs.declared.faults.TableFault.{TableFault}
-use Rattle.production_table.specs.declared.faults.TableFault.TheVariants.{NoMemory, Full, LabelUsed}
+use Rattle.production_table.specs.declared.faults.TableFault.TheVariants.{Full, LabelUsed}
 use Rattle.production_table.specs.declared.tables.Table.{Table}
 use Rattle.production_table.specs.declared.tables.TableRow.{TableRow}
-use Rattle.production_table.specs.Answers.{Outcome}
 use Rattle.production_table.specs.Changes.{in_table, is_used, new_row, row_fits, with_row, ChangesInMemory}
 use Rattle.production_table.specs.Numbers.{guard, is_full}
 use Rattle.production_table.specs.Tables.{IsSoundTable}
@@ -41,11 +43,11 @@ new_is g label setup t h =
     let all = three (is_used t label) (is_full t.rows) (checked_setup g setup) h in
     record { label_new = all.0; room = spare (length t.rows) (nat_lt (length t.rows) 512) refl all.1; fits = all.2 }
 
-pub added_fault : (g : Game) (label : List ℕ) (setup : Setup) (t : Table) (fault : TableFault) (r : Result (Unit {0}) TableFault) → r ≡ Err fault → row_fits g label setup t ≡ Err fault → ChangesInMemory (with_row g label setup t) r t t
+pub added_fault : (g : Game) (label : List ℕ) (setup : Setup) (t : Table) (fault : TableFault) (r : Result (Unit {0}) (Denied TableFault)) → r ≡ Err (Refused fault) → row_fits g label setup t ≡ Err fault → ChangesInMemory (with_row g label setup t) r t t
 unfolding with_row
 added_fault g label setup t fault r e h =
-    subst (λ (s : Result (Unit {0}) TableFault). ChangesInMemory (with_row g label setup t) s t t) (sym e)
-    (λ (not_memory : fault ≢ NoMemory). ap (λ (o : Outcome (Unit {0})). o ▸ λ _. Ok (tt, record t { rows = t.rows ++ new_row label setup ∷ [] })) h, refl)
+    subst (λ (s : Result (Unit {0}) (Denied TableFault)). ChangesInMemory (with_row g label setup t) s t t) (sym e)
+    (is_refused (with_row g label setup t) fault (ap (λ (o : Result (Unit {0}) TableFault). o ▸ λ _. Ok (tt, record t { rows = t.rows ++ new_row label setup ∷ [] })) h), refl)
 
 at_end : (rows : List TableRow) (row : TableRow) → insert rows (length rows) row ≡ rows ++ row ∷ []
 at_end [] row = refl
@@ -57,7 +59,7 @@ added_rows t rows n row new e f h = h ∙ ap (λ k. insert t.rows k row) e ∙ a
 pub added_is : (g : Game) (label : List ℕ) (setup : Setup) (t : Table) (rows : List TableRow) → row_fits g label setup t ≡ Ok tt → rows ≡ t.rows ++ new_row label setup ∷ [] → with_row g label setup t ≡ Ok (tt, record t { rows = rows })
 unfolding with_row
 added_is g label setup t rows h e =
-    ap (λ (o : Outcome (Unit {0})). o ▸ λ _. Ok (tt, record t { rows = t.rows ++ new_row label setup ∷ [] })) h
+    ap (λ (o : Result (Unit {0}) TableFault). o ▸ λ _. Ok (tt, record t { rows = t.rows ++ new_row label setup ∷ [] })) h
     ∙ ap (λ (rs : List TableRow). let both : Unit {0} × Table = (tt, record t { rows = rs }) in Ok both) (sym e)
 
 pub added_sound : (g : Game) (label : List ℕ) (setup : Setup) (t : Table) (rows : List TableRow) → row_fits g label setup t ≡ Ok tt → rows ≡ t.rows ++ new_row label setup ∷ [] → IsSoundTable t → IsSoundTable (record t { rows = rows })

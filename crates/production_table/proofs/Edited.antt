@@ -1,5 +1,5 @@
 -- What an edit leaves of a game is as good for a set-up.
-use Rattle.std.proofs.Common.{◌≡◌, ◌∙◌, ◌+◌, ◌<◌, ℕ, zero, suc, List, [], ◌∷◌, length, refl, sym, ap, subst}
+use Rattle.std.proofs.Common.{◌≡◌, ◌∙◌, ◌+◌, ◌<◌, ℕ, zero, suc, List, [], ◌∷◌, length, refl, sym, ap, subst, Result}
 use Rattle.std.specs.Prelude.{All, Bool, true, false, not, ◌&&◌, ◌==◌, Option, Some, None, Ok, Err, nat_lt, slice_get, slice_index_or, if◌then◌else◌}
 use Rattle.std.specs.List.{list_all}
 use Rattle.std.proofs.lemmas.List.{length-set}
@@ -20,6 +20,7 @@ use Rattle.table_rows.specs.Setups.{has_fit, IsFitting}
 use Rattle.data_edit.specs.declared.books.Book.{Book}
 use Rattle.data_edit.specs.declared.edits.Edit.{Edit}
 use Rattle.data_edit.specs.declared.edits.Edit.TheVariants.{SetIngredient, DropIngredient, SetProduct, DropProduct, SetUnlock, SetTime, SetEnabled, Forbid, Permit, Grant, Revoke}
+use Rattle.data_edit.specs.declared.edits.EditFault.{EditFault}
 use Rattle.data_edit.specs.declared.edits.EditFault.TheVariants.{Limit, NoChange}
 use Rattle.data_edit.specs.declared.parts.Inverse.{Inverse}
 use Rattle.data_edit.specs.declared.parts.Inverse.TheVariants.{Recipe as OfRecipe, Unlocks, Barred, Granted}
@@ -27,7 +28,7 @@ use Rattle.data_edit.specs.declared.parts.RecipePart.{RecipePart}
 use Rattle.data_edit.specs.declared.parts.RecipePart.TheVariants.{Ingredients, Products, Time, Enabled}
 use Rattle.data_edit.specs.Edits.{effect, enabled_set, good_in, ingredients_dropped, ingredients_set, mark_set, products_dropped, products_set, recipe_in, replacement, restored, time_set, unlocks_set, with_recipe_part, with_unlocks}
 use Rattle.plan_base.specs.Places.{changed_at, with_at}
-use Rattle.data_edit.specs.Faults.{Outcome, ◌▸◌, changed_list, known, positive}
+use Rattle.data_edit.specs.Faults.{◌▸◌, changed_list, known, positive}
 use Rattle.data_edit.specs.Lists.{is_part, part_key, plain_part, same_lists, with_entry, without}
 use Rattle.production_table.proofs.Fits.{always_fits}
 use Rattle.production_table.proofs.Same.{fitting_kept, Keeps}
@@ -59,7 +60,7 @@ length-with_at f place xs = changed (slice_get xs place)
     changed (Some x) = length-set xs place (f x)
 
 -- ---- steps that may be refused
-bind_ok : {A B : Type 0} (first : Outcome A) (next : A → Outcome B) (y : B) → (first ▸ next) ≡ Ok y → (x : A) × (first ≡ Ok x) × (next x ≡ Ok y)
+bind_ok : {A B : Type 0} (first : Result A EditFault) (next : A → Result B EditFault) (y : B) → (first ▸ next) ≡ Ok y → (x : A) × (first ≡ Ok x) × (next x ≡ Ok y)
 bind_ok (Ok x) next y e = (x, refl, e)
 bind_ok (Err fault) next y e = absurd (cc)
 
@@ -143,7 +144,7 @@ dropped_fits p book recipe good list e =
     let fits : list_all p found.0.ingredients ≡ true = subst (λ (r : Recipe). list_all p r.ingredients ≡ true) same fit in
     subst (λ (parts : List Part). list_all p parts ≡ true) new (of_all p (without part_key good.0 found.0.ingredients) (all_without p good.0 found.0.ingredients (all_of p found.0.ingredients fits)))
 
-made : {A : Type 0} (p : Part → Bool) (make : A → Inverse) (book : Book) (first : Outcome A) (part : Inverse) → ((x : A) → first ≡ Ok x → IsFitPart p (make x) book) → (first ▸ λ x. Ok (make x)) ≡ Ok part → IsFitPart p part book
+made : {A : Type 0} (p : Part → Bool) (make : A → Inverse) (book : Book) (first : Result A EditFault) (part : Inverse) → ((x : A) → first ≡ Ok x → IsFitPart p (make x) book) → (first ▸ λ x. Ok (make x)) ≡ Ok part → IsFitPart p part book
 made p make book (Ok x) part fits e = let same : make x ≡ part = cc in subst (λ (q : Inverse). IsFitPart p q book) same (fits x refl)
 made p make book (Err fault) part fits e = absurd (cc)
 

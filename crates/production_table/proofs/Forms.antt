@@ -1,17 +1,17 @@
 -- The loops of linear forms.
-use Rattle.std.proofs.Common.{◌≡◌, ◌∙◌, ◌≤◌, ◌+◌, ◌++◌, ℕ, List, [], ◌∷◌, length, drop, arith, append_assoc, refl, sym, ap, subst}
-use Rattle.std.specs.Prelude.{◌≢◌, map, Bool, true, false, Ok, Err, if◌then◌else◌}
+use Rattle.std.proofs.Common.{◌≡◌, ◌∙◌, ◌≤◌, ◌+◌, ◌++◌, ℕ, List, [], ◌∷◌, length, drop, arith, append_assoc, refl, sym, ap, subst, Result}
+use Rattle.std.specs.Prelude.{map, Bool, true, false, Ok, Err, if◌then◌else◌}
 use Rattle.fractions.specs.Fraction.{Fraction}
+use Rattle.plan_base.specs.declared.denied.Denied.{Denied}
 use Rattle.plan_base.specs.declared.ids.GoodId.{GoodId}
+use Rattle.plan_base.specs.Outcomes.{Gives, IsRefused}
 use Rattle.game_types.specs.declared.games.Game.{Game}
 use Rattle.game_types.specs.Steps.{◌▸◌}
 use Rattle.game_types.proofs.Walks.{drop_all}
 use Rattle.table_rows.specs.Columns.{column_of}
 use Rattle.linear_table.specs.declared.LinearColumn.{LinearColumn}
 use Rattle.production_table.specs.declared.faults.TableFault.{TableFault}
-use Rattle.production_table.specs.declared.faults.TableFault.TheVariants.{NoMemory}
 use Rattle.production_table.specs.declared.tables.TableRow.{TableRow}
-use Rattle.production_table.specs.Answers.{Gives, Outcome}
 use Rattle.production_table.specs.Linear.{columns_of, of_row, parts_at, place_in, row_column, row_columns}
 use Rattle.fractions.specs.Signs.{is_zero}
 
@@ -40,10 +40,10 @@ unfolding parts_at
 parts_end goods done column k end = ap (λ (ps : List (GoodId × Fraction)). done ++ parts_at goods ps) (drop_all column k end) ∙ append_none done
 
 -- ---- columns of rows
-after : List (List (GoodId × Fraction)) → Outcome (List (List (GoodId × Fraction))) → Outcome (List (List (GoodId × Fraction)))
+after : List (List (GoodId × Fraction)) → Result (List (List (GoodId × Fraction))) TableFault → Result (List (List (GoodId × Fraction))) TableFault
 after done rest = rest ▸ λ columns. Ok (done ++ columns)
 
-one_more : (done : List (List (GoodId × Fraction))) (column : List (GoodId × Fraction)) (rest : Outcome (List (List (GoodId × Fraction)))) → after done (rest ▸ λ columns. Ok (column ∷ columns)) ≡ after (done ++ column ∷ []) rest
+one_more : (done : List (List (GoodId × Fraction))) (column : List (GoodId × Fraction)) (rest : Result (List (List (GoodId × Fraction))) TableFault) → after done (rest ▸ λ columns. Ok (column ∷ columns)) ≡ after (done ++ column ∷ []) rest
 unfolding after
 one_more done column (Ok columns) = ap (λ (cs : List (List (GoodId × Fraction))). Ok cs) (sym (append_assoc done (column ∷ []) columns))
 one_more done column (Err fault) = refl
@@ -54,18 +54,18 @@ pub rows_on : (g : Game) (power : Bool) (rows : List TableRow) (done : List (Lis
 unfolding columns_of after
 rows_on g power rows done k row column at h =
     ap (λ (rs : List TableRow). columns_of g power rs ▸ λ rest. Ok (done ++ rest)) at
-    ∙ ap (λ (r : Outcome (List (GoodId × Fraction))). (r ▸ λ column. columns_of g power (drop (k + 1) rows) ▸ λ columns. Ok (column ∷ columns)) ▸ λ rest. Ok (done ++ rest)) h
+    ∙ ap (λ (r : Result (List (GoodId × Fraction)) TableFault). (r ▸ λ column. columns_of g power (drop (k + 1) rows) ▸ λ columns. Ok (column ∷ columns)) ▸ λ rest. Ok (done ++ rest)) h
     ∙ one_more done column (columns_of g power (drop (k + 1) rows))
 
-pub rows_stop : (g : Game) (power : Bool) (rows : List TableRow) (done : List (List (GoodId × Fraction))) (k : ℕ) (row : TableRow) (fault : TableFault) (r : Outcome (List (List (GoodId × Fraction))))
+pub rows_stop : (g : Game) (power : Bool) (rows : List TableRow) (done : List (List (GoodId × Fraction))) (k : ℕ) (row : TableRow) (fault : Denied TableFault) (r : Result (List (List (GoodId × Fraction))) (Denied TableFault))
     → columns_of g power rows ≡ (columns_of g power (drop k rows) ▸ λ rest. Ok (done ++ rest)) → drop k rows ≡ row ∷ drop (k + 1) rows
-    → (fault ≢ NoMemory → of_row row (column_of g power row.setup) ≡ Err fault) → r ≡ Err fault → Gives (columns_of g power rows) r
+    → IsRefused (of_row row (column_of g power row.setup)) fault → r ≡ Err fault → Gives (columns_of g power rows) r
 unfolding columns_of
 rows_stop g power rows done k row fault r whole at h e =
-    subst (λ (o : Outcome (List (List (GoodId × Fraction)))). Gives (columns_of g power rows) o) (sym e)
-    (λ (not_memory : fault ≢ NoMemory).
+    subst (λ (o : Result (List (List (GoodId × Fraction))) (Denied TableFault)). Gives (columns_of g power rows) o) (sym e)
+    (λ refusal is.
     whole ∙ ap (λ (rs : List TableRow). columns_of g power rs ▸ λ rest. Ok (done ++ rest)) at
-    ∙ ap (λ (r : Outcome (List (GoodId × Fraction))). (r ▸ λ column. columns_of g power (drop (k + 1) rows) ▸ λ columns. Ok (column ∷ columns)) ▸ λ rest. Ok (done ++ rest)) (h not_memory))
+    ∙ ap (λ (r : Result (List (GoodId × Fraction)) TableFault). (r ▸ λ column. columns_of g power (drop (k + 1) rows) ▸ λ columns. Ok (column ∷ columns)) ▸ λ rest. Ok (done ++ rest)) (h refusal is))
 
 pub rows_end : (g : Game) (power : Bool) (rows : List TableRow) (done : List (List (GoodId × Fraction))) (k : ℕ) → length rows ≤ k → (columns_of g power (drop k rows) ▸ λ rest. Ok (done ++ rest)) ≡ Ok done
 unfolding columns_of
@@ -96,7 +96,7 @@ unfolding row_columns
 lines_end goods done rows columns k end = ap (λ (rs : List TableRow). done ++ row_columns goods k rs (drop k columns)) (drop_all rows k end) ∙ append_none done
 
 -- as many columns as rows
-count_cases : (g : Game) (power : Bool) (rows : List TableRow) (columns : List (List (GoodId × Fraction))) (r : Outcome (List (GoodId × Fraction))) (s : Outcome (List (List (GoodId × Fraction))))
+count_cases : (g : Game) (power : Bool) (rows : List TableRow) (columns : List (List (GoodId × Fraction))) (r : Result (List (GoodId × Fraction)) TableFault) (s : Result (List (List (GoodId × Fraction))) TableFault)
     → ((cs : List (List (GoodId × Fraction))) → s ≡ Ok cs → length cs ≡ length rows) → (r ▸ λ column. s ▸ λ rest. Ok (column ∷ rest)) ≡ Ok columns → length columns ≡ length rows + 1
 count_cases g power rows columns (Ok column) (Ok rest) h e =
     let same : column ∷ rest ≡ columns = cc in

@@ -1,5 +1,5 @@
 -- Changes of numbers leave them in order, few, and of the right sign.
-use Rattle.std.proofs.Common.{◌≡◌, ◌<◌, ◌≤◌, ◌+◌, ℕ, List, [], ◌∷◌, length, refl, subst, arith}
+use Rattle.std.proofs.Common.{◌≡◌, ◌<◌, ◌≤◌, ◌+◌, ℕ, List, [], ◌∷◌, length, refl, subst, arith, Result}
 use Rattle.std.specs.Prelude.{All, Bool, true, false, ◌&&◌, not, is_none, nat_lt, ◌==◌, Option, Some, None, Ok, Err, if◌then◌else◌}
 use Rattle.std.proofs.lemmas.Bool.Decides.{nat_tests}
 use Rattle.std.proofs.lemmas.List.Elements.{All-head, All-tail, All-cons}
@@ -8,7 +8,6 @@ use Rattle.plan_base.specs.declared.ids.GoodId.{GoodId}
 use Rattle.game_types.specs.Steps.{◌▸◌}
 use Rattle.production_table.specs.declared.faults.TableFault.{TableFault}
 use Rattle.production_table.specs.declared.faults.TableFault.TheVariants.{Full, Negative}
-use Rattle.production_table.specs.Answers.{Outcome}
 use Rattle.production_table.specs.Numbers.{guard, is_full, no_room, number_of, price_fits, put_or_take, repriced, rewanted, want_fits, with_number, without_number}
 use Rattle.fractions.specs.Signs.{is_negative, is_zero}
 use Rattle.production_table.specs.Tables.{IsSoundList, Rises}
@@ -147,11 +146,11 @@ sound_take P good ps s = record {
 }
 
 -- what a change of numbers leaves
-Left : (P : Fraction → Type 0) → Outcome (Option Fraction × List (GoodId × Fraction)) → Type 0
+Left : (P : Fraction → Type 0) → Result (Option Fraction × List (GoodId × Fraction)) TableFault → Type 0
 Left P (Ok both) = IsSoundList P both.1
 Left P (Err fault) = Unit {0}
 
-reprice_left : (good : GoodId) (price : Option Fraction) (ps : List (GoodId × Fraction)) → IsSoundList (λ x. zero_fraction ≤ʳ x) ps → (r : Outcome (Unit {0})) → price_fits ps good price ≡ r
+reprice_left : (good : GoodId) (price : Option Fraction) (ps : List (GoodId × Fraction)) → IsSoundList (λ x. zero_fraction ≤ʳ x) ps → (r : Result (Unit {0}) TableFault) → price_fits ps good price ≡ r
     → Left (λ x. zero_fraction ≤ʳ x) (r ▸ λ _. Ok (number_of ps good, put_or_take good price ps))
 unfolding Left
 reprice_left good None ps s (Ok fine) h = sound_take (λ x. zero_fraction ≤ʳ x) good ps s
@@ -163,7 +162,7 @@ reprice_left good (Some price) ps s (Ok fine) h =
     two true c h = absurd (cc)
 reprice_left good price ps s (Err fault) h = tt
 
-want_left : (good : GoodId) (rate : Fraction) (ps : List (GoodId × Fraction)) → IsSoundList (λ x. zero_fraction <ʳ x) ps → (b : Bool) → is_zero rate ≡ b → (r : Outcome (Unit {0}))
+want_left : (good : GoodId) (rate : Fraction) (ps : List (GoodId × Fraction)) → IsSoundList (λ x. zero_fraction <ʳ x) ps → (b : Bool) → is_zero rate ≡ b → (r : Result (Unit {0}) TableFault)
     → (guard (is_negative rate) Negative ▸ λ _. guard (not b && no_room ps good) Full) ≡ r → Left (λ x. zero_fraction <ʳ x) (r ▸ λ _. Ok (number_of ps good, put_or_take good (if b then None else Some rate) ps))
 unfolding Left
 want_left good rate ps s true e (Ok fine) h = sound_take (λ x. zero_fraction <ʳ x) good ps s
@@ -175,9 +174,9 @@ want_left good rate ps s false e (Ok fine) h =
     two true c h = absurd (cc)
 want_left good rate ps s b e (Err fault) h = tt
 
-left_of : (P : Fraction → Type 0) (r : Outcome (Option Fraction × List (GoodId × Fraction))) (answer : Option Fraction) (new : List (GoodId × Fraction)) → r ≡ Ok (answer, new) → Left P r → IsSoundList P new
+left_of : (P : Fraction → Type 0) (r : Result (Option Fraction × List (GoodId × Fraction)) TableFault) (answer : Option Fraction) (new : List (GoodId × Fraction)) → r ≡ Ok (answer, new) → Left P r → IsSoundList P new
 unfolding Left
-left_of P r answer new e h = subst (λ (s : Outcome (Option Fraction × List (GoodId × Fraction))). Left P s) e h
+left_of P r answer new e h = subst (λ (s : Result (Option Fraction × List (GoodId × Fraction)) TableFault). Left P s) e h
 
 pub sound_repriced : (good : GoodId) (price answer : Option Fraction) (ps new : List (GoodId × Fraction)) → IsSoundList (λ x. zero_fraction ≤ʳ x) ps → repriced good price ps ≡ Ok (answer, new) → IsSoundList (λ x. zero_fraction ≤ʳ x) new
 unfolding repriced

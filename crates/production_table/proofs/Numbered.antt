@@ -1,13 +1,12 @@
 -- A table whose numbers of goods change.
 use Rattle.std.proofs.Common.{◌≡◌, List, refl, sym, ap, subst}
-use Rattle.std.specs.Prelude.{◌≢◌, Option, Result, Ok, Err}
+use Rattle.std.specs.Prelude.{Option, Result, Ok, Err}
 use Rattle.fractions.specs.Fraction.{Fraction, zero_fraction, ◌≤ʳ◌, ◌<ʳ◌}
+use Rattle.plan_base.specs.declared.denied.Denied.{Denied}
 use Rattle.plan_base.specs.declared.ids.GoodId.{GoodId}
 use Rattle.game_types.specs.Steps.{◌▸◌}
 use Rattle.production_table.specs.declared.faults.TableFault.{TableFault}
-use Rattle.production_table.specs.declared.faults.TableFault.TheVariants.{NoMemory}
 use Rattle.production_table.specs.declared.tables.Table.{Table}
-use Rattle.production_table.specs.Answers.{Outcome}
 use Rattle.production_table.specs.Changes.{with_import, with_surplus, with_want, ChangesInMemory}
 use Rattle.production_table.specs.Numbers.{or_nothing, or_zero, repriced, rewanted, ListChanges}
 use Rattle.production_table.specs.Tables.{IsSoundList, IsSoundTable}
@@ -20,25 +19,25 @@ abbrev Pairs : Type 0
 Pairs = List (GoodId × Fraction)
 
 -- what a change of the list makes of the table
-abbrev table_change : (Pairs → Table) → Outcome (Option Fraction × Pairs) → Outcome (Option Fraction × Table)
+abbrev table_change : (Pairs → Table) → Result (Option Fraction × Pairs) TableFault → Result (Option Fraction × Table) TableFault
 table_change put change = change ▸ λ both. Ok (both.0, put both.1)
 
-changes_table : (put : Pairs → Table) (change : Outcome (Option Fraction × Pairs)) (r : Result (Option Fraction) TableFault) (old new : Pairs) → ListChanges change r old new → ChangesInMemory (table_change put change) r (put old) (put new)
+changes_table : (put : Pairs → Table) (change : Result (Option Fraction × Pairs) TableFault) (r : Result (Option Fraction) (Denied TableFault)) (old new : Pairs) → ListChanges change r old new → ChangesInMemory (table_change put change) r (put old) (put new)
 changes_table put change (Ok answer) old new h = ap (table_change put) h
-changes_table put change (Err fault) old new h = (λ (not_memory : fault ≢ NoMemory). ap (table_change put) (h.0 not_memory), ap put h.1)
+changes_table put change (Err fault) old new h = (λ refusal is. ap (table_change put) (h.0 refusal is), ap put h.1)
 
-list_sound : (P : Fraction → Type 0) (change : Outcome (Option Fraction × Pairs)) (r : Result (Option Fraction) TableFault) (old new : Pairs) → ListChanges change r old new
+list_sound : (P : Fraction → Type 0) (change : Result (Option Fraction × Pairs) TableFault) (r : Result (Option Fraction) (Denied TableFault)) (old new : Pairs) → ListChanges change r old new
     → ((answer : Option Fraction) → change ≡ Ok (answer, new) → IsSoundList P new) → IsSoundList P old → IsSoundList P new
 list_sound P change (Ok answer) old new h made s = made answer h
 list_sound P change (Err fault) old new h made s = subst (λ (ps : Pairs). IsSoundList P ps) (sym h.1) s
 
 -- a change that was made: the list that it left, and the table with that
-record MadeChange (put : Pairs → Table) (answer : Option Fraction) (new : Table) (change : Outcome (Option Fraction × Pairs)) : Type 0 where
+record MadeChange (put : Pairs → Table) (answer : Option Fraction) (new : Table) (change : Result (Option Fraction × Pairs) TableFault) : Type 0 where
   numbers : Pairs
   told : change ≡ Ok (answer, numbers)
   left : new ≡ put numbers
 
-made : (put : Pairs → Table) (answer : Option Fraction) (new : Table) (change : Outcome (Option Fraction × Pairs)) → table_change put change ≡ Ok (answer, new) → MadeChange put answer new change
+made : (put : Pairs → Table) (answer : Option Fraction) (new : Table) (change : Result (Option Fraction × Pairs) TableFault) → table_change put change ≡ Ok (answer, new) → MadeChange put answer new change
 made put answer new (Ok both) h =
     let parts = same_parts both.0 answer (put both.1) new h in
     record { numbers = both.1; told = ap (λ (o : Option Fraction). let pair : Option Fraction × Pairs = (o, both.1) in Ok pair) parts.0; left = sym parts.1 }
@@ -48,12 +47,12 @@ made put answer new (Err fault) h = absurd (cc)
 abbrev put_wants : Table → Pairs → Table
 put_wants t pairs = record t { wants = pairs }
 
-pub wants_change : (good : GoodId) (rate : Fraction) (r : Result (Option Fraction) TableFault) (t : Table) (new : List (GoodId × Fraction)) → ListChanges (rewanted good rate t.wants) r t.wants new
+pub wants_change : (good : GoodId) (rate : Fraction) (r : Result (Option Fraction) (Denied TableFault)) (t : Table) (new : List (GoodId × Fraction)) → ListChanges (rewanted good rate t.wants) r t.wants new
     → ChangesInMemory (with_want good rate t) r t (record t { wants = new })
 unfolding with_want
 wants_change good rate r t new h = changes_table (put_wants t) (rewanted good rate t.wants) r t.wants new h
 
-pub wants_sound : (good : GoodId) (rate : Fraction) (r : Result (Option Fraction) TableFault) (t : Table) (new : List (GoodId × Fraction)) → ListChanges (rewanted good rate t.wants) r t.wants new
+pub wants_sound : (good : GoodId) (rate : Fraction) (r : Result (Option Fraction) (Denied TableFault)) (t : Table) (new : List (GoodId × Fraction)) → ListChanges (rewanted good rate t.wants) r t.wants new
     → IsSoundTable t → IsSoundTable (record t { wants = new })
 wants_sound good rate r t new h s = record {
   labels = s.labels;
@@ -75,12 +74,12 @@ wants_back good rate answer old new s h =
 abbrev put_imports : Table → Pairs → Table
 put_imports t pairs = record t { imports = pairs }
 
-pub imports_change : (good : GoodId) (price : Option Fraction) (r : Result (Option Fraction) TableFault) (t : Table) (new : List (GoodId × Fraction)) → ListChanges (repriced good price t.imports) r t.imports new
+pub imports_change : (good : GoodId) (price : Option Fraction) (r : Result (Option Fraction) (Denied TableFault)) (t : Table) (new : List (GoodId × Fraction)) → ListChanges (repriced good price t.imports) r t.imports new
     → ChangesInMemory (with_import good price t) r t (record t { imports = new })
 unfolding with_import
 imports_change good price r t new h = changes_table (put_imports t) (repriced good price t.imports) r t.imports new h
 
-pub imports_sound : (good : GoodId) (price : Option Fraction) (r : Result (Option Fraction) TableFault) (t : Table) (new : List (GoodId × Fraction)) → ListChanges (repriced good price t.imports) r t.imports new
+pub imports_sound : (good : GoodId) (price : Option Fraction) (r : Result (Option Fraction) (Denied TableFault)) (t : Table) (new : List (GoodId × Fraction)) → ListChanges (repriced good price t.imports) r t.imports new
     → IsSoundTable t → IsSoundTable (record t { imports = new })
 imports_sound good price r t new h s = record {
   labels = s.labels;
@@ -102,12 +101,12 @@ imports_back good price answer old new s h =
 abbrev put_surpluses : Table → Pairs → Table
 put_surpluses t pairs = record t { surpluses = pairs }
 
-pub surpluses_change : (good : GoodId) (price : Option Fraction) (r : Result (Option Fraction) TableFault) (t : Table) (new : List (GoodId × Fraction)) → ListChanges (repriced good price t.surpluses) r t.surpluses new
+pub surpluses_change : (good : GoodId) (price : Option Fraction) (r : Result (Option Fraction) (Denied TableFault)) (t : Table) (new : List (GoodId × Fraction)) → ListChanges (repriced good price t.surpluses) r t.surpluses new
     → ChangesInMemory (with_surplus good price t) r t (record t { surpluses = new })
 unfolding with_surplus
 surpluses_change good price r t new h = changes_table (put_surpluses t) (repriced good price t.surpluses) r t.surpluses new h
 
-pub surpluses_sound : (good : GoodId) (price : Option Fraction) (r : Result (Option Fraction) TableFault) (t : Table) (new : List (GoodId × Fraction)) → ListChanges (repriced good price t.surpluses) r t.surpluses new
+pub surpluses_sound : (good : GoodId) (price : Option Fraction) (r : Result (Option Fraction) (Denied TableFault)) (t : Table) (new : List (GoodId × Fraction)) → ListChanges (repriced good price t.surpluses) r t.surpluses new
     → IsSoundTable t → IsSoundTable (record t { surpluses = new })
 surpluses_sound good price r t new h s = record {
   labels = s.labels;

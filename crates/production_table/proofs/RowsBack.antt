@@ -1,5 +1,5 @@
 -- What a change of rows answers undoes it.
-use Rattle.std.proofs.Common.{◌≡◌, ◌∙◌, ◌≤◌, ◌+◌, ◌++◌, ℕ, zero, suc, List, [], ◌∷◌, length, refl, sym, ap, subst, arith}
+use Rattle.std.proofs.Common.{◌≡◌, ◌∙◌, ◌≤◌, ◌+◌, ◌++◌, ℕ, zero, suc, List, [], ◌∷◌, length, refl, sym, ap, subst, arith, Result}
 use Rattle.std.specs.Prelude.{All, Bool, true, false, not, cond, Option, Some, None, Ok, Err, slice_get, slice_set}
 use Rattle.std.specs.List.{insert, list_any, position_or_len, remove}
 use Rattle.std.specs.Str.{bytes_eq}
@@ -10,10 +10,10 @@ use Rattle.fractions.specs.Fraction.{Fraction, zero_fraction, ◌≤ʳ◌}
 use Rattle.game_types.specs.declared.setups.Setup.{Setup}
 use Rattle.game_types.specs.declared.games.Game.{Game}
 use Rattle.game_types.specs.Steps.{◌▸◌}
+use Rattle.production_table.specs.declared.faults.TableFault.{TableFault}
 use Rattle.production_table.specs.declared.faults.TableFault.TheVariants.{Negative}
 use Rattle.production_table.specs.declared.tables.Table.{Table}
 use Rattle.production_table.specs.declared.tables.TableRow.{TableRow}
-use Rattle.production_table.specs.Answers.{Outcome}
 use Rattle.production_table.specs.Changes.{dropped, is_used, new_row, place_of, priced, row_fits, with_price, with_row, with_row_at, without_row, HasRoom}
 use Rattle.production_table.specs.Numbers.{guard}
 use Rattle.fractions.specs.Signs.{is_negative}
@@ -52,7 +52,7 @@ dropped_last label setup t h =
     ∙ ap (dropped (record t { rows = t.rows ++ new_row label setup ∷ [] }) (length t.rows)) (last_row t.rows (new_row label setup))
     ∙ ap (λ (rs : List TableRow). let both : (ℕ × TableRow) × Table = ((length t.rows, new_row label setup), record t { rows = rs }) in Ok both) (without_last t.rows (new_row label setup))
 
-came_in : (r : Outcome (Unit {0})) (t new : Table) → ◌▸◌ {B = Unit {0} × Table} r (λ _. Ok (tt, t)) ≡ Ok (tt, new) → (r ≡ Ok tt) × (t ≡ new)
+came_in : (r : Result (Unit {0}) TableFault) (t new : Table) → ◌▸◌ {B = Unit {0} × Table} r (λ _. Ok (tt, t)) ≡ Ok (tt, new) → (r ≡ Ok tt) × (t ≡ new)
 came_in (Ok fine) t new h = (refl, (same_parts tt tt t new h).1)
 came_in (Err fault) t new h = absurd (cc)
 

@@ -1,5 +1,5 @@
 -- What a change of numbers answers undoes it.
-use Rattle.std.proofs.Common.{◌≡◌, ◌∙◌, ◌<◌, ◌+◌, ℕ, List, [], ◌∷◌, length, refl, sym, ap, subst, arith, inl, inr}
+use Rattle.std.proofs.Common.{◌≡◌, ◌∙◌, ◌<◌, ◌+◌, ℕ, List, [], ◌∷◌, length, refl, sym, ap, subst, arith, inl, inr, Result}
 use Rattle.std.specs.Prelude.{◌⊎◌, ◌≢◌, All, Bool, true, false, ◌&&◌, not, is_none, nat_lt, ◌==◌, Option, Some, None, Ok, Err}
 use Rattle.std.proofs.lemmas.Bool.Decides.{nat_tests}
 use Rattle.std.proofs.lemmas.List.Elements.{All-head, All-tail}
@@ -10,7 +10,6 @@ use Rattle.plan_base.specs.declared.ids.GoodId.{GoodId}
 use Rattle.game_types.specs.Steps.{◌▸◌}
 use Rattle.production_table.specs.declared.faults.TableFault.{TableFault}
 use Rattle.production_table.specs.declared.faults.TableFault.TheVariants.{Full, Negative, Unknown}
-use Rattle.production_table.specs.Answers.{Outcome}
 use Rattle.production_table.specs.Numbers.{guard, is_full, lacks, no_room, number_of, or_nothing, or_zero, price_fits, put_or_take, repriced, rewanted, want_fits, with_number, without_number}
 use Rattle.fractions.specs.Signs.{is_negative, is_zero}
 use Rattle.production_table.specs.Tables.{IsSoundList, Rises}
@@ -207,7 +206,7 @@ free ps good h = either (is_none (number_of ps good)) (is_full ps) (spare (lengt
 priced_back : (good : GoodId) (answer now : Option Fraction) (new ps : List (GoodId × Fraction)) → price_fits new good answer ≡ Ok tt → number_of new good ≡ now → put_or_take good answer new ≡ ps → repriced good answer new ≡ Ok (now, ps)
 unfolding repriced
 priced_back good answer now new ps fit found put =
-    ap (λ (r : Outcome (Unit {0})). r ▸ λ _. Ok (number_of new good, put_or_take good answer new)) fit
+    ap (λ (r : Result (Unit {0}) TableFault). r ▸ λ _. Ok (number_of new good, put_or_take good answer new)) fit
     ∙ ap (λ (o : Option Fraction). Ok (o, put_or_take good answer new)) found ∙ ap (λ (qs : List (GoodId × Fraction)). Ok (now, qs)) put
 
 back_price : (good : GoodId) (price : Option Fraction) (ps : List (GoodId × Fraction)) (o : Option Fraction) → IsSoundList (λ x. zero_fraction ≤ʳ x) ps → number_of ps good ≡ o → price_fits ps good price ≡ Ok tt
@@ -228,7 +227,7 @@ back_price good (Some price) ps (Some x) s found fit =
     (found_put good price ps) (put_after_put 0 good price x ps s.rise found)
 
 -- how a change ended
-ended : (r : Outcome (Unit {0})) (o answer : Option Fraction) (qs new : List (GoodId × Fraction)) → ◌▸◌ {B = Option Fraction × List (GoodId × Fraction)} r (λ _. Ok (o, qs)) ≡ Ok (answer, new)
+ended : (r : Result (Unit {0}) TableFault) (o answer : Option Fraction) (qs new : List (GoodId × Fraction)) → ◌▸◌ {B = Option Fraction × List (GoodId × Fraction)} r (λ _. Ok (o, qs)) ≡ Ok (answer, new)
     → (r ≡ Ok tt) × (o ≡ answer) × (qs ≡ new)
 ended (Ok fine) o answer qs new h = let both = same_parts o answer qs new h in (refl, both.0, both.1)
 ended (Err fault) o answer qs new h = absurd (cc)
@@ -245,7 +244,7 @@ wanted_back : (good : GoodId) (rate : Fraction) (given now : Option Fraction) (n
     → number_of new good ≡ now → put_or_take good given new ≡ ps → rewanted good rate new ≡ Ok (now, ps)
 unfolding rewanted
 wanted_back good rate given now new ps is fair room found put =
-    ap (λ (r : Outcome (Unit {0})). r ▸ λ _. Ok (number_of new good, put_or_take good (or_nothing rate) new)) (both_fit (is_negative rate) (not (is_zero rate) && no_room new good) fair room)
+    ap (λ (r : Result (Unit {0}) TableFault). r ▸ λ _. Ok (number_of new good, put_or_take good (or_nothing rate) new)) (both_fit (is_negative rate) (not (is_zero rate) && no_room new good) fair room)
     ∙ ap (λ (o : Option Fraction). Ok (o, put_or_take good (or_nothing rate) new)) found
     ∙ ap (λ (o : Option Fraction). Ok (now, put_or_take good o new)) is ∙ ap (λ (qs : List (GoodId × Fraction)). Ok (now, qs)) put
 

@@ -9,20 +9,20 @@ use Rattle.game_types.specs.Steps.{◌▸◌}
 use Rattle.linear_table.specs.declared.Column.TheVariants.{Line, Import, Surplus}
 use Rattle.linear_table.specs.declared.Linear.{Linear}
 use Rattle.linear_table.specs.declared.LinearColumn.{LinearColumn}
+use Rattle.production_table.specs.declared.faults.TableFault.{TableFault}
 use Rattle.production_table.specs.declared.faults.TableFault.TheVariants.{Wide as WideRow, Full}
 use Rattle.production_table.specs.declared.tables.Table.{Table}
 use Rattle.production_table.specs.declared.tables.TableRow.{TableRow}
-use Rattle.production_table.specs.Answers.{Outcome}
 use Rattle.production_table.specs.Numbers.{number_of}
 use Rattle.fractions.specs.Signs.{is_zero}
 use Rattle.table_rows.specs.Columns.{column_of}
 
 -- ---- the columns of all rows, or the first row that has a wide step, with the first such step
-abbrev pub of_row : TableRow → Result (List (GoodId × Fraction)) Wide → Outcome (List (GoodId × Fraction))
+abbrev pub of_row : TableRow → Result (List (GoodId × Fraction)) Wide → Result (List (GoodId × Fraction)) TableFault
 of_row row (Ok column) = Ok column
 of_row row (Err wide) = Err (WideRow row.label wide.step)
 
-unfoldable pub columns_of : Game → Bool → List TableRow → Outcome (List (List (GoodId × Fraction)))
+unfoldable pub columns_of : Game → Bool → List TableRow → Result (List (List (GoodId × Fraction))) TableFault
 columns_of g power [] = Ok []
 columns_of g power (row ∷ rows) =
     of_row row (column_of g power row.setup) ▸ λ column.
@@ -105,9 +105,9 @@ linear_with t goods columns = record {
   wants = map (want_of t.wants) goods;
 }
 
-abbrev pub few_enough : Table → List (List (GoodId × Fraction)) → List GoodId → Outcome Linear
+abbrev pub few_enough : Table → List (List (GoodId × Fraction)) → List GoodId → Result Linear TableFault
 few_enough t columns goods = if nat_lt 512 (length goods) then Err Full else Ok (linear_with t goods columns)
 
 -- first the columns, then the number of goods
-unfoldable pub linear_of : Game → Table → Outcome Linear
+unfoldable pub linear_of : Game → Table → Result Linear TableFault
 linear_of g t = columns_of g t.power t.rows ▸ λ columns. few_enough t columns (table_goods t columns)

@@ -1,20 +1,21 @@
 -- Numbers of goods, in the order of goods: what is wanted of each, and the prices of what may come in and go out. What each
 -- change makes of them, when it is refused, and what it answers, which undoes it.
-use Rattle.std.specs.Prelude.{◌≡◌, ◌≢◌, ◌==◌, ◌&&◌, Bool, true, false, not, nat_lt, is_none, ℤ, pos, negsuc, List, [], ◌∷◌, length, Option, Some, None, Result, Ok, Err, if◌then◌else◌}
+use Rattle.std.specs.Prelude.{◌≡◌, ◌==◌, ◌&&◌, Bool, true, false, not, nat_lt, is_none, ℤ, pos, negsuc, List, [], ◌∷◌, length, Option, Some, None, Result, Ok, Err, if◌then◌else◌}
 use Rattle.fractions.specs.Fraction.{Fraction, zero_fraction}
 use Rattle.fractions.specs.Signs.{is_negative, is_zero}
+use Rattle.plan_base.specs.declared.denied.Denied.{Denied}
 use Rattle.plan_base.specs.declared.ids.GoodId.{GoodId}
+use Rattle.plan_base.specs.Outcomes.{IsRefused}
 use Rattle.game_types.specs.Steps.{◌▸◌}
 use Rattle.production_table.specs.declared.faults.TableFault.{TableFault}
-use Rattle.production_table.specs.declared.faults.TableFault.TheVariants.{NoMemory, Full, Unknown, Negative}
-use Rattle.production_table.specs.Answers.{Outcome}
+use Rattle.production_table.specs.declared.faults.TableFault.TheVariants.{Full, Unknown, Negative}
 
 -- a change of numbers: what it answers and what it leaves, or its refusal, which leaves them
-abbrev pub ListChanges : {A : Type 0} → Outcome (A × List (GoodId × Fraction)) → Result A TableFault → List (GoodId × Fraction) → List (GoodId × Fraction) → Type 0
+abbrev pub ListChanges : {A : Type 0} → Result (A × List (GoodId × Fraction)) TableFault → Result A (Denied TableFault) → List (GoodId × Fraction) → List (GoodId × Fraction) → Type 0
 ListChanges meant (Ok answer) old new = meant ≡ Ok (answer, new)
-ListChanges meant (Err fault) old new = (fault ≢ NoMemory → meant ≡ Err fault) × (new ≡ old)
+ListChanges meant (Err fault) old new = IsRefused meant fault × (new ≡ old)
 
-abbrev pub guard : Bool → TableFault → Outcome (Unit {0})
+abbrev pub guard : Bool → TableFault → Result (Unit {0}) TableFault
 guard refuses fault = if refuses then Err fault else Ok tt
 
 -- whether there are as many as there may be
@@ -55,11 +56,11 @@ put_or_take good None pairs = without_number good pairs
 
 -- a price set, or with none taken away: first whether there is one to take away, then its sign, then the room. The old price,
 -- or none, undoes it
-abbrev pub price_fits : List (GoodId × Fraction) → GoodId → Option Fraction → Outcome (Unit {0})
+abbrev pub price_fits : List (GoodId × Fraction) → GoodId → Option Fraction → Result (Unit {0}) TableFault
 price_fits pairs good None = guard (lacks pairs good) Unknown
 price_fits pairs good (Some price) = guard (is_negative price) Negative ▸ λ _. guard (no_room pairs good) Full
 
-unfoldable pub repriced : GoodId → Option Fraction → List (GoodId × Fraction) → Outcome (Option Fraction × List (GoodId × Fraction))
+unfoldable pub repriced : GoodId → Option Fraction → List (GoodId × Fraction) → Result (Option Fraction × List (GoodId × Fraction)) TableFault
 repriced good price pairs = price_fits pairs good price ▸ λ _. Ok (number_of pairs good, put_or_take good price pairs)
 
 abbrev pub or_nothing : Fraction → Option Fraction
@@ -71,8 +72,8 @@ or_zero (Some rate) = rate
 or_zero None = zero_fraction
 
 -- a want set, where 0 takes it away: first its sign, then the room. The old want, or 0, undoes it
-abbrev pub want_fits : List (GoodId × Fraction) → GoodId → Fraction → Outcome (Unit {0})
+abbrev pub want_fits : List (GoodId × Fraction) → GoodId → Fraction → Result (Unit {0}) TableFault
 want_fits pairs good rate = guard (is_negative rate) Negative ▸ λ _. guard (not (is_zero rate) && no_room pairs good) Full
 
-unfoldable pub rewanted : GoodId → Fraction → List (GoodId × Fraction) → Outcome (Option Fraction × List (GoodId × Fraction))
+unfoldable pub rewanted : GoodId → Fraction → List (GoodId × Fraction) → Result (Option Fraction × List (GoodId × Fraction)) TableFault
 rewanted good rate pairs = want_fits pairs good rate ▸ λ _. Ok (number_of pairs good, put_or_take good (or_nothing rate) pairs)

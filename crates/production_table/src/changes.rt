@@ -11,7 +11,7 @@ use crate::numbers::{guard, reprice, rewant};
 use crate::{LIMIT, Table, TableFault, TableRow};
 use fractions::Ratio;
 use game_types::{Game, Setup};
-use plan_base::{GoodId, Items, NoMemory, Text};
+use plan_base::{Denied, GoodId, Items, NoMemory, Text};
 use std::alloc::Global;
 use std::mem;
 use table_rows::check_setup;
@@ -192,7 +192,7 @@ impl Table {
         game: &Game,
         label: &str,
         setup: Setup,
-    ) -> Result<(), TableFault>
+    ) -> Result<(), Denied<TableFault>>
         requires game { IsSound game.now }
         requires setup { IsSoundSetup game.now setup }
         requires sound { IsSoundTable self.old }
@@ -254,7 +254,7 @@ impl Table {
         alloc: Global,
         good: GoodId,
         rate: &Ratio,
-    ) -> Result<Option<Ratio>, TableFault>
+    ) -> Result<Option<Ratio>, Denied<TableFault>>
         requires sound { IsSoundTable self.old }
         ensures change { ChangesInMemory (with_want good rate.now self.old) result self.old self.new }
         ensures sound { IsSoundTable self.new }
@@ -273,7 +273,7 @@ impl Table {
         alloc: Global,
         good: GoodId,
         price: Option<Ratio>,
-    ) -> Result<Option<Ratio>, TableFault>
+    ) -> Result<Option<Ratio>, Denied<TableFault>>
         requires sound { IsSoundTable self.old }
         ensures change { ChangesInMemory (with_import good price self.old) result self.old self.new }
         ensures sound { IsSoundTable self.new }
@@ -291,7 +291,7 @@ impl Table {
         alloc: Global,
         good: GoodId,
         price: Option<Ratio>,
-    ) -> Result<Option<Ratio>, TableFault>
+    ) -> Result<Option<Ratio>, Denied<TableFault>>
         requires sound { IsSoundTable self.old }
         ensures change { ChangesInMemory (with_surplus good price self.old) result self.old self.new }
         ensures sound { IsSoundTable self.new }

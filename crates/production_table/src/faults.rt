@@ -1,14 +1,12 @@
 //! Why a change of a table is refused, or a table has no linear form.
 ghost use Rattle.std.specs.Prelude.{◌≡◌};
 
-use plan_base::{NoMemory, Text};
-use std::alloc::AllocFailed;
+use plan_base::{Denied, Text};
 use table_rows::SetupFault;
 
 /// Why a change of a table is refused, or a table has no linear form.
 #[derive(Debug, Drop)]
 pub enum TableFault {
-    NoMemory,
     /// P1: there is no such row, or nothing to take away.
     Unknown,
     /// P2: a want or a price is below 0.
@@ -23,22 +21,12 @@ pub enum TableFault {
     Wide { label: Text, step: u8 },
 }
 
-impl From<NoMemory> for TableFault {
-    ghost use Rattle.production_table.specs.declared.faults.TableFault.TheVariants.{NoMemory as OutOfMemory};
+impl From<TableFault> for Denied<TableFault> {
+    ghost use Rattle.plan_base.specs.declared.denied.Denied.TheVariants.{Refused};
 
-    ghost from_gives = { λ _ fault. fault ≡ OutOfMemory };
+    ghost from_gives = { λ fault denied. denied ≡ Refused fault };
 
-    fn from(_: NoMemory) -> TableFault {
-        TableFault::NoMemory
-    }
-}
-
-impl<T: Drop> From<AllocFailed<T>> for TableFault {
-    ghost use Rattle.production_table.specs.declared.faults.TableFault.TheVariants.{NoMemory as OutOfMemory};
-
-    ghost from_gives = { λ _ fault. fault ≡ OutOfMemory };
-
-    fn from(_: AllocFailed<T>) -> TableFault {
-        TableFault::NoMemory
+    fn from(fault: TableFault) -> Self {
+        Denied::Refused(fault)
     }
 }

@@ -1,10 +1,10 @@
 //! The linear form of a table.
 ghost use Rattle.std.specs.Prelude.{◌≡◌, ◌<◌, ◌≤◌, ◌++◌, ◌∷◌, [], All, IfOk, OnErr, OnOk, false, length, map, nat_lt, position, slice_get, true};
 ghost use Rattle.std.specs.List.Sorted.{IsPartitionPoint};
+ghost use Rattle.plan_base.specs.Outcomes.{Gives};
 ghost use Rattle.game_types.specs.Goods.{good_count};
 ghost use Rattle.game_types.specs.Sound.{IsSound};
 ghost use Rattle.linear_table.specs.Plans.{IsWellFormed};
-ghost use Rattle.production_table.specs.Answers.{Gives};
 ghost use Rattle.production_table.specs.Linear.{columns_of, import_column, is_good_at, is_not_below, is_numbered, linear_of, linear_with, of_row, parts_at, place_in, row_column, row_columns, surplus_column, table_goods, want_of, with_columns, with_good, with_goods};
 ghost use Rattle.production_table.specs.Tables.{GoodsRise, IsOfGame, IsSoundTable};
 ghost use Rattle.table_rows.specs.Columns.{column_of};
@@ -15,7 +15,7 @@ use crate::{LIMIT, Table, TableFault, TableRow};
 use fractions::{Ratio, is_zero};
 use game_types::Game;
 use linear_table::{Column, Linear, LinearColumn};
-use plan_base::{GoodId, Items, NoMemory, Text};
+use plan_base::{Denied, GoodId, Items, NoMemory, Text};
 use std::alloc::Global;
 use table_rows::{RowFault, column_of};
 
@@ -25,7 +25,7 @@ fn column_of_row(
     game: &Game,
     power: bool,
     row: &TableRow,
-) -> Result<Items<(GoodId, Ratio)>, TableFault>
+) -> Result<Items<(GoodId, Ratio)>, Denied<TableFault>>
     requires sound { IsSound game.now }
     requires setup { IsFitting game.now row.now.setup }
     ensures { Gives (of_row row.now (column_of game.now power row.now.setup)) result }
@@ -34,12 +34,12 @@ fn column_of_row(
         Ok(column) => Ok(Items::from_vec(column)),
         Err(RowFault::Wide(wide)) => {
             let label = Text::copy(alloc, row.label.as_str())?;
-            Err(TableFault::Wide {
+            Err(Denied::Refused(TableFault::Wide {
                 label,
                 step: wide.step,
-            })
+            }))
         }
-        Err(RowFault::NoMemory) => Err(TableFault::NoMemory),
+        Err(RowFault::NoMemory) => Err(Denied::NoMemory),
     }
 }
 
@@ -49,7 +49,7 @@ fn columns_of(
     game: &Game,
     power: bool,
     rows: &[TableRow],
-) -> Result<Items<Items<(GoodId, Ratio)>>, TableFault>
+) -> Result<Items<Items<(GoodId, Ratio)>>, Denied<TableFault>>
     requires sound { IsSound game.now }
     requires setups { All (λ row. IsFitting game.now row.setup) rows.now }
     ensures { Gives (columns_of game.now power rows.now) result }
@@ -407,7 +407,7 @@ impl Table {
     ///
     /// The first of these, exactly, unless memory could not be had: `Wide` (K4) for the first row that has a step past the
     /// limits of fractions, with the first such step; `Full` (P3) where there are more than 512 goods.
-    pub fn to_linear(&self, alloc: Global, game: &Game) -> Result<Linear, TableFault>
+    pub fn to_linear(&self, alloc: Global, game: &Game) -> Result<Linear, Denied<TableFault>>
         requires sound { IsSound game.now }
         requires table { IsSoundTable self.now }
         requires rows { All (λ row. IsFitting game.now row.setup) self.now.rows }
@@ -418,7 +418,7 @@ impl Table {
         let columns = columns_of(alloc, game, self.power, self.rows.as_slice())?;
         let goods = goods_of(alloc, self, columns.as_slice())?;
         if goods.len() > LIMIT {
-            return Err(TableFault::Full);
+            return Err(Denied::Refused(TableFault::Full));
         }
         let linear = linear_with(alloc, self, goods, columns.as_slice())?;
         Ok(linear)

@@ -4,7 +4,7 @@ ghost use Rattle.production_table.specs.Numbers.{guard, is_pair_of, lacks, no_ro
 
 use crate::{LIMIT, TableFault};
 use fractions::{Ratio, is_negative, is_zero};
-use plan_base::{GoodId, Items, NoMemory};
+use plan_base::{Denied, GoodId, Items, NoMemory};
 use std::alloc::Global;
 use std::mem;
 use table_rows::{has_at, place_in};
@@ -163,7 +163,7 @@ pub fn rewant(
     wants: &mut Items<(GoodId, Ratio)>,
     good: GoodId,
     rate: &Ratio,
-) -> Result<Option<Ratio>, TableFault>
+) -> Result<Option<Ratio>, Denied<TableFault>>
     ensures { ListChanges (rewanted good rate.now wants.old) result wants.old wants.new }
 {
     want_fits(wants.as_slice(), good, rate)?;
@@ -179,7 +179,7 @@ pub fn reprice(
     prices: &mut Items<(GoodId, Ratio)>,
     good: GoodId,
     price: Option<Ratio>,
-) -> Result<Option<Ratio>, TableFault>
+) -> Result<Option<Ratio>, Denied<TableFault>>
     ensures { ListChanges (repriced good price prices.old) result prices.old prices.new }
 {
     price_fits(prices.as_slice(), good, &price)?;

@@ -25,8 +25,8 @@ use Rattle.plan_lines.specs.declared.reply.RefusalCode.{RefusalCode}
 use Rattle.plan_lines.specs.declared.reply.Reply.{Reply}
 use Rattle.planner_tables.specs.Effects.{named, table_at, table_named}
 use Rattle.planner_tables.specs.Questions.{IsSolveReply, IsSolveReplyAt, IsSolved, IsSolvedWhere, answered, linear_named, linear_outcome, rate_outcome, rate_reply, rates_outcome, row_rates_outcome, solved}
-use Rattle.table_words.specs.Refusals as tables
-use Rattle.state_changes.specs.Actions.{Outcome, can_be_held, node_named}
+use Rattle.table_words.specs.declared.refusals.TableRefusal.{TableRefusal}
+use Rattle.state_changes.specs.Actions.{can_be_held, node_named}
 use Rattle.state_changes.specs.Effects.{effect_of}
 use Rattle.state_changes.specs.States.{State}
 use Rattle.state_changes.specs.declared.refusals.Refusal.{Refusal}
@@ -133,11 +133,11 @@ says_plain p r answer told is same plain = let kept = plain_as answer told same 
 says_refused : (p r : Planned) (answer : Reply) (why : RefusalCode) → r ≡ p → answer ≡ refused_as why → Leaves (left (session_of p.kept) p.batch p.quiet true) r answer
 says_refused p r answer why is same = says p r answer true is (ap is_refusal_reply same) (ap solved_in same)
 
-about_node : (g : Game) (o : Outcome NodeId) (ask : NodeId → Reply → Type 0) (answer : Reply) → ((node : NodeId) → ask node answer → IsPlain answer) → AboutNode g o ask answer → (is_refusal_reply answer ≡ is_err o) × (solved_in answer ≡ None)
+about_node : (g : Game) (o : Result NodeId Refusal) (ask : NodeId → Reply → Type 0) (answer : Reply) → ((node : NodeId) → ask node answer → IsPlain answer) → AboutNode g o ask answer → (is_refusal_reply answer ≡ is_err o) × (solved_in answer ≡ None)
 about_node g (Ok node) ask answer plain is = plain node is
 about_node g (Err refusal) ask answer plain is = (ap is_refusal_reply is, ap solved_in is)
 
-asks : (p r : Planned) (o : Outcome NodeId) (ask : NodeId → Reply → Type 0) (answer : Reply) → ((node : NodeId) → ask node answer → IsPlain answer) → r ≡ p → AboutNode p.state.book.game o ask answer
+asks : (p r : Planned) (o : Result NodeId Refusal) (ask : NodeId → Reply → Type 0) (answer : Reply) → ((node : NodeId) → ask node answer → IsPlain answer) → r ≡ p → AboutNode p.state.book.game o ask answer
     → Leaves (left (session_of p.kept) p.batch p.quiet (is_err o)) r answer
 asks p r o ask answer plain is about = let told = about_node p.state.book.game o ask answer plain about in says p r answer (is_err o) is told.0 told.1
 
@@ -168,11 +168,11 @@ rates_plain : (g : Game) (t : Table) (row : TableRow) (o : Result (Effects × Ra
 rates_plain g t row (Ok rates) = refl
 rates_plain g t row (Err wide) = refl
 
-row_unsolved : (g : Game) (t : Table) (o : tables.Outcome TableRow) → solved_in (answered g (o ▸ λ row. rates_outcome t row (figures_of g row.setup))) ≡ None
+row_unsolved : (g : Game) (t : Table) (o : Result TableRow TableRefusal) → solved_in (answered g (o ▸ λ row. rates_outcome t row (figures_of g row.setup))) ≡ None
 row_unsolved g t (Ok row) = rates_plain g t row (figures_of g row.setup)
 row_unsolved g t (Err refusal) = refl
 
-place_unsolved : (g : Game) (ts : List Table) (label : List ℕ) (o : tables.Outcome ℕ) → solved_in (answered g (o ▸ λ place. row_rates_outcome g (table_at ts place) label)) ≡ None
+place_unsolved : (g : Game) (ts : List Table) (label : List ℕ) (o : Result ℕ TableRefusal) → solved_in (answered g (o ▸ λ place. row_rates_outcome g (table_at ts place) label)) ≡ None
 place_unsolved g ts label (Ok place) = row_unsolved g (table_at ts place) (named label (find (is_label label) (table_at ts place).rows))
 place_unsolved g ts label (Err refusal) = refl
 
@@ -181,11 +181,11 @@ unfolding rate_outcome
 rate_unsolved g ts table label = place_unsolved g ts label (table_named ts table)
 
 -- a table that has no form is refused
-no_form_at : (g : Game) (t : Table) (budget : ℕ) (o : tables.Outcome Linear) (answer : Reply) → form_of o ≡ None → IsSolvedWhere g t budget o answer → (is_refusal_reply answer ≡ true) × (solved_in answer ≡ None)
+no_form_at : (g : Game) (t : Table) (budget : ℕ) (o : Result Linear TableRefusal) (answer : Reply) → form_of o ≡ None → IsSolvedWhere g t budget o answer → (is_refusal_reply answer ≡ true) × (solved_in answer ≡ None)
 no_form_at g t budget (Ok form) answer none is = cc
 no_form_at g t budget (Err refusal) answer none is = (ap is_refusal_reply is, ap solved_in is)
 
-no_form_named : (g : Game) (ts : List Table) (budget : ℕ) (o : tables.Outcome ℕ) (answer : Reply) → form_of (o ▸ λ place. linear_outcome g (table_at ts place)) ≡ None → IsSolveReplyAt g ts budget o answer → (is_refusal_reply answer ≡ true) × (solved_in answer ≡ None)
+no_form_named : (g : Game) (ts : List Table) (budget : ℕ) (o : Result ℕ TableRefusal) (answer : Reply) → form_of (o ▸ λ place. linear_outcome g (table_at ts place)) ≡ None → IsSolveReplyAt g ts budget o answer → (is_refusal_reply answer ≡ true) × (solved_in answer ≡ None)
 no_form_named g ts budget (Ok place) answer none is = no_form_at g (table_at ts place) budget (linear_outcome g (table_at ts place)) answer none is
 no_form_named g ts budget (Err refusal) answer none is = (ap is_refusal_reply is, ap solved_in is)
 
@@ -223,11 +223,11 @@ settles_by g t l form budget answer some is = record {
 none_some : (form : Linear) → ◌≡◌ {A = Option Linear} None (Some form) → ⊥
 none_some form same = cc
 
-form_at : (g : Game) (t : Table) (budget : ℕ) (o : tables.Outcome Linear) (answer : Reply) (form : Linear) → form_of o ≡ Some form → IsSolvedWhere g t budget o answer → Settles form budget answer
+form_at : (g : Game) (t : Table) (budget : ℕ) (o : Result Linear TableRefusal) (answer : Reply) (form : Linear) → form_of o ≡ Some form → IsSolvedWhere g t budget o answer → Settles form budget answer
 form_at g t budget (Ok l) answer form some is = settles_by g t l form budget answer some is
 form_at g t budget (Err refusal) answer form some is = absurd (none_some form some)
 
-form_named : (g : Game) (ts : List Table) (budget : ℕ) (o : tables.Outcome ℕ) (answer : Reply) (form : Linear) → form_of (o ▸ λ place. linear_outcome g (table_at ts place)) ≡ Some form → IsSolveReplyAt g ts budget o answer → Settles form budget answer
+form_named : (g : Game) (ts : List Table) (budget : ℕ) (o : Result ℕ TableRefusal) (answer : Reply) (form : Linear) → form_of (o ▸ λ place. linear_outcome g (table_at ts place)) ≡ Some form → IsSolveReplyAt g ts budget o answer → Settles form budget answer
 form_named g ts budget (Ok place) answer form some is = form_at g (table_at ts place) budget (linear_outcome g (table_at ts place)) answer form some is
 form_named g ts budget (Err refusal) answer form some is = absurd (none_some form some)
 

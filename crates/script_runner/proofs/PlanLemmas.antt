@@ -14,7 +14,7 @@ use Rattle.plan_lines.specs.declared.reply.Reply.{Reply}
 use Rattle.table_words.specs.declared.refusals.TableRefusal.{TableRefusal}
 use Rattle.planner_tables.specs.Effects.{table_at, table_named}
 use Rattle.planner_tables.specs.Questions.{linear_outcome, IsSolveReply, IsSolveReplyAt, IsSolvedWhere}
-use Rattle.table_words.specs.Refusals.{Outcome, refused}
+use Rattle.table_words.specs.Refusals.{refused}
 use Rattle.planner_tables.specs.Causes.{caused}
 use Rattle.state_changes.specs.States.{State}
 use Rattle.planner_core.specs.Lines.{Held, IsStep, IsStepIn, Planned as AnyPlanned, is_refused}
@@ -35,7 +35,7 @@ caused_ok unknown (Err fault) value e = cc
 not_refused : (g : Game) (refusal : TableRefusal) (r : Reply) → r ≡ refused g refusal None → is_refused r ≡ false → ⊥
 not_refused g refusal r is not = let same : true ≡ false = sym (ap is_refused is) ∙ not in cc
 
-told_of_form : (s : State) (name : List ℕ) (budget : ℕ) (r : Reply) (place : ℕ) → table_named s.tables name ≡ Ok place → (o : Outcome Linear) → linear_outcome s.book.game (table_at s.tables place) ≡ o
+told_of_form : (s : State) (name : List ℕ) (budget : ℕ) (r : Reply) (place : ℕ) → table_named s.tables name ≡ Ok place → (o : Result Linear TableRefusal) → linear_outcome s.book.game (table_at s.tables place) ≡ o
     → IsSolvedWhere s.book.game (table_at s.tables place) budget o r → is_refused r ≡ false → TellsOfTable s name budget r
 told_of_form s name budget r place named (Ok l) e is not = record {
   place = place;
@@ -48,7 +48,7 @@ told_of_form s name budget r place named (Ok l) e is not = record {
 }
 told_of_form s name budget r place named (Err refusal) e is not = absurd (not_refused s.book.game refusal r is not)
 
-told_of_place : (s : State) (name : List ℕ) (budget : ℕ) (r : Reply) (o : Outcome ℕ) → table_named s.tables name ≡ o → IsSolveReplyAt s.book.game s.tables budget o r → is_refused r ≡ false → TellsOfTable s name budget r
+told_of_place : (s : State) (name : List ℕ) (budget : ℕ) (r : Reply) (o : Result ℕ TableRefusal) → table_named s.tables name ≡ o → IsSolveReplyAt s.book.game s.tables budget o r → is_refused r ≡ false → TellsOfTable s name budget r
 told_of_place s name budget r (Ok place) e is not = told_of_form s name budget r place e (linear_outcome s.book.game (table_at s.tables place)) refl is not
 told_of_place s name budget r (Err refusal) e is not = absurd (not_refused s.book.game refusal r is not)
 

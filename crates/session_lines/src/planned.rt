@@ -4,9 +4,9 @@ ghost use Rattle.planner_tables.specs.Effects.{IsSoundOn};
 
 use game_types::Game;
 use linear_table::{Column, Linear, LinearColumn, Plan};
-use plan_base::NoMemory;
+use plan_base::{Denied, NoMemory};
 use plan_lines::Figures;
-use production_table::{Table, TableFault, TableRow};
+use production_table::{Table, TableRow};
 use std::alloc::Global;
 
 /// A plan of a table, with the table and its linear form.
@@ -40,7 +40,7 @@ pub fn linear_form(alloc: Global, game: &Game, table: &Table) -> Result<Option<L
 {
     match table.to_linear(alloc, game) {
         Ok(linear) => Ok(Some(linear)),
-        Err(TableFault::NoMemory) => Err(NoMemory),
-        Err(_) => Ok(None),
+        Err(Denied::Refused(_)) => Ok(None),
+        Err(Denied::NoMemory) => Err(NoMemory),
     }
 }

@@ -1,5 +1,5 @@
 -- Changes of a book and its tables, one after another, and back.
-use Rattle.std.proofs.Common.{◌≡◌, ◌∙◌, ℕ, ◌+◌, ◌<◌, ◌≤◌, ◌||◌, ◌&&◌, zero, suc, Bool, false, true, List, [], ◌∷◌, ◌++◌, Option, None, Some, Ok, Err, length, get_or, drop, refl, sym, ap, subst, arith}
+use Rattle.std.proofs.Common.{◌≡◌, ◌∙◌, ℕ, ◌+◌, ◌<◌, ◌≤◌, ◌||◌, ◌&&◌, zero, suc, Bool, false, true, List, [], ◌∷◌, ◌++◌, Option, None, Some, Result, Ok, Err, length, get_or, drop, refl, sym, ap, subst, arith}
 use Rattle.std.specs.List.{list_all, list_any}
 use Rattle.std.proofs.lemmas.List.{append_assoc, append-nil, drop_all, drop_more}
 use Rattle.std.proofs.lemmas.Bool.{or_parts}
@@ -37,7 +37,7 @@ use Rattle.state_changes.specs.declared.refusals.Refusal.{Refusal}
 use Rattle.state_changes.specs.declared.refusals.Refusal.TheVariants.{OfEdit, OfTables}
 use Rattle.state_changes.specs.declared.undos.Undo.{Undo}
 use Rattle.state_changes.specs.declared.undos.Undo.TheVariants.{Part, OfTables as TablesUndo}
-use Rattle.state_changes.specs.Actions.{Outcome, ◌▸◌, can_be_held, edit_named, good_named, ingredient_edit, node_named, product_edit, recipe_named, tech_named, edit_and, edits_named}
+use Rattle.state_changes.specs.Actions.{◌▸◌, can_be_held, edit_named, good_named, ingredient_edit, node_named, product_edit, recipe_named, tech_named, edit_and, edits_named}
 use Rattle.state_changes.specs.States.{State, state_of}
 use Rattle.state_changes.specs.Effects.{book_effect, edited, effect_of, table_effect, with_book, with_tables}
 use Rattle.state_changes.specs.Undoing.{all_restored, all_tables_restored, part_restored, table_part_restored}
@@ -115,11 +115,11 @@ no-edit g (Import table good price) t = refl
 no-edit g (Surplus table good price) t = refl
 no-edit g (Power table on) t = refl
 
-asks-one : {A : Type 0} (o : Outcome A) (f : A → Edit) → (o ▸ λ a. Ok (Some (f a))) ≡ Ok None → ⊥
+asks-one : {A : Type 0} (o : Result A Refusal) (f : A → Edit) → (o ▸ λ a. Ok (Some (f a))) ≡ Ok None → ⊥
 asks-one (Ok a) f e = absurd cc
 asks-one (Err refusal) f e = absurd cc
 
-asks-two : {A B : Type 0} (o : Outcome A) (p : Outcome B) (f : A → B → Edit) → (o ▸ λ a. p ▸ λ b. Ok (Some (f a b))) ≡ Ok None → ⊥
+asks-two : {A B : Type 0} (o : Result A Refusal) (p : Result B Refusal) (f : A → B → Edit) → (o ▸ λ a. p ▸ λ b. Ok (Some (f a b))) ≡ Ok None → ⊥
 asks-two (Ok a) p f e = asks-one p (f a) e
 asks-two (Err refusal) p f e = absurd cc
 
@@ -149,17 +149,17 @@ asks-edit g (Power table on) h t e = absurd cc
 module _ (book : Book) (milestones : List NodeId) (tables : List ProductionTable) (change : Change) where
   pub refused-name : (refusal : Refusal) → can_be_held change ≡ true → is_of_tables change ≡ false → edit_named book.game change ≡ Err refusal → effect_of (state_of book milestones tables) change ≡ Err refusal
   refused-name refusal h t e =
-      effect-book (state_of book milestones tables) change h t ∙ ap (λ (o : Outcome (Option Edit)). o ▸ edited (state_of book milestones tables)) e
+      effect-book (state_of book milestones tables) change h t ∙ ap (λ (o : Result (Option Edit) Refusal). o ▸ edited (state_of book milestones tables)) e
 
   pub refused-edit : (edit : Edit) (fault : EditFault) → can_be_held change ≡ true → is_of_tables change ≡ false → edit_named book.game change ≡ Ok (Some edit) → effect edit book ≡ Err fault → effect_of (state_of book milestones tables) change ≡ Err (OfEdit fault)
   refused-edit edit fault h t e f =
       effect-book (state_of book milestones tables) change h t
-      ∙ (ap (λ (o : Outcome (Option Edit)). o ▸ edited (state_of book milestones tables)) e ∙ ap (with_book (state_of book milestones tables)) f)
+      ∙ (ap (λ (o : Result (Option Edit) Refusal). o ▸ edited (state_of book milestones tables)) e ∙ ap (with_book (state_of book milestones tables)) f)
 
   pub accepted-edit : (after : Book) (edit : Edit) → can_be_held change ≡ true → is_of_tables change ≡ false → edit_named book.game change ≡ Ok (Some edit) → effect edit book ≡ Ok after → effect_of (state_of book milestones tables) change ≡ Ok (state_of after milestones tables)
   accepted-edit after edit h t e f =
       effect-book (state_of book milestones tables) change h t
-      ∙ (ap (λ (o : Outcome (Option Edit)). o ▸ edited (state_of book milestones tables)) e ∙ ap (with_book (state_of book milestones tables)) f)
+      ∙ (ap (λ (o : Result (Option Edit) Refusal). o ▸ edited (state_of book milestones tables)) e ∙ ap (with_book (state_of book milestones tables)) f)
 
   pub refused-tables : (refusal : TableRefusal) → is_of_tables change ≡ true → tables_effect book.game tables change ≡ Err refusal → effect_of (state_of book milestones tables) change ≡ Err (OfTables refusal)
   refused-tables refusal t e = effect-tables (state_of book milestones tables) change t ∙ ap (with_tables (state_of book milestones tables)) e
@@ -260,7 +260,7 @@ all-parts test (x ∷ xs) ys e =
     both false b e = absurd cc
 
 pub one-mark : (old : Book) (change : Change) (edit : Edit) → edit_named old.game change ≡ Ok (Some edit) → list_all is_of_mark (edits_named old.game (change ∷ [])) ≡ true → is_of_mark edit ≡ true
-one-mark old change edit named e = first (is_of_mark edit) (ap (λ (o : Outcome (Option Edit)). list_all is_of_mark (edit_and o [])) (sym named) ∙ e)
+one-mark old change edit named e = first (is_of_mark edit) (ap (λ (o : Result (Option Edit) Refusal). list_all is_of_mark (edit_and o [])) (sym named) ∙ e)
   where
     first : (b : Bool) → (b && true) ≡ true → b ≡ true
     first true e = refl
@@ -290,7 +290,7 @@ untouched-more old edits more n e =
 
 pub untouched-one : (old : Book) (change : Change) (edit : Edit) (n : ℕ) → edit_named old.game change ≡ Ok (Some edit) → is_touched old (edits_named old.game (change ∷ [])) n ≡ false → has_node (touched_by (shape_of old.game) edit) n ≡ false
 untouched-one old change edit n named e =
-    (or_parts (has_node (touched_by (shape_of old.game) edit) n) false (ap (λ (o : Outcome (Option Edit)). is_touched old (edit_and o []) n) (sym named) ∙ e)).0
+    (or_parts (has_node (touched_by (shape_of old.game) edit) n) false (ap (λ (o : Result (Option Edit) Refusal). is_touched old (edit_and o []) n) (sym named) ∙ e)).0
 
 pub next-book : (old new : Book) (tables : List ProductionTable) (change : Change) (edits more_edits : List Edit) (undos more_undos : List Undo) (edit : Edit) (part : Inverse)
     → can_be_held change ≡ true → is_of_tables change ≡ false → AppliesOne old change edit part new → more_edits ≡ edits ++ edit ∷ [] → more_undos ≡ undos ++ Part part ∷ [] → AreSoundTables old.game tables
@@ -300,12 +300,12 @@ next-book old new tables change edits more_edits undos more_undos edit part held
   sound = one.sound;
   fit = tables-kept edit old new tables one.effect_is fit;
   names = edit_keeps edit old new one.effect_is;
-  edits_are = e ∙ ap (λ (o : Outcome (Option Edit)). edits ++ edit_and o []) (sym one.named);
+  edits_are = e ∙ ap (λ (o : Result (Option Edit) Refusal). edits ++ edit_and o []) (sym one.named);
   parts = λ all. ap (list_all is_part_undo) f ∙ all-append is_part_undo undos (Part part ∷ []) all refl;
   back = ap (λ l. all_restored l new) f ∙ (restored-push undos (Part part) new ∙ ap (all_restored undos) one.back);
   tables_back = ap (λ l. all_tables_restored l tables) f ∙ tables-push undos (Part part) tables;
   stays = λ n untouched. touches_all edit old new one.effect_is n (untouched-one old change edit n one.named untouched);
-  alike = subst (λ (o : Outcome (Option Edit)). AlikeBut (edit_and o []) old.game new.game) (sym one.named) (alike_law edit old new one.effect_is);
+  alike = subst (λ (o : Result (Option Edit) Refusal). AlikeBut (edit_and o []) old.game new.game) (sym one.named) (alike_law edit old new one.effect_is);
   game = λ marks. marks-game edit old new one.effect_is (one-mark old change edit one.named marks);
 }
 
@@ -317,7 +317,7 @@ next-tables book tables left change edits undos more_undos undo sound of_tables 
   sound = sound;
   fit = fit;
   names = names-refl book.game;
-  edits_are = sym (append-nil edits) ∙ ap (λ (o : Outcome (Option Edit)). edits ++ edit_and o []) (sym (no-edit book.game change of_tables));
+  edits_are = sym (append-nil edits) ∙ ap (λ (o : Result (Option Edit) Refusal). edits ++ edit_and o []) (sym (no-edit book.game change of_tables));
   parts = λ all. ap (list_all is_part_undo) f ∙ all-append is_part_undo undos (TablesUndo undo ∷ []) all refl;
   back = ap (λ l. all_restored l book) f ∙ restored-push undos (TablesUndo undo) book;
   tables_back = ap (λ l. all_tables_restored l left) f ∙ (tables-push undos (TablesUndo undo) left ∙ ap (all_tables_restored undos) back);
@@ -327,7 +327,7 @@ next-tables book tables left change edits undos more_undos undo sound of_tables 
 }
 
 -- ---- several changes
-pub edits-split : (o : Outcome (Option Edit)) (edits : List Edit) → edit_and o edits ≡ edit_and o [] ++ edits
+pub edits-split : (o : Result (Option Edit) Refusal) (edits : List Edit) → edit_and o edits ≡ edit_and o [] ++ edits
 edits-split (Ok (Some edit)) edits = refl
 edits-split (Ok None) edits = refl
 edits-split (Err refusal) edits = refl
@@ -338,11 +338,11 @@ edits-more g changes i d inside =
 
 one-accepted : (s t : State) (i : ℕ) (changes : List Change) (d : Change) → i < length changes → effect_of s (get_or changes i d) ≡ Ok t → apply_from effect_of i s (drop i changes) ≡ apply_from effect_of (i + 1) t (drop (i + 1) changes)
 one-accepted s t i changes d inside e =
-    ap (apply_from effect_of i s) (drop_more changes i d inside) ∙ ap (λ (r : Outcome State). then_apply r i (λ u. apply_from effect_of (i + 1) u (drop (i + 1) changes))) e
+    ap (apply_from effect_of i s) (drop_more changes i d inside) ∙ ap (λ (r : Result State Refusal). then_apply r i (λ u. apply_from effect_of (i + 1) u (drop (i + 1) changes))) e
 
 one-refused : (s : State) (i : ℕ) (refusal : Refusal) (changes : List Change) (d : Change) → i < length changes → effect_of s (get_or changes i d) ≡ Err refusal → apply_from effect_of i s (drop i changes) ≡ Err (i, refusal)
 one-refused s i refusal changes d inside e =
-    ap (apply_from effect_of i s) (drop_more changes i d inside) ∙ ap (λ (r : Outcome State). then_apply r i (λ u. apply_from effect_of (i + 1) u (drop (i + 1) changes))) e
+    ap (apply_from effect_of i s) (drop_more changes i d inside) ∙ ap (λ (r : Result State Refusal). then_apply r i (λ u. apply_from effect_of (i + 1) u (drop (i + 1) changes))) e
 
 -- the first changes, and what is left of them
 pub record SoFar (old : Book) (stood : List ProductionTable) (changes : List Change) (i : ℕ) (edits : List Edit) (undos : List Undo) (book : Book) (tables : List ProductionTable) : Type 0 where

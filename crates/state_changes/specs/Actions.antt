@@ -1,5 +1,5 @@
 -- What a change means in a game: things in place of names. The words and the order of the refusals are this project's own.
-use Rattle.std.specs.Prelude.{◌≡◌, ℕ, ◌+◌, Bool, true, false, length, List, [], ◌∷◌, Option, Some, None, Result, Ok, Err, if◌then◌else◌}
+use Rattle.std.specs.Prelude.{ℕ, ◌+◌, Bool, true, false, length, List, [], ◌∷◌, Option, Some, None, Result, Ok, Err, if◌then◌else◌}
 pub use Rattle.plan_base.specs.Binds.{◌▸◌}
 use Rattle.plan_base.specs.declared.ids.GoodId.{GoodId}
 use Rattle.plan_base.specs.declared.ids.NodeId.{NodeId}
@@ -18,39 +18,23 @@ use Rattle.plan_lines.specs.declared.change.Change.{Change}
 use Rattle.plan_lines.specs.declared.change.Change.TheVariants.{Grant, Revoke, Forbid, Permit, Milestone, Unmilestone, Ingredient, Product, Unlock, Time, Enabled}
 use Rattle.state_changes.specs.declared.refusals.Refusal.{Refusal}
 use Rattle.state_changes.specs.declared.refusals.Refusal.TheVariants.{Unknown}
-use Rattle.state_changes.specs.declared.refusals.ChangeFault.{ChangeFault}
-use Rattle.state_changes.specs.declared.refusals.ChangeFault.TheVariants.{Refused, NoMemory}
-
--- a value, or why there is none
-abbrev pub Outcome : Type 0 → Type 0
-Outcome A = Result A Refusal
-
--- what a call answers that takes memory: what is meant, unless memory could not be had
-abbrev pub Gives : {A : Type 0} → Outcome A → Result A ChangeFault → Type 0
-Gives meant (Ok value) = meant ≡ Ok value
-Gives meant (Err fault) = (refusal : Refusal) → fault ≡ Refused refusal → meant ≡ Err refusal
-
--- the fault is this refusal, unless memory could not be had
-abbrev pub IsRefusal : Refusal → ChangeFault → Type 0
-IsRefusal meant (Refused refusal) = meant ≡ refusal
-IsRefusal meant NoMemory = Unit {0}
 
 -- ---- names
-abbrev pub known : {A : Type 0} → Object → Option A → Outcome A
+abbrev pub known : {A : Type 0} → Object → Option A → Result A Refusal
 known object None = Err (Unknown object)
 known object (Some value) = Ok value
 
-unfoldable pub node_named : Game → Object → Outcome NodeId
+unfoldable pub node_named : Game → Object → Result NodeId Refusal
 node_named g object = known object (find_node g object.kind object.name)
 
 -- the place of a name among those of a kind
-unfoldable pub place_named : Game → Kind → Object → Outcome ℕ
+unfoldable pub place_named : Game → Kind → Object → Result ℕ Refusal
 place_named g kind object = known object (place_of (names_of g kind) object.name)
 
-unfoldable pub recipe_named : Game → Object → Outcome RecipeId
+unfoldable pub recipe_named : Game → Object → Result RecipeId Refusal
 recipe_named g object = place_named g Recipe object ▸ λ place. Ok (record { 0 = place })
 
-unfoldable pub tech_named : Game → Object → Outcome TechId
+unfoldable pub tech_named : Game → Object → Result TechId Refusal
 tech_named g object = place_named g Tech object ▸ λ place. Ok (record { 0 = place })
 
 -- fluids come behind the items
@@ -58,7 +42,7 @@ abbrev pub is_fluid : Kind → Bool
 is_fluid Fluid = true
 is_fluid kind = false
 
-unfoldable pub good_named : Game → Object → Outcome GoodId
+unfoldable pub good_named : Game → Object → Result GoodId Refusal
 good_named g object =
     if is_fluid object.kind then (place_named g Fluid object ▸ λ place. Ok (record { 0 = length g.items + place }))
     else (place_named g Item object ▸ λ place. Ok (record { 0 = place }))
@@ -74,7 +58,7 @@ product_edit recipe good None = edit.DropProduct recipe good
 
 -- The edit of the book that a change asks for, or the first of its names that nothing has. Changes of the milestones and of
 -- the tables ask for none.
-unfoldable pub edit_named : Game → Change → Outcome (Option Edit)
+unfoldable pub edit_named : Game → Change → Result (Option Edit) Refusal
 edit_named g (Grant object) = node_named g object ▸ λ node. Ok (Some (edit.Grant node))
 edit_named g (Revoke object) = node_named g object ▸ λ node. Ok (Some (edit.Revoke node))
 edit_named g (Forbid object) = node_named g object ▸ λ node. Ok (Some (edit.Forbid node))
@@ -87,7 +71,7 @@ edit_named g (Enabled recipe on) = recipe_named g recipe ▸ λ r. Ok (Some (edi
 edit_named g change = Ok None
 
 -- the edits of the book that changes ask for, in order
-abbrev pub edit_and : Outcome (Option Edit) → List Edit → List Edit
+abbrev pub edit_and : Result (Option Edit) Refusal → List Edit → List Edit
 edit_and (Ok (Some edit)) edits = edit ∷ edits
 edit_and (Ok None) edits = edits
 edit_and (Err refusal) edits = edits

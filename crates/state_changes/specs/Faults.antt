@@ -1,30 +1,28 @@
 -- Refusals, as they come from the crates below.
 use Rattle.std.specs.Prelude.{ℕ}
+use Rattle.plan_base.specs.declared.denied.Denied.TheVariants.{Refused, NoMemory}
+use Rattle.plan_base.specs.declared.denied.Denied.{Denied}
 use Rattle.data_edit.specs.declared.edits.EditFault.{EditFault}
-use Rattle.data_edit.specs.declared.edits.EditFault.TheVariants as of_edit
 use Rattle.milestone_masks.specs.declared.worlds.MilestoneFault.{MilestoneFault}
 use Rattle.milestone_masks.specs.declared.worlds.MilestoneFault.TheVariants as of_milestone
 use Rattle.edit_undo.specs.declared.editable.EntryFault.{EntryFault}
 use Rattle.edit_undo.specs.declared.editable.EntryFault.TheVariants as entry
-use Rattle.table_words.specs.declared.refusals.ChangeFault.{ChangeFault as TablesFault}
-use Rattle.table_words.specs.declared.refusals.ChangeFault.TheVariants as of_tables
+use Rattle.table_words.specs.declared.refusals.TableRefusal.{TableRefusal}
 use Rattle.state_changes.specs.declared.refusals.Refusal.{Refusal}
 use Rattle.state_changes.specs.declared.refusals.Refusal.TheVariants.{OfEdit, OfMilestone, OfTables}
-use Rattle.state_changes.specs.declared.refusals.ChangeFault.{ChangeFault}
-use Rattle.state_changes.specs.declared.refusals.ChangeFault.TheVariants.{Refused, NoMemory}
 
-abbrev pub entry_fault : ℕ → ChangeFault → EntryFault Refusal
+abbrev pub entry_fault : ℕ → Denied Refusal → EntryFault Refusal
 entry_fault place (Refused refusal) = entry.At place refusal
 entry_fault place NoMemory = entry.NoMemory
 
-abbrev pub edit_fault : EditFault → ChangeFault
-edit_fault of_edit.NoMemory = NoMemory
-edit_fault fault = Refused (OfEdit fault)
+abbrev pub edit_fault : Denied EditFault → Denied Refusal
+edit_fault (Refused fault) = Refused (OfEdit fault)
+edit_fault NoMemory = NoMemory
 
-abbrev pub milestone_fault : MilestoneFault → ChangeFault
+abbrev pub milestone_fault : MilestoneFault → Denied Refusal
 milestone_fault of_milestone.NoMemory = NoMemory
 milestone_fault fault = Refused (OfMilestone fault)
 
-abbrev pub tables_fault : TablesFault → ChangeFault
-tables_fault (of_tables.Refused refusal) = Refused (OfTables refusal)
-tables_fault of_tables.NoMemory = NoMemory
+abbrev pub tables_fault : Denied TableRefusal → Denied Refusal
+tables_fault (Refused refusal) = Refused (OfTables refusal)
+tables_fault NoMemory = NoMemory

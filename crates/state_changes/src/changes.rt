@@ -16,10 +16,11 @@ ghost use Rattle.state_changes.specs.Books.{Applies, AppliesNext, AppliesOne};
 
 use crate::edits::edit_named;
 use crate::entries::is_of_tables;
-use crate::refusals::{ChangeFault, Refusal, edit_fault, entry_fault, tables_fault};
+use crate::refusals::{Refusal, edit_fault, entry_fault, tables_fault};
 use crate::undos::Undo;
 use data_edit::{Book, Edit, Inverse, apply_edit, exchange};
 use edit_undo::EntryFault;
+use plan_base::Denied;
 use plan_lines::Change;
 use planner_tables::{change_tables, exchange_tables};
 use production_table::Table as ProductionTable;
@@ -41,12 +42,12 @@ fn apply_change(
     alloc: Global,
     book: &mut Book,
     change: &Change,
-) -> Result<(Edit, Inverse), ChangeFault>
+) -> Result<(Edit, Inverse), Denied<Refusal>>
     requires sound { IsSoundBook book.old }
     requires held { can_be_held change.now ≡ true }
     requires of_book { is_of_tables change.now ≡ false }
     ensures ok { IfOk result (λ done. AppliesOne book.old change.now done.0 done.1 book.new) }
-    ensures fault { IfErr result (λ fault. (refusal : Refusal) (milestones : List NodeId) (tables : List Table) → fault ≡ ChangeFault.Refused refusal → effect_of (state_of book.old milestones tables) change.now ≡ Err refusal) }
+    ensures fault { IfErr result (λ fault. (refusal : Refusal) (milestones : List NodeId) (tables : List Table) → fault ≡ Denied.Refused refusal → effect_of (state_of book.old milestones tables) change.now ≡ Err refusal) }
     ensures err { OnErr result (book.new ≡ book.old) }
 {
     let named = edit_named(alloc, &book.game, change)?;
@@ -66,16 +67,16 @@ fn apply_to_book(
     change: &Change,
     edits: &mut Vec<Edit>,
     undos: &mut Vec<Undo>,
-) -> Result<(), ChangeFault>
+) -> Result<(), Denied<Refusal>>
     requires sound { IsSoundBook book.old }
     requires held { can_be_held change.now ≡ true }
     requires of_book { is_of_tables change.now ≡ false }
     ensures ok { OnOk result ((tables : List Table) → AreSoundTables book.old.game tables → AppliesNext book.old tables change.now edits.old.items undos.old.items book.new tables edits.new.items undos.new.items) }
-    ensures fault { IfErr result (λ fault. (refusal : Refusal) (milestones : List NodeId) (tables : List Table) → fault ≡ ChangeFault.Refused refusal → effect_of (state_of book.old milestones tables) change.now ≡ Err refusal) }
+    ensures fault { IfErr result (λ fault. (refusal : Refusal) (milestones : List NodeId) (tables : List Table) → fault ≡ Denied.Refused refusal → effect_of (state_of book.old milestones tables) change.now ≡ Err refusal) }
     ensures err { OnErr result ((book.new ≡ book.old) × (edits.new.items ≡ edits.old.items) × (undos.new.items ≡ undos.old.items)) }
 {
     if edits.reserve(1).is_err() || undos.reserve(1).is_err() {
-        return Err(ChangeFault::NoMemory);
+        return Err(Denied::NoMemory);
     }
     let (edit, inverse) = apply_change(alloc, book, change)?;
     put(edits, edit);
@@ -90,16 +91,16 @@ fn apply_to_tables(
     tables: &mut Vec<ProductionTable>,
     change: &Change,
     undos: &mut Vec<Undo>,
-) -> Result<(), ChangeFault>
+) -> Result<(), Denied<Refusal>>
     requires sound { IsSoundBook book.now }
     requires tables { AreSoundTables book.now.game tables.old.items }
     requires of_tables { is_of_tables change.now ≡ true }
     ensures ok { OnOk result ((edits : List EditOf) → AppliesNext book.now tables.old.items change.now edits undos.old.items book.now tables.new.items edits undos.new.items) }
-    ensures fault { IfErr result (λ fault. (refusal : Refusal) (milestones : List NodeId) → fault ≡ ChangeFault.Refused refusal → effect_of (state_of book.now milestones tables.old.items) change.now ≡ Err refusal) }
+    ensures fault { IfErr result (λ fault. (refusal : Refusal) (milestones : List NodeId) → fault ≡ Denied.Refused refusal → effect_of (state_of book.now milestones tables.old.items) change.now ≡ Err refusal) }
     ensures err { OnErr result ((tables.new.items ≡ tables.old.items) × (undos.new.items ≡ undos.old.items)) }
 {
     if undos.reserve(1).is_err() {
-        return Err(ChangeFault::NoMemory);
+        return Err(Denied::NoMemory);
     }
     match change_tables(alloc, &book.game, tables, change) {
         Ok(undo) => {
@@ -118,12 +119,12 @@ fn apply_next(
     change: &Change,
     edits: &mut Vec<Edit>,
     undos: &mut Vec<Undo>,
-) -> Result<(), ChangeFault>
+) -> Result<(), Denied<Refusal>>
     requires sound { IsSoundBook book.old }
     requires tables { AreSoundTables book.old.game tables.old.items }
     requires held { can_be_held change.now ≡ true }
     ensures ok { OnOk result (AppliesNext book.old tables.old.items change.now edits.old.items undos.old.items book.new tables.new.items edits.new.items undos.new.items) }
-    ensures fault { IfErr result (λ fault. (refusal : Refusal) (milestones : List NodeId) → fault ≡ ChangeFault.Refused refusal → effect_of (state_of book.old milestones tables.old.items) change.now ≡ Err refusal) }
+    ensures fault { IfErr result (λ fault. (refusal : Refusal) (milestones : List NodeId) → fault ≡ Denied.Refused refusal → effect_of (state_of book.old milestones tables.old.items) change.now ≡ Err refusal) }
     ensures err { OnErr result ((book.new ≡ book.old) × (tables.new.items ≡ tables.old.items) × (edits.new.items ≡ edits.old.items) × (undos.new.items ≡ undos.old.items)) }
 {
     if is_of_tables(change) {

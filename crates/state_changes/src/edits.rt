@@ -1,14 +1,15 @@
 //! The edits of the book that changes ask for.
 ghost use Rattle.std.specs.Prelude.{◌≡◌, ◌++◌, [], IfOk, OnOk};
+ghost use Rattle.plan_base.specs.Outcomes.{Gives};
 ghost use Rattle.game_types.specs.Sound.{IsSound};
-ghost use Rattle.state_changes.specs.Actions.{Gives, edit_and, edit_named, edits_named, ingredient_edit, product_edit};
+ghost use Rattle.state_changes.specs.Actions.{edit_and, edit_named, edits_named, ingredient_edit, product_edit};
 
 use crate::names::{good_named, node_named, recipe_named, tech_named};
-use crate::refusals::ChangeFault;
+use crate::refusals::Refusal;
 use data_edit::Edit;
 use fractions::Ratio;
 use game_types::Game;
-use plan_base::{GoodId, NoMemory, RecipeId};
+use plan_base::{Denied, GoodId, NoMemory, RecipeId};
 use plan_lines::{Change, Object};
 use std::alloc::Global;
 
@@ -40,7 +41,7 @@ fn product_edit(recipe: RecipeId, good: GoodId, amount: &Option<Ratio>) -> Edit
 
 // The edit of a line that grants a node.
 #[tactic(auto, unfolding(crate::specs::Actions::edit_named))]
-fn grant_edit(alloc: Global, game: &Game, object: &Object) -> Result<Option<Edit>, ChangeFault>
+fn grant_edit(alloc: Global, game: &Game, object: &Object) -> Result<Option<Edit>, Denied<Refusal>>
     requires { IsSound game.now }
     ensures { Gives (edit_named game.now (Change.Grant object.now)) result }
 {
@@ -50,7 +51,7 @@ fn grant_edit(alloc: Global, game: &Game, object: &Object) -> Result<Option<Edit
 
 // The edit of a line that grants a node no more.
 #[tactic(auto, unfolding(crate::specs::Actions::edit_named))]
-fn revoke_edit(alloc: Global, game: &Game, object: &Object) -> Result<Option<Edit>, ChangeFault>
+fn revoke_edit(alloc: Global, game: &Game, object: &Object) -> Result<Option<Edit>, Denied<Refusal>>
     requires { IsSound game.now }
     ensures { Gives (edit_named game.now (Change.Revoke object.now)) result }
 {
@@ -60,7 +61,7 @@ fn revoke_edit(alloc: Global, game: &Game, object: &Object) -> Result<Option<Edi
 
 // The edit of a line that bars a node.
 #[tactic(auto, unfolding(crate::specs::Actions::edit_named))]
-fn forbid_edit(alloc: Global, game: &Game, object: &Object) -> Result<Option<Edit>, ChangeFault>
+fn forbid_edit(alloc: Global, game: &Game, object: &Object) -> Result<Option<Edit>, Denied<Refusal>>
     requires { IsSound game.now }
     ensures { Gives (edit_named game.now (Change.Forbid object.now)) result }
 {
@@ -70,7 +71,7 @@ fn forbid_edit(alloc: Global, game: &Game, object: &Object) -> Result<Option<Edi
 
 // The edit of a line that bars a node no more.
 #[tactic(auto, unfolding(crate::specs::Actions::edit_named))]
-fn permit_edit(alloc: Global, game: &Game, object: &Object) -> Result<Option<Edit>, ChangeFault>
+fn permit_edit(alloc: Global, game: &Game, object: &Object) -> Result<Option<Edit>, Denied<Refusal>>
     requires { IsSound game.now }
     ensures { Gives (edit_named game.now (Change.Permit object.now)) result }
 {
@@ -86,7 +87,7 @@ fn set_ingredient_edit(
     recipe: &Object,
     good: &Object,
     amount: &Option<Ratio>,
-) -> Result<Option<Edit>, ChangeFault>
+) -> Result<Option<Edit>, Denied<Refusal>>
     requires { IsSound game.now }
     ensures { Gives (edit_named game.now (Change.Ingredient recipe.now good.now amount.now)) result }
 {
@@ -103,7 +104,7 @@ fn set_product_edit(
     recipe: &Object,
     good: &Object,
     amount: &Option<Ratio>,
-) -> Result<Option<Edit>, ChangeFault>
+) -> Result<Option<Edit>, Denied<Refusal>>
     requires { IsSound game.now }
     ensures { Gives (edit_named game.now (Change.Product recipe.now good.now amount.now)) result }
 {
@@ -120,7 +121,7 @@ fn unlock_edit(
     tech: &Object,
     recipe: &Object,
     on: bool,
-) -> Result<Option<Edit>, ChangeFault>
+) -> Result<Option<Edit>, Denied<Refusal>>
     requires { IsSound game.now }
     ensures { Gives (edit_named game.now (Change.Unlock tech.now recipe.now on)) result }
 {
@@ -136,7 +137,7 @@ fn time_edit(
     game: &Game,
     recipe: &Object,
     time: Ratio,
-) -> Result<Option<Edit>, ChangeFault>
+) -> Result<Option<Edit>, Denied<Refusal>>
     requires { IsSound game.now }
     ensures { Gives (edit_named game.now (Change.Time recipe.now time)) result }
 {
@@ -151,7 +152,7 @@ fn enabled_edit(
     game: &Game,
     recipe: &Object,
     on: bool,
-) -> Result<Option<Edit>, ChangeFault>
+) -> Result<Option<Edit>, Denied<Refusal>>
     requires { IsSound game.now }
     ensures { Gives (edit_named game.now (Change.Enabled recipe.now on)) result }
 {
@@ -169,7 +170,7 @@ pub(crate) fn edit_named(
     alloc: Global,
     game: &Game,
     change: &Change,
-) -> Result<Option<Edit>, ChangeFault>
+) -> Result<Option<Edit>, Denied<Refusal>>
     requires { IsSound game.now }
     ensures { Gives (edit_named game.now change.now) result }
 {
@@ -211,8 +212,8 @@ fn push_edit(
             Ok(())
         }
         Ok(None) => Ok(()),
-        Err(ChangeFault::Refused(_)) => Ok(()),
-        Err(ChangeFault::NoMemory) => Err(NoMemory),
+        Err(Denied::Refused(_)) => Ok(()),
+        Err(Denied::NoMemory) => Err(NoMemory),
     }
 }
 

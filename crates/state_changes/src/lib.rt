@@ -14,6 +14,6 @@ pub use changes::{apply_changes, put, take_all_back};
 pub use edits::edits_named;
 pub use entries::{Back, Entry, back_of, can_be_held, entry_of};
 pub use names::{node_named, nodes_of};
-pub use refusals::{ChangeFault, Refusal, entry_fault, milestone_fault};
+pub use refusals::{Refusal, entry_fault, milestone_fault};
 pub use restoring::restore_parts;
 pub use undos::Undo;

@@ -1,13 +1,14 @@
 //! The things that changes name.
 ghost use Rattle.std.specs.Prelude.{◌≡◌, ◌+◌, ◌<◌, ◌≤◌, ◌^◌, Bool, IfOk};
+ghost use Rattle.plan_base.specs.Outcomes.{Gives};
 ghost use Rattle.plan_base.specs.Shape.{count_of, first_of, node_count};
 ghost use Rattle.game_types.specs.Nodes.{shape_of};
 ghost use Rattle.game_types.specs.Sound.{IsSound};
-ghost use Rattle.state_changes.specs.Actions.{Gives, good_named, is_fluid, node_named, place_named, recipe_named, tech_named};
+ghost use Rattle.state_changes.specs.Actions.{good_named, is_fluid, node_named, place_named, recipe_named, tech_named};
 
-use crate::refusals::{ChangeFault, Refusal};
+use crate::refusals::Refusal;
 use game_types::Game;
-use plan_base::{GoodId, Kind, NodeId, RecipeId, Shape, TechId};
+use plan_base::{Denied, GoodId, Kind, NodeId, RecipeId, Shape, TechId};
 use plan_lines::Object;
 use std::alloc::Global;
 
@@ -28,7 +29,7 @@ pub fn nodes_of(shape: &Shape, kind: Kind) -> (u32, u32)
 ///
 /// `Unknown` where nothing has the name. Or `NoMemory`.
 #[tactic(auto, unfolding(crate::specs::Actions::node_named))]
-pub fn node_named(alloc: Global, game: &Game, object: &Object) -> Result<NodeId, ChangeFault>
+pub fn node_named(alloc: Global, game: &Game, object: &Object) -> Result<NodeId, Denied<Refusal>>
     requires { IsSound game.now }
     ensures node { Gives (node_named game.now object.now) result }
     ensures within { IfOk result (λ node. node.0 < node_count (shape_of game.now)) }
@@ -36,15 +37,20 @@ pub fn node_named(alloc: Global, game: &Game, object: &Object) -> Result<NodeId,
     match game.find(object.kind, object.name.as_str()) {
         Some(node) => Ok(node),
         None => match object.copy(alloc) {
-            Ok(copy) => Err(ChangeFault::Refused(Refusal::Unknown(copy))),
-            Err(_) => Err(ChangeFault::NoMemory),
+            Ok(copy) => Err(Denied::Refused(Refusal::Unknown(copy))),
+            Err(_) => Err(Denied::NoMemory),
         },
     }
 }
 
 // The place of an object's name among those of a kind.
 #[tactic(auto, unfolding(crate::specs::Actions::place_named))]
-fn place_named(alloc: Global, game: &Game, kind: Kind, object: &Object) -> Result<u32, ChangeFault>
+fn place_named(
+    alloc: Global,
+    game: &Game,
+    kind: Kind,
+    object: &Object,
+) -> Result<u32, Denied<Refusal>>
     requires { IsSound game.now }
     ensures place { Gives (place_named game.now kind object.now) result }
     ensures within { IfOk result (λ place. place < count_of (shape_of game.now) kind) }
@@ -52,8 +58,8 @@ fn place_named(alloc: Global, game: &Game, kind: Kind, object: &Object) -> Resul
     match game.place_of(kind, object.name.as_str()) {
         Some(place) => Ok(place),
         None => match object.copy(alloc) {
-            Ok(copy) => Err(ChangeFault::Refused(Refusal::Unknown(copy))),
-            Err(_) => Err(ChangeFault::NoMemory),
+            Ok(copy) => Err(Denied::Refused(Refusal::Unknown(copy))),
+            Err(_) => Err(Denied::NoMemory),
         },
     }
 }
@@ -64,7 +70,7 @@ pub(crate) fn recipe_named(
     alloc: Global,
     game: &Game,
     object: &Object,
-) -> Result<RecipeId, ChangeFault>
+) -> Result<RecipeId, Denied<Refusal>>
     requires { IsSound game.now }
     ensures { Gives (recipe_named game.now object.now) result }
 {
@@ -74,7 +80,11 @@ pub(crate) fn recipe_named(
 
 /// The technology that an object names.
 #[tactic(auto, unfolding(crate::specs::Actions::tech_named))]
-pub(crate) fn tech_named(alloc: Global, game: &Game, object: &Object) -> Result<TechId, ChangeFault>
+pub(crate) fn tech_named(
+    alloc: Global,
+    game: &Game,
+    object: &Object,
+) -> Result<TechId, Denied<Refusal>>
     requires { IsSound game.now }
     ensures { Gives (tech_named game.now object.now) result }
 {
@@ -93,7 +103,11 @@ fn is_fluid(kind: Kind) -> bool
 
 /// The good that an object names.
 #[tactic(auto, unfolding(crate::specs::Actions::good_named))]
-pub(crate) fn good_named(alloc: Global, game: &Game, object: &Object) -> Result<GoodId, ChangeFault>
+pub(crate) fn good_named(
+    alloc: Global,
+    game: &Game,
+    object: &Object,
+) -> Result<GoodId, Denied<Refusal>>
     requires { IsSound game.now }
     ensures { Gives (good_named game.now object.now) result }
 {

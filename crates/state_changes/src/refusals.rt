@@ -5,8 +5,9 @@ ghost use Rattle.state_changes.specs.Faults.{edit_fault, entry_fault, milestone_
 use data_edit::EditFault;
 use edit_undo::EntryFault;
 use milestone_masks::MilestoneFault;
+use plan_base::Denied;
 use plan_lines::Object;
-use planner_tables::{ChangeFault as TablesFault, TableRefusal};
+use planner_tables::TableRefusal;
 
 /// Why a change is refused.
 #[derive(Drop)]
@@ -21,60 +22,46 @@ pub enum Refusal {
     OfTables(TableRefusal),
 }
 
-/// Why a change was not carried out.
-#[derive(Drop)]
-pub enum ChangeFault {
-    /// It is refused.
-    Refused(Refusal),
-    /// Memory could not be had.
-    NoMemory,
-}
-
 /// The fault of an entry whose change at this place was not carried out.
-pub fn entry_fault(place: u32, fault: ChangeFault) -> EntryFault<Refusal>
+pub fn entry_fault(place: u32, fault: Denied<Refusal>) -> EntryFault<Refusal>
     ensures { result ≡ entry_fault place fault }
 {
     match fault {
-        ChangeFault::Refused(refusal) => EntryFault::At(place, refusal),
-        ChangeFault::NoMemory => EntryFault::NoMemory,
+        Denied::Refused(refusal) => EntryFault::At(place, refusal),
+        Denied::NoMemory => EntryFault::NoMemory,
     }
 }
 
 /// The fault of a change of a book that could not be edited so.
-pub(crate) fn edit_fault(fault: EditFault) -> ChangeFault
+pub(crate) fn edit_fault(fault: Denied<EditFault>) -> Denied<Refusal>
     ensures { result ≡ edit_fault fault }
 {
     match fault {
-        EditFault::Unknown => ChangeFault::Refused(Refusal::OfEdit(EditFault::Unknown)),
-        EditFault::NotPositive => ChangeFault::Refused(Refusal::OfEdit(EditFault::NotPositive)),
-        EditFault::NoChange => ChangeFault::Refused(Refusal::OfEdit(EditFault::NoChange)),
-        EditFault::Limit => ChangeFault::Refused(Refusal::OfEdit(EditFault::Limit)),
-        EditFault::NoMemory => ChangeFault::NoMemory,
+        Denied::Refused(fault) => Denied::Refused(Refusal::OfEdit(fault)),
+        Denied::NoMemory => Denied::NoMemory,
     }
 }
 
 /// The fault of a change of the milestones that could not be made.
-pub fn milestone_fault(fault: MilestoneFault) -> ChangeFault
+pub fn milestone_fault(fault: MilestoneFault) -> Denied<Refusal>
     ensures { result ≡ milestone_fault fault }
 {
     match fault {
-        MilestoneFault::Full => ChangeFault::Refused(Refusal::OfMilestone(MilestoneFault::Full)),
+        MilestoneFault::Full => Denied::Refused(Refusal::OfMilestone(MilestoneFault::Full)),
         MilestoneFault::Already => {
-            ChangeFault::Refused(Refusal::OfMilestone(MilestoneFault::Already))
+            Denied::Refused(Refusal::OfMilestone(MilestoneFault::Already))
         }
-        MilestoneFault::NotOne => {
-            ChangeFault::Refused(Refusal::OfMilestone(MilestoneFault::NotOne))
-        }
-        MilestoneFault::NoMemory => ChangeFault::NoMemory,
+        MilestoneFault::NotOne => { Denied::Refused(Refusal::OfMilestone(MilestoneFault::NotOne)) }
+        MilestoneFault::NoMemory => Denied::NoMemory,
     }
 }
 
 /// The fault of a change of the tables that could not be made.
-pub(crate) fn tables_fault(fault: TablesFault) -> ChangeFault
+pub(crate) fn tables_fault(fault: Denied<TableRefusal>) -> Denied<Refusal>
     ensures { result ≡ tables_fault fault }
 {
     match fault {
-        TablesFault::Refused(refusal) => ChangeFault::Refused(Refusal::OfTables(refusal)),
-        TablesFault::NoMemory => ChangeFault::NoMemory,
+        Denied::Refused(refusal) => Denied::Refused(Refusal::OfTables(refusal)),
+        Denied::NoMemory => Denied::NoMemory,
     }
 }

@@ -1,5 +1,5 @@
 -- Set-ups that grow part by part stay sound.
-use Rattle.std.proofs.Common.{◌≡◌, ◌∙◌, ℕ, ◌+◌, ◌<◌, ◌≤◌, List, [], ◌∷◌, ◌++◌, length, get_or, Bool, true, false, Option, Some, Ok, Err, drop, refl, sym, ap, subst}
+use Rattle.std.proofs.Common.{◌≡◌, ◌∙◌, ℕ, ◌+◌, ◌<◌, ◌≤◌, List, [], ◌∷◌, ◌++◌, length, get_or, Bool, true, false, Option, Some, Result, Ok, Err, drop, refl, sym, ap, subst}
 use Rattle.std.specs.Prelude.{All, IsSome, IsSomeAnd, is_some}
 use Rattle.std.specs.Bool.{OnTrue}
 use Rattle.std.proofs.lemmas.List.Elements.{All-nil, All-cons, All-head, All-tail, All-push}
@@ -20,7 +20,6 @@ use Rattle.game_types.proofs.Walks.{next as next_of, drop_all}
 use Rattle.plan_lines.specs.declared.change.RowPart.{RowPart}
 use Rattle.table_words.specs.declared.refusals.TableRefusal.{TableRefusal}
 use Rattle.table_words.specs.Names.{group_of, in_last, is_beacon, with_part, with_parts}
-use Rattle.table_words.specs.Refusals.{Outcome}
 
 -- ---- modules and beacons
 module_there : (g : Game) (good : GoodId) → good.0 < length g.items → is_some (item_at g good).«module» ≡ true → IsModule g good
@@ -89,13 +88,13 @@ pub parts_next : (g : Game) (parts : List RowPart) (k : ℕ) (part : RowPart) (s
     → with_parts g (drop (k + 1) parts) next ≡ with_parts g (drop k parts) setup
 unfolding with_parts
 parts_next g parts k part setup next h e w =
-    sym (ap (λ (ps : List RowPart). with_parts g ps setup) (next_of parts k part h e) ∙ ap (λ (r : Outcome Setup). r ▸ λ s. with_parts g (drop (k + 1) parts) s) w)
+    sym (ap (λ (ps : List RowPart). with_parts g ps setup) (next_of parts k part h e) ∙ ap (λ (r : Result Setup TableRefusal). r ▸ λ s. with_parts g (drop (k + 1) parts) s) w)
 
 pub parts_stop : (g : Game) (parts : List RowPart) (k : ℕ) (part : RowPart) (setup : Setup) (refusal : TableRefusal) → k < length parts → part ≡ get_or parts k part → with_part g part setup ≡ Err refusal
     → with_parts g (drop k parts) setup ≡ Err refusal
 unfolding with_parts
 parts_stop g parts k part setup refusal h e w =
-    ap (λ (ps : List RowPart). with_parts g ps setup) (next_of parts k part h e) ∙ ap (λ (r : Outcome Setup). r ▸ λ s. with_parts g (drop (k + 1) parts) s) w
+    ap (λ (ps : List RowPart). with_parts g ps setup) (next_of parts k part h e) ∙ ap (λ (r : Result Setup TableRefusal). r ▸ λ s. with_parts g (drop (k + 1) parts) s) w
 
 pub parts_end : (g : Game) (parts : List RowPart) (k : ℕ) (setup : Setup) → length parts ≤ k → with_parts g (drop k parts) setup ≡ Ok setup
 unfolding with_parts

@@ -1,6 +1,6 @@
 -- What the words of tables name: goods, and the set-up of a row. They are looked up in the order in which they stand in the
 -- line, and the first that names nothing, or nothing of the needed kind, is told.
-use Rattle.std.specs.Prelude.{ℕ, ◌+◌, ◌==◌, Bool, true, false, List, [], ◌∷◌, ◌++◌, length, Option, Some, None, is_some, Ok, Err, if◌then◌else◌}
+use Rattle.std.specs.Prelude.{ℕ, ◌+◌, ◌==◌, Bool, true, false, List, [], ◌∷◌, ◌++◌, length, Option, Some, None, is_some, Result, Ok, Err, if◌then◌else◌}
 use Rattle.plan_base.specs.declared.ids.EntityId.{EntityId}
 use Rattle.plan_base.specs.declared.ids.GoodId.{GoodId}
 use Rattle.plan_base.specs.declared.shape.Kind.{Kind}
@@ -20,35 +20,35 @@ use Rattle.game_types.specs.Steps.{◌▸◌}
 use Rattle.plan_lines.specs.declared.change.Object.{Object}
 use Rattle.plan_lines.specs.declared.change.RowPart.{RowPart}
 use Rattle.plan_lines.specs.declared.change.RowPart.TheVariants as part
+use Rattle.table_words.specs.declared.refusals.TableRefusal.{TableRefusal}
 use Rattle.table_words.specs.declared.refusals.TableRefusal.TheVariants.{Unknown}
-use Rattle.table_words.specs.Refusals.{Outcome}
 
 -- ---- one word
 -- what a word names, or that it names nothing
-abbrev pub known : {A : Type 0} → Object → Option A → Outcome A
+abbrev pub known : {A : Type 0} → Object → Option A → Result A TableRefusal
 known object None = Err (Unknown object)
 known object (Some thing) = Ok thing
 
 -- what a word names passes a test, or is not of the needed kind
-abbrev pub such : {A : Type 0} → Object → Bool → A → Outcome A
+abbrev pub such : {A : Type 0} → Object → Bool → A → Result A TableRefusal
 such object passes thing = if passes then Ok thing else Err (Unknown object)
 
 -- the place of a word's name among the names of a kind
-unfoldable pub place_named : Game → Kind → Object → Outcome ℕ
+unfoldable pub place_named : Game → Kind → Object → Result ℕ TableRefusal
 place_named g kind object = known object (place_of (names_of g kind) object.name)
 
-unfoldable pub item_named : Game → Object → Outcome GoodId
+unfoldable pub item_named : Game → Object → Result GoodId TableRefusal
 item_named g object = place_named g Item object ▸ λ place. Ok (record { 0 = place })
 
 -- fluids come behind the items
-unfoldable pub fluid_named : Game → Object → Outcome GoodId
+unfoldable pub fluid_named : Game → Object → Result GoodId TableRefusal
 fluid_named g object = place_named g Fluid object ▸ λ place. Ok (record { 0 = length g.items + place })
 
-unfoldable pub machine_named : Game → Object → Outcome EntityId
+unfoldable pub machine_named : Game → Object → Result EntityId TableRefusal
 machine_named g object = place_named g Machine object ▸ λ place. Ok (record { 0 = place })
 
 -- a module is an item with a module
-unfoldable pub module_named : Game → Object → Outcome GoodId
+unfoldable pub module_named : Game → Object → Result GoodId TableRefusal
 module_named g object = item_named g object ▸ λ good. such object (is_some (item_at g good).«module») good
 
 abbrev pub is_beacon : MachineKind → Bool
@@ -56,7 +56,7 @@ is_beacon (Beacon effectivity) = true
 is_beacon kind = false
 
 -- a beacon is a machine of that kind
-unfoldable pub beacon_named : Game → Object → Outcome EntityId
+unfoldable pub beacon_named : Game → Object → Result EntityId TableRefusal
 beacon_named g object = machine_named g object ▸ λ machine. such object (is_beacon (machine_at g machine).kind) machine
 
 -- ---- goods of tables: items, fluids, technologies, of which one unit is a good, and electricity, which is the special thing
@@ -70,7 +70,7 @@ good_at g Recipe place = None
 good_at g Source place = None
 good_at g Machine place = None
 
-unfoldable pub good_named : Game → Object → Outcome GoodId
+unfoldable pub good_named : Game → Object → Result GoodId TableRefusal
 good_named g object = place_named g object.kind object ▸ λ place. known object (good_at g object.kind place)
 
 -- ---- what a row does
@@ -100,7 +100,7 @@ is_activity Item place = false
 is_activity Machine place = false
 
 -- the place of what a row does among the things of its kind
-unfoldable pub activity_named : Game → Object → Outcome ℕ
+unfoldable pub activity_named : Game → Object → Result ℕ TableRefusal
 activity_named g object = place_named g object.kind object ▸ λ place. such object (is_activity object.kind place) place
 
 -- ---- the parts of a row
@@ -114,7 +114,7 @@ abbrev pub group_of : EntityId → ℕ → ℕ → BeaconGroup
 group_of beacon count share = record { beacon = beacon; count = count; share = share; modules = [] }
 
 -- a set-up with one part more
-unfoldable pub with_part : Game → RowPart → Setup → Outcome Setup
+unfoldable pub with_part : Game → RowPart → Setup → Result Setup TableRefusal
 with_part g (part.Fuel object) setup = item_named g object ▸ λ good. Ok (record setup { fuel = Some good })
 with_part g (part.Module object count) setup = module_named g object ▸ λ good. Ok (record setup { modules = setup.modules ++ (good, count) ∷ [] })
 with_part g (part.Beacon object count share) setup = beacon_named g object ▸ λ beacon. Ok (record setup { beacons = setup.beacons ++ group_of beacon count share ∷ [] })
@@ -122,7 +122,7 @@ with_part g (part.In object count) setup = module_named g object ▸ λ good. Ok
 with_part g (part.At object) setup = fluid_named g object ▸ λ good. Ok (record setup { at = setup.at ++ good ∷ [] })
 
 -- one part after another
-unfoldable pub with_parts : Game → List RowPart → Setup → Outcome Setup
+unfoldable pub with_parts : Game → List RowPart → Setup → Result Setup TableRefusal
 with_parts g [] setup = Ok setup
 with_parts g (part ∷ parts) setup = with_part g part setup ▸ λ next. with_parts g parts next
 
@@ -137,7 +137,7 @@ bare_setup g kind place machine = record {
   at = [];
 }
 
-unfoldable pub setup_named : Game → Object → Object → List RowPart → Outcome Setup
+unfoldable pub setup_named : Game → Object → Object → List RowPart → Result Setup TableRefusal
 setup_named g does machine parts =
     activity_named g does ▸ λ place.
     machine_named g machine ▸ λ entity.

@@ -1,5 +1,5 @@
 -- Why a change of tables, or a question about them, is refused, and what is told of it.
-use Rattle.std.specs.Prelude.{◌≡◌, ℕ, length, nat_lt, Option, Some, None, Result, Ok, Err, if◌then◌else◌}
+use Rattle.std.specs.Prelude.{ℕ, length, nat_lt, Option, Some, None, if◌then◌else◌}
 use Rattle.plan_base.specs.declared.ids.EntityId.{EntityId}
 use Rattle.plan_base.specs.declared.ids.GoodId.{GoodId}
 use Rattle.plan_base.specs.declared.ids.NodeId.{NodeId}
@@ -27,17 +27,6 @@ use Rattle.plan_lines.specs.declared.reply.Reply.{Reply}
 use Rattle.plan_lines.specs.declared.reply.Reply.TheVariants as reply
 use Rattle.table_words.specs.declared.refusals.TableRefusal.{TableRefusal}
 use Rattle.table_words.specs.declared.refusals.TableRefusal.TheVariants.{Unknown, NoName, NoPrice, Negative, Full, NameUsed, Setup, Wide}
-use Rattle.table_words.specs.declared.refusals.ChangeFault.{ChangeFault}
-use Rattle.table_words.specs.declared.refusals.ChangeFault.TheVariants.{Refused}
-
--- a value, or why there is none
-abbrev pub Outcome : Type 0 → Type 0
-Outcome A = Result A TableRefusal
-
--- what a call answers that takes memory: what is meant, unless memory could not be had
-abbrev pub Gives : {A : Type 0} → Outcome A → Result A ChangeFault → Type 0
-Gives meant (Ok value) = meant ≡ Ok value
-Gives meant (Err fault) = (refusal : TableRefusal) → fault ≡ Refused refusal → meant ≡ Err refusal
 
 -- ---- codes
 abbrev pub machine_code : MachineFault → RefusalCode

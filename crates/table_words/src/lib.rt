@@ -5,4 +5,4 @@ mod names;
 mod refusals;
 
 pub use names::{good_named, setup_named};
-pub use refusals::{ChangeFault, TableRefusal, code_of, detail_of, refused};
+pub use refusals::{TableRefusal, code_of, detail_of, refused};

@@ -1,5 +1,6 @@
 //! What the words of tables name.
 ghost use Rattle.std.specs.Prelude.{◌≡◌, ◌<◌, ◌∷◌, ◌++◌, [], IfOk, IfSome, length, is_some};
+ghost use Rattle.plan_base.specs.Outcomes.{Gives};
 ghost use Rattle.plan_base.specs.Shape.{count_of};
 ghost use Rattle.game_types.specs.Goods.{good_count};
 ghost use Rattle.std.specs.Bool.{OnTrue};
@@ -8,27 +9,31 @@ ghost use Rattle.game_types.specs.Nodes.{shape_of};
 ghost use Rattle.game_types.specs.Sound.{IsBeacon, IsFluid, IsModule, IsSound, IsSoundActivity, IsSoundSetup};
 ghost use Rattle.table_words.specs.declared.refusals.TableRefusal.{TableRefusal};
 ghost use Rattle.table_words.specs.Names.{activity_at, activity_named, bare_setup, beacon_named, fluid_activity, fluid_named, good_at, good_named, in_last, is_activity, is_beacon, is_boiler, item_named, machine_named, module_named, place_named, setup_named, with_part, with_parts};
-ghost use Rattle.table_words.specs.Refusals.{Gives};
 
-use crate::{ChangeFault, TableRefusal};
+use crate::TableRefusal;
 use game_types::{Activity, BeaconGroup, Game, MachineKind, Setup};
-use plan_base::{EntityId, GoodId, Items, Kind, NoMemory, RecipeId, SourceId, TechId};
+use plan_base::{Denied, EntityId, GoodId, Items, Kind, NoMemory, RecipeId, SourceId, TechId};
 use plan_lines::{Object, RowPart};
 use std::alloc::Global;
 
 // A word that names nothing, or nothing of the needed kind.
-fn unknown(alloc: Global, object: &Object) -> ChangeFault
-    ensures { (refusal : TableRefusal) → result ≡ ChangeFault.Refused refusal → TableRefusal.Unknown object.now ≡ refusal }
+fn unknown(alloc: Global, object: &Object) -> Denied<TableRefusal>
+    ensures { (refusal : TableRefusal) → result ≡ Denied.Refused refusal → TableRefusal.Unknown object.now ≡ refusal }
 {
     match object.copy(alloc) {
-        Ok(copy) => ChangeFault::Refused(TableRefusal::Unknown(copy)),
-        Err(_) => ChangeFault::NoMemory,
+        Ok(copy) => Denied::Refused(TableRefusal::Unknown(copy)),
+        Err(_) => Denied::NoMemory,
     }
 }
 
 #[tactic(auto, unfolding(crate::specs::Names::place_named))]
 // The place of a word's name among the names of a kind.
-fn place_named(alloc: Global, game: &Game, kind: Kind, object: &Object) -> Result<u32, ChangeFault>
+fn place_named(
+    alloc: Global,
+    game: &Game,
+    kind: Kind,
+    object: &Object,
+) -> Result<u32, Denied<TableRefusal>>
     requires { IsSound game.now }
     ensures place { Gives (place_named game.now kind object.now) result }
     ensures within { IfOk result (λ place. place < count_of (shape_of game.now) kind) }
@@ -40,7 +45,7 @@ fn place_named(alloc: Global, game: &Game, kind: Kind, object: &Object) -> Resul
 }
 
 #[tactic(auto, unfolding(crate::specs::Names::item_named))]
-fn item_named(alloc: Global, game: &Game, object: &Object) -> Result<GoodId, ChangeFault>
+fn item_named(alloc: Global, game: &Game, object: &Object) -> Result<GoodId, Denied<TableRefusal>>
     requires { IsSound game.now }
     ensures good { Gives (item_named game.now object.now) result }
     ensures within { IfOk result (λ good. good.0 < length game.now.items) }
@@ -50,7 +55,7 @@ fn item_named(alloc: Global, game: &Game, object: &Object) -> Result<GoodId, Cha
 }
 
 #[tactic(auto, unfolding(crate::specs::Names::fluid_named))]
-fn fluid_named(alloc: Global, game: &Game, object: &Object) -> Result<GoodId, ChangeFault>
+fn fluid_named(alloc: Global, game: &Game, object: &Object) -> Result<GoodId, Denied<TableRefusal>>
     requires { IsSound game.now }
     ensures good { Gives (fluid_named game.now object.now) result }
     ensures within { IfOk result (λ good. IsFluid game.now good.0) }
@@ -60,7 +65,11 @@ fn fluid_named(alloc: Global, game: &Game, object: &Object) -> Result<GoodId, Ch
 }
 
 #[tactic(auto, unfolding(crate::specs::Names::machine_named))]
-fn machine_named(alloc: Global, game: &Game, object: &Object) -> Result<EntityId, ChangeFault>
+fn machine_named(
+    alloc: Global,
+    game: &Game,
+    object: &Object,
+) -> Result<EntityId, Denied<TableRefusal>>
     requires { IsSound game.now }
     ensures machine { Gives (machine_named game.now object.now) result }
     ensures within { IfOk result (λ machine. machine.0 < length game.now.machines) }
@@ -79,7 +88,7 @@ fn is_module(game: &Game, good: GoodId) -> bool
 }
 
 #[tactic(auto, unfolding(crate::specs::Names::module_named))]
-fn module_named(alloc: Global, game: &Game, object: &Object) -> Result<GoodId, ChangeFault>
+fn module_named(alloc: Global, game: &Game, object: &Object) -> Result<GoodId, Denied<TableRefusal>>
     requires { IsSound game.now }
     ensures good { Gives (module_named game.now object.now) result }
     ensures sound { IfOk result (IsModule game.now) }
@@ -102,7 +111,11 @@ fn is_beacon(kind: &MachineKind) -> bool
 }
 
 #[tactic(auto, using(crate::proofs::NameLemmas::beacon_sound), unfolding(crate::specs::Names::beacon_named))]
-fn beacon_named(alloc: Global, game: &Game, object: &Object) -> Result<EntityId, ChangeFault>
+fn beacon_named(
+    alloc: Global,
+    game: &Game,
+    object: &Object,
+) -> Result<EntityId, Denied<TableRefusal>>
     requires { IsSound game.now }
     ensures beacon { Gives (beacon_named game.now object.now) result }
     ensures sound { IfOk result (IsBeacon game.now) }
@@ -145,7 +158,11 @@ fn good_at(game: &Game, kind: Kind, place: u32) -> Option<GoodId>
 ///
 /// `Unknown` where it names nothing, or `NoMemory`.
 #[tactic(auto, unfolding(crate::specs::Names::good_named))]
-pub fn good_named(alloc: Global, game: &Game, object: &Object) -> Result<GoodId, ChangeFault>
+pub fn good_named(
+    alloc: Global,
+    game: &Game,
+    object: &Object,
+) -> Result<GoodId, Denied<TableRefusal>>
     requires { IsSound game.now }
     ensures good { Gives (good_named game.now object.now) result }
     ensures within { IfOk result (λ good. good.0 < good_count game.now) }
@@ -172,7 +189,7 @@ fn is_activity(kind: Kind, place: u32) -> bool
 }
 
 #[tactic(auto, unfolding(crate::specs::Names::activity_named))]
-fn activity_named(alloc: Global, game: &Game, object: &Object) -> Result<u32, ChangeFault>
+fn activity_named(alloc: Global, game: &Game, object: &Object) -> Result<u32, Denied<TableRefusal>>
     requires { IsSound game.now }
     ensures place { Gives (activity_named game.now object.now) result }
     ensures within { IfOk result (λ place. place < count_of (shape_of game.now) object.now.kind) }
@@ -259,7 +276,7 @@ fn with_fuel(
     game: &Game,
     object: &Object,
     setup: Setup,
-) -> Result<Setup, ChangeFault>
+) -> Result<Setup, Denied<TableRefusal>>
     requires game { IsSound game.now }
     requires sound { IsSoundSetup game.now setup }
     ensures setup { Gives (with_part game.now (RowPart.Fuel object.now) setup) result }
@@ -283,7 +300,7 @@ fn with_module(
     object: &Object,
     count: u32,
     setup: Setup,
-) -> Result<Setup, ChangeFault>
+) -> Result<Setup, Denied<TableRefusal>>
     requires game { IsSound game.now }
     requires sound { IsSoundSetup game.now setup }
     ensures setup { Gives (with_part game.now (RowPart.Module object.now count) setup) result }
@@ -309,7 +326,7 @@ fn with_beacon(
     count: u32,
     share: u32,
     setup: Setup,
-) -> Result<Setup, ChangeFault>
+) -> Result<Setup, Denied<TableRefusal>>
     requires game { IsSound game.now }
     requires sound { IsSoundSetup game.now setup }
     ensures setup { Gives (with_part game.now (RowPart.Beacon object.now count share) setup) result }
@@ -340,7 +357,7 @@ fn with_module_in(
     object: &Object,
     count: u32,
     setup: Setup,
-) -> Result<Setup, ChangeFault>
+) -> Result<Setup, Denied<TableRefusal>>
     requires game { IsSound game.now }
     requires sound { IsSoundSetup game.now setup }
     ensures setup { Gives (with_part game.now (RowPart.In object.now count) setup) result }
@@ -364,7 +381,7 @@ fn with_fluid(
     game: &Game,
     object: &Object,
     setup: Setup,
-) -> Result<Setup, ChangeFault>
+) -> Result<Setup, Denied<TableRefusal>>
     requires game { IsSound game.now }
     requires sound { IsSoundSetup game.now setup }
     ensures setup { Gives (with_part game.now (RowPart.At object.now) setup) result }
@@ -383,7 +400,12 @@ fn with_fluid(
 }
 
 // A set-up with one part more.
-fn with_part(alloc: Global, game: &Game, part: &RowPart, setup: Setup) -> Result<Setup, ChangeFault>
+fn with_part(
+    alloc: Global,
+    game: &Game,
+    part: &RowPart,
+    setup: Setup,
+) -> Result<Setup, Denied<TableRefusal>>
     requires game { IsSound game.now }
     requires sound { IsSoundSetup game.now setup }
     ensures setup { Gives (with_part game.now part.now setup) result }
@@ -409,7 +431,7 @@ fn with_parts(
     game: &Game,
     parts: &[RowPart],
     bare: Setup,
-) -> Result<Setup, ChangeFault>
+) -> Result<Setup, Denied<TableRefusal>>
     requires game { IsSound game.now }
     requires sound { IsSoundSetup game.now bare }
     ensures setup { Gives (with_parts game.now parts.now bare) result }
@@ -456,7 +478,7 @@ pub fn setup_named(
     activity: &Object,
     machine: &Object,
     parts: &[RowPart],
-) -> Result<Setup, ChangeFault>
+) -> Result<Setup, Denied<TableRefusal>>
     requires { IsSound game.now }
     ensures setup { Gives (setup_named game.now activity.now machine.now parts.now) result }
     ensures sound { IfOk result (IsSoundSetup game.now) }

@@ -4,7 +4,7 @@ ghost use Rattle.game_types.specs.Sound.{IsSound};
 ghost use Rattle.table_words.specs.Refusals.{beacon_code, beacon_detail, code_of, detail_of, fuel_code, good_node, machine_code, machine_detail, machine_node, module_code, module_detail, power_code, refused, setup_code, setup_detail};
 
 use game_types::{BeaconFault, FuelFault, Game, MachineFault, ModuleFault};
-use plan_base::{EntityId, GoodId, Kind, NoMemory, NodeId, Text};
+use plan_base::{EntityId, GoodId, Kind, NodeId, Text};
 use plan_lines::{Detail, Object, RefusalCode, Reply};
 use power_rows::PowerFault;
 use table_rows::SetupFault;
@@ -28,24 +28,6 @@ pub enum TableRefusal {
     Setup(SetupFault),
     /// K4: a step of this row is past the limits of fractions.
     Wide { label: Text, step: u8 },
-}
-
-/// Why a change of tables was not made.
-#[derive(Drop)]
-pub enum ChangeFault {
-    Refused(TableRefusal),
-    /// Memory could not be had.
-    NoMemory,
-}
-
-impl From<NoMemory> for ChangeFault {
-    ghost use Rattle.table_words.specs.declared.refusals.ChangeFault.TheVariants.{NoMemory as OutOfMemory};
-
-    ghost from_gives = { λ _ fault. fault ≡ OutOfMemory };
-
-    fn from(_: NoMemory) -> Self {
-        ChangeFault::NoMemory
-    }
 }
 
 fn machine_code(fault: MachineFault) -> RefusalCode

@@ -1,5 +1,7 @@
 -- What the solver's answers say of whether there is a plan.
-use Rattle.std.proofs.Common.{◌≡◌, ◌↔◌, List, Ok, Err, ap, subst, sym, ◌∙◌}
+use Rattle.std.proofs.Common.{◌≡◌, ◌↔◌, List, Result, Ok, Err, ap, refl, subst, sym, ◌∙◌}
+use Rattle.plan_base.specs.declared.denied.Denied.TheVariants.{Refused}
+use Rattle.plan_base.specs.Outcomes.{IsRefused}
 use Rattle.fractions.specs.Fraction.{Fraction}
 use Rattle.linear_table.specs.Answer.{HasNoPlan, IsAnswer, IsInfeasibleAnswer, IsOutOfBudgetAnswer, IsTooWideAnswer, SomeGetsWide, SomeRunsOut}
 use Rattle.linear_table.specs.declared.Exchange.{Exchange}
@@ -8,7 +10,6 @@ use Rattle.linear_table.specs.declared.Place.{Place}
 use Rattle.linear_table.specs.declared.Plan.{Plan}
 use Rattle.linear_table.specs.declared.SolveAnswer.TheVariants.{Planned, Infeasible, TooWide, OutOfBudget}
 use Rattle.game_types.specs.declared.games.Game.{Game}
-use Rattle.production_table.specs.Answers.{Outcome}
 use Rattle.production_table.specs.Linear.{linear_of}
 use Rattle.production_table.specs.declared.faults.TableFault.{TableFault}
 use Rattle.production_table.specs.declared.tables.Table.{Table}
@@ -30,19 +31,19 @@ out_of_budget l trail o = λ h. h.in_budget (o.0 tt)
 pub solvable : (g : Game) (t : Table) (l : Linear) → linear_of g t ≡ Ok l → HasPlan l → IsSolvable g t
 solvable g t l e h = (l, e, h)
 
-form_in : Linear → Outcome Linear → Linear
+form_in : Linear → Result Linear TableFault → Linear
 form_in l (Ok other) = other
 form_in l (Err fault) = l
 
-same_form : (l other : Linear) → ◌≡◌ {A = Outcome Linear} (Ok other) (Ok l) → other ≡ l
+same_form : (l other : Linear) → ◌≡◌ {A = Result Linear TableFault} (Ok other) (Ok l) → other ≡ l
 unfolding form_in
 same_form l other e = ap (form_in l) e
 
 pub unsolvable : (g : Game) (t : Table) (l : Linear) → linear_of g t ≡ Ok l → ¬ HasPlan l → ¬ IsSolvable g t
 unsolvable g t l e n = λ s. n (subst HasPlan (same_form l s.0 (sym s.1 ∙ e)) s.2)
 
-no_form_is_one : (l : Linear) (fault : TableFault) → ◌≡◌ {A = Outcome Linear} (Ok l) (Err fault) → ⊥
+no_form_is_one : (l : Linear) (fault : TableFault) → ◌≡◌ {A = Result Linear TableFault} (Ok l) (Err fault) → ⊥
 no_form_is_one l fault e = cc
 
-pub formless : (g : Game) (t : Table) (fault : TableFault) → linear_of g t ≡ Err fault → ¬ IsSolvable g t
-formless g t fault e = λ s. no_form_is_one s.0 fault (sym s.1 ∙ e)
+pub formless : (g : Game) (t : Table) (fault : TableFault) → IsRefused (linear_of g t) (Refused fault) → ¬ IsSolvable g t
+formless g t fault h = λ s. no_form_is_one s.0 fault (sym s.1 ∙ h fault refl)

@@ -11,8 +11,8 @@ ghost use Rattle.table_rows.specs.Setups.{IsFitting};
 use game_types::Game;
 use linear_table::{Linear, SolveAnswer};
 use pivot_solver::solve;
-use plan_base::NoMemory;
-use production_table::{Table, TableFault, TableRow};
+use plan_base::{Denied, NoMemory};
+use production_table::{Table, TableRow};
 use std::alloc::Global;
 use wish_setups::is_fitting;
 
@@ -64,8 +64,8 @@ pub fn solve_table(alloc: Global, game: &Game, table: &Table) -> Result<Option<S
     }
     let linear = match table.to_linear(alloc, game) {
         Ok(linear) => linear,
-        Err(TableFault::NoMemory) => return Err(NoMemory),
-        Err(_) => return Ok(None),
+        Err(Denied::Refused(_)) => return Ok(None),
+        Err(Denied::NoMemory) => return Err(NoMemory),
     };
     let answer = solve(alloc, &linear, BUDGET)?;
     Ok(Some(Solved { linear, answer }))
@@ -101,7 +101,7 @@ pub fn is_solvable(alloc: Global, game: &Game, table: &Table) -> Result<bool, No
 {
     match table.to_linear(alloc, game) {
         Ok(linear) => has_plan(alloc, &linear),
-        Err(TableFault::NoMemory) => Err(NoMemory),
-        Err(_) => Ok(false),
+        Err(Denied::Refused(_)) => Ok(false),
+        Err(Denied::NoMemory) => Err(NoMemory),
     }
 }

@@ -107,7 +107,10 @@ fn add_row(
     if price.is_zero() {
         return Ok(());
     }
-    told(table.set_price(alloc, label.as_str(), &price))
+    match table.set_price(alloc, label.as_str(), &price) {
+        Ok(_) => Ok(()),
+        Err(_) => Err(WishFault::Full),
+    }
 }
 
 // A row comes in with what it takes and gives.

@@ -3,14 +3,14 @@ ghost use Rattle.std.specs.Prelude.{IfOk};
 ghost use Rattle.game_types.specs.Sound.{IsSound};
 ghost use Rattle.production_table.specs.Tables.{IsSoundTable};
 ghost use Rattle.wish_checks.specs.Answers.{IsMet};
-ghost use Rattle.wish_tables.specs.Outcomes.{HasSoundTable, TriedSoundTable};
+ghost use Rattle.wish_tables.specs.Ends.{HasSoundTable, TriedSoundTable};
 
 use crate::orders::ordered;
-use crate::trying::{Outcome, Trial, try_order};
+use crate::trying::{TableEnd, Trial, try_order};
 use crate::walks::walk_of;
 use game_types::Game;
-use plan_base::{GoodId, NoMemory};
-use production_table::{LIMIT, Table, TableFault};
+use plan_base::{Denied, GoodId, NoMemory};
+use production_table::{LIMIT, Table};
 use std::alloc::Global;
 use wish_checks::is_met;
 use wish_estimates::{Estimates, Ground, Walk, why_unmade};
@@ -25,7 +25,7 @@ enum Tried {
 }
 
 // The orders of a walk's rows are tried until one is settled.
-fn try_orders(alloc: Global, trial: &Trial<'_>, walk: &Walk) -> Result<Outcome, WishFault>
+fn try_orders(alloc: Global, trial: &Trial<'_>, walk: &Walk) -> Result<TableEnd, WishFault>
     requires game { IsSound trial.now.ground.game.now }
     requires start { IsSoundTable trial.now.start.now }
     ensures { IfOk result HasSoundTable }
@@ -33,22 +33,22 @@ fn try_orders(alloc: Global, trial: &Trial<'_>, walk: &Walk) -> Result<Outcome, 
     for order in 0..ORDERS {
         let places = ordered(alloc, walk, order)?;
         match try_order(alloc, trial, walk, places.as_slice())? {
-            Outcome::Unsolved => {}
+            TableEnd::Unsolved => {}
             outcome => return Ok(outcome),
         }
     }
-    Ok(Outcome::Unsolved)
+    Ok(TableEnd::Unsolved)
 }
 
 // How a walk's tables end: met, or without a plan, or unsolved.
-fn tried_by(outcome: Outcome) -> Tried
+fn tried_by(outcome: TableEnd) -> Tried
     requires { HasSoundTable outcome }
     ensures { TriedSoundTable result }
 {
     match outcome {
-        Outcome::Met(met) => Tried::Met(met),
-        Outcome::NoPlan(goods) => Tried::Failed(WishFault::NoPlan(goods)),
-        Outcome::Unsolved => Tried::Failed(WishFault::Unsolved),
+        TableEnd::Met(met) => Tried::Met(met),
+        TableEnd::NoPlan(goods) => Tried::Failed(WishFault::NoPlan(goods)),
+        TableEnd::Unsolved => Tried::Failed(WishFault::Unsolved),
     }
 }
 
@@ -243,8 +243,8 @@ fn end_import(alloc: Global, table: &mut Table, good: GoodId) -> Result<(), Wish
     }
     match table.set_import(alloc, good, None) {
         Ok(_) => Ok(()),
-        Err(TableFault::NoMemory) => Err(WishFault::NoMemory),
-        Err(_) => Err(WishFault::Full),
+        Err(Denied::Refused(_)) => Err(WishFault::Full),
+        Err(Denied::NoMemory) => Err(WishFault::NoMemory),
     }
 }
 

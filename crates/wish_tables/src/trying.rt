@@ -1,6 +1,6 @@
 //! A table that is tried for a wish: it is made, solved, and mended where it has no plan.
 ghost use Rattle.std.specs.Prelude.{IfOk, IfSome};
-ghost use Rattle.wish_tables.specs.Outcomes.{HasSoundTable};
+ghost use Rattle.wish_tables.specs.Ends.{HasSoundTable};
 ghost use Rattle.game_types.specs.Sound.{IsSound};
 ghost use Rattle.production_table.specs.Tables.{IsSoundTable};
 
@@ -29,7 +29,7 @@ pub struct Trial<'a> {
 
 /// How a table that was tried ended.
 #[derive(Drop)]
-pub enum Outcome {
+pub enum TableEnd {
     Met(Met),
     /// There is no plan; imports of these goods may help.
     NoPlan(Items<(GoodId, Ratio)>),
@@ -210,18 +210,18 @@ fn step(
     walk: &Walk,
     order: &[usize],
     extra: &mut Extra,
-) -> Result<Option<Outcome>, WishFault>
+) -> Result<Option<TableEnd>, WishFault>
     requires game { IsSound trial.now.ground.game.now }
     requires start { IsSoundTable trial.now.start.now }
     ensures { IfOk result (λ found. IfSome found HasSoundTable) }
 {
     let table = tried_table(alloc, trial, walk, order, extra)?;
     let Some(Solved { linear, answer }) = solve_table(alloc, trial.ground.game, &table)? else {
-        return Ok(Some(Outcome::Unsolved));
+        return Ok(Some(TableEnd::Unsolved));
     };
     match answer {
         SolveAnswer::Planned(plan) => match met_by(alloc, trial, walk, table, &plan, extra)? {
-            Some(met) => Ok(Some(Outcome::Met(met))),
+            Some(met) => Ok(Some(TableEnd::Met(met))),
             None => Ok(None),
         },
         SolveAnswer::Infeasible(prices) => {
@@ -229,9 +229,9 @@ fn step(
                 return Ok(None);
             }
             let offers = offered(alloc, trial, &linear, prices.as_slice())?;
-            Ok(Some(Outcome::NoPlan(offers)))
+            Ok(Some(TableEnd::NoPlan(offers)))
         }
-        _ => Ok(Some(Outcome::Unsolved)),
+        _ => Ok(Some(TableEnd::Unsolved)),
     }
 }
 
@@ -245,7 +245,7 @@ pub fn try_order(
     trial: &Trial<'_>,
     walk: &Walk,
     order: &[usize],
-) -> Result<Outcome, WishFault>
+) -> Result<TableEnd, WishFault>
     requires game { IsSound trial.now.ground.game.now }
     requires start { IsSoundTable trial.now.start.now }
     ensures { IfOk result HasSoundTable }
@@ -256,5 +256,5 @@ pub fn try_order(
             return Ok(outcome);
         }
     }
-    Ok(Outcome::Unsolved)
+    Ok(TableEnd::Unsolved)
 }

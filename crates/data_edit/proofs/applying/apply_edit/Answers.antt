@@ -1,7 +1,7 @@
 use Rattle.std.proofs.Common.{◌≡◌, Ok, sym, subst}
+use Rattle.plan_base.specs.Outcomes.{Gives}
 use Rattle.data_edit.specs.Books.{IsSoundBook}
 use Rattle.data_edit.specs.Edits.{replacement}
-use Rattle.data_edit.specs.Faults.{Gives}
 use Rattle.data_edit.proofs.Soundness.{edit_sound}
 use Rattle.data_edit.proofs.applying.apply_edit.Goals as goal
 

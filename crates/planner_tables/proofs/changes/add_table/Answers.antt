@@ -4,7 +4,8 @@ use Rattle.production_table.specs.declared.tables.Table.{Table}
 use Rattle.production_table.specs.Changes.{empty_table}
 use Rattle.table_words.specs.declared.refusals.TableRefusal.TheVariants.{Full, NameUsed}
 use Rattle.planner_tables.specs.Effects.{is_name}
-use Rattle.planner_tables.proofs.ChangeLemmas.{refused_same, table_made, table_used, tables_full}
+use Rattle.plan_base.proofs.Outcomes.{refused_same}
+use Rattle.planner_tables.proofs.ChangeLemmas.{table_made, table_used, tables_full}
 use Rattle.planner_tables.proofs.changes.add_table.Goals as goal
 
 pub returns-then-has_table-clause-fault : goal.returns-then-has_table-clause-fault

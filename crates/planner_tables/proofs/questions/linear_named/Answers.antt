@@ -1,8 +1,9 @@
 use Rattle.std.proofs.Common.{◌∙◌, Result, subst, sym}
 use Rattle.linear_table.specs.declared.Linear.{Linear}
 use Rattle.game_types.proofs.Walks.{returned}
-use Rattle.table_words.specs.declared.refusals.ChangeFault.{ChangeFault}
-use Rattle.table_words.specs.Refusals.{Gives}
+use Rattle.plan_base.specs.declared.denied.Denied.{Denied}
+use Rattle.plan_base.specs.Outcomes.{Gives}
+use Rattle.table_words.specs.declared.refusals.TableRefusal.{TableRefusal}
 use Rattle.planner_tables.specs.Questions.{linear_named}
 use Rattle.planner_tables.proofs.ChangeLemmas.{table_read}
 use Rattle.planner_tables.proofs.QuestionLemmas.{linear_asked, linear_refused}
@@ -15,5 +16,5 @@ returns-clause-linear c =
 
 pub returns-in_err-place-clause-linear : goal.returns-in_err-place-clause-linear
 returns-in_err-place-clause-linear c =
-    subst (λ (r : Result Linear ChangeFault). Gives (linear_named c.args.game.now c.args.tables.now c.args.table.now) r) (sym (returned c.from_residual.result c.in_err-place.field-0.0 c.from_residual.ensures))
+    subst (λ (r : Result Linear (Denied TableRefusal)). Gives (linear_named c.args.game.now c.args.tables.now c.args.table.now) r) (sym (returned c.from_residual.result c.in_err-place.field-0.0 c.from_residual.ensures))
     (linear_refused c.args.game.now c.args.tables.now c.args.table.now c.in_err-place.field-0.0 c.in_err-place.ensures.place)

@@ -1,5 +1,5 @@
-use Rattle.std.proofs.Common.{◌≡◌, ◌≢◌, ℕ, List, Ok, Err, subst}
-use Rattle.production_table.specs.declared.faults.TableFault.TheVariants.{NoMemory}
+use Rattle.std.proofs.Common.{◌≡◌, ℕ, List, Ok, subst}
+use Rattle.plan_base.specs.Outcomes.{IsRefused}
 use Rattle.production_table.specs.Changes.{with_row}
 use Rattle.table_words.specs.declared.refusals.TableRefusal.TheVariants.{NoName}
 use Rattle.planner_tables.proofs.StepLemmas.{refused_as, row_made}
@@ -12,4 +12,4 @@ returns-in-Ok-add_row-clause-ok c =
 
 pub returns-in-Err-clause-fault : goal.returns-in-Err-clause-fault
 returns-in-Err-clause-fault c = λ refusal e.
-    refused_as (with_row c.args.game.now c.args.label.now c.args.setup c.args.table.now) (NoName c.args.label.now) refusal c.in-Err.fault (subst (λ (l : List ℕ). c.in-Err.fault ≢ NoMemory → with_row c.args.game.now l c.args.setup c.args.table.now ≡ Err c.in-Err.fault) c.as_str.ensures c.in-Err.ensures.change.0) (c.row_fault.ensures refusal e)
+    refused_as (with_row c.args.game.now c.args.label.now c.args.setup c.args.table.now) (NoName c.args.label.now) refusal c.in-Err.fault (subst (λ (l : List ℕ). IsRefused (with_row c.args.game.now l c.args.setup c.args.table.now) c.in-Err.fault) c.as_str.ensures c.in-Err.ensures.change.0) (c.row_fault.ensures refusal e)

@@ -1,13 +1,14 @@
 use Rattle.std.proofs.Common.{◌≡◌, ◌∙◌, ◌<◌, ◌≤◌, List, length, sym, ap, subst, arith, rules}
-use Rattle.std.specs.Prelude.{◌≢◌, Ok}
+use Rattle.std.specs.Prelude.{Ok}
 use Rattle.fractions.specs.Fraction.{Fraction}
 use Rattle.plan_base.specs.declared.ids.GoodId.{GoodId}
+use Rattle.plan_base.proofs.Outcomes.{is_refused}
 use Rattle.game_types.proofs.Walks.{returned}
 use Rattle.linear_table.specs.Plans.{IsWellFormed}
 use Rattle.linear_table.specs.declared.Linear.{Linear}
-use Rattle.production_table.specs.declared.faults.TableFault.TheVariants.{NoMemory}
 use Rattle.production_table.specs.declared.tables.TableRow.{TableRow}
-use Rattle.production_table.specs.Linear.{columns_of, linear_with, table_goods}
+use Rattle.production_table.specs.declared.faults.TableFault.TheVariants.{Full}
+use Rattle.production_table.specs.Linear.{columns_of, linear_of, linear_with, table_goods}
 use Rattle.production_table.specs.Tables.{GoodsRise}
 use Rattle.production_table.proofs.Forms.{columns_count}
 use Rattle.production_table.proofs.Whole.{rows_fault, too_many, whole}
@@ -18,16 +19,16 @@ use Rattle.production_table.proofs.tables.Table.to_linear.Goals as goal
 pub returns-in_err-columns-clause-linear : goal.returns-in_err-columns-clause-linear
 returns-in_err-columns-clause-linear c =
     rows_fault c.args.game.now c.args.self.now c.in_err-columns.field-0.0 c.from_residual.result (returned c.from_residual.result c.in_err-columns.field-0.0 c.from_residual.ensures)
-    (λ (not_memory : c.in_err-columns.field-0.0 ≢ NoMemory).
-    ap (λ (rows : List TableRow). columns_of c.args.game.now c.args.self.now.power rows) (sym c.as_slice.ensures) ∙ c.in_err-columns.ensures not_memory)
+    (λ refusal is.
+    ap (λ (rows : List TableRow). columns_of c.args.game.now c.args.self.now.power rows) (sym c.as_slice.ensures) ∙ c.in_err-columns.ensures refusal is)
 
 pub returns-then-len-gt-LIMIT-clause-linear : goal.returns-then-len-gt-LIMIT-clause-linear
 returns-then-len-gt-LIMIT-clause-linear c =
     let made : columns_of c.args.game.now c.args.self.now.power c.args.self.now.rows ≡ Ok c.in_ok-columns.columns
     = ap (λ (rows : List TableRow). columns_of c.args.game.now c.args.self.now.power rows) (sym c.as_slice.ensures) ∙ c.in_ok-columns.ensures in
     let far : 512 < length c.in_ok-goods.goods.items = first_of (omega arith, omega (arith, c.in_ok-goods.goods.ok.0), search rules) in
-    λ _. too_many c.args.game.now c.args.self.now c.in_ok-columns.columns c.in_ok-goods.goods.items made
-    (c.in_ok-goods.ensures ∙ ap (λ (columns : List (List (GoodId × Fraction))). table_goods c.args.self.now columns) c.as_slice-2.ensures) far
+    is_refused (linear_of c.args.game.now c.args.self.now) Full (too_many c.args.game.now c.args.self.now c.in_ok-columns.columns c.in_ok-goods.goods.items made
+    (c.in_ok-goods.ensures ∙ ap (λ (columns : List (List (GoodId × Fraction))). table_goods c.args.self.now columns) c.as_slice-2.ensures) far)
 
 pub linear_with-requires-clause-columns : goal.linear_with-requires-clause-columns
 linear_with-requires-clause-columns c =

@@ -1,5 +1,5 @@
 use Rattle.table_words.specs.declared.refusals.TableRefusal.TheVariants.{NoName}
-use Rattle.planner_tables.proofs.faults.row_fault.Goals as goal
+use Rattle.planner_tables.proofs.faults.row_refusal.Goals as goal
 
 pub returns-in_default : goal.returns-in_default
 returns-in_default c = λ refusal e. c.plain_fault.ensures refusal (NoName c.args.label.now) e

@@ -1,5 +1,5 @@
 use Rattle.table_words.specs.declared.refusals.TableRefusal.TheVariants.{NoPrice}
-use Rattle.planner_tables.proofs.faults.good_fault.Goals as goal
+use Rattle.planner_tables.proofs.faults.good_refusal.Goals as goal
 
 pub returns-in_default : goal.returns-in_default
 returns-in_default c = λ refusal e. c.plain_fault.ensures refusal (NoPrice c.args.object.now) e
