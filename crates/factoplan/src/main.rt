@@ -6,7 +6,7 @@ mod telling;
 use crate::telling::said;
 use plan_base::{NoMemory, Steps, Text};
 use plan_io::{HostSink, HostStore};
-use planner_cli::{RunEnd, Status, run};
+use planner_cli::{RunOutcome, Status, run};
 use program_runs::{VERSION, Watch, WatchedSink, WatchedStore, program_words, said_of_store};
 use script_hints::LineHints;
 use std::alloc::Global;
@@ -63,7 +63,7 @@ fn ran<R: Files + Print + Eprint + Clock>(
     let mut out = WatchedSink::make(HostSink::make(rt), Watch::start(rt, is_shown));
     let mut steps = Steps::new(Program);
     let mut hints = LineHints::make(alloc, words);
-    let RunEnd { status, .. } = run(alloc, words, &mut store, &mut out, &mut hints, &mut steps);
+    let RunOutcome { status, .. } = run(alloc, words, &mut store, &mut out, &mut hints, &mut steps);
     store.clear();
     out.clear();
     let lines = match status {
