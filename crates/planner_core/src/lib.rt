@@ -4,6 +4,7 @@
 
 mod batches;
 mod laws;
+mod open_steps;
 mod planner;
 mod posing;
 mod questions;

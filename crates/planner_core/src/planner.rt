@@ -1,5 +1,5 @@
 //! The planner: what each line of a script does, and its reply.
-ghost use Rattle.std.specs.Prelude.{◌≡◌, ◌+◌, ◌*◌, ◌<◌, ◌≤◌, ◌∷◌, [], List, None, Some, false, true, MatchResult, IfOk, OnErr, length, nat_lt, option_map};
+ghost use Rattle.std.specs.Prelude.{◌≡◌, ◌+◌, ◌*◌, ◌<◌, ◌≤◌, ◌∷◌, [], List, None, Some, false, MatchResult, IfOk, OnErr, option_map};
 ghost use Rattle.plan_base.specs.Shape.{node_count};
 ghost use Rattle.graph_store.specs.Rows.{member_count};
 ghost use Rattle.game_types.specs.Nodes.{shape_of};
@@ -9,14 +9,12 @@ ghost use Rattle.state_changes.specs.States.{State};
 ghost use Rattle.planner_tables.specs.Effects.{AreSoundTables};
 ghost use Rattle.edit_undo.specs.Session.{last_of, redo_of, undo_of};
 ghost use Rattle.edit_undo.specs.Kept.{session_of};
-ghost use Rattle.plan_lines.specs.declared.command.Command.TheVariants as CommandLine;
-ghost use Rattle.state_changes.specs.Actions.{can_be_held};
 ghost use Rattle.planner_tables.specs.Questions.{linear_named};
 ghost use Rattle.planner_core.specs.Posing.{IsFormed, IsPosedTable};
-ghost use Rattle.planner_core.specs.Lines.{entry_work, first_planned, is_free, is_refused, line_work, Does, Ends, Held as HeldChange, Holds, HoldsChange, IsFree, IsOpen, IsSessionOf, IsStep, Moves};
+ghost use Rattle.planner_core.specs.Lines.{entry_work, first_planned, is_refused, line_work, Does, IsFree, IsSessionOf, IsStep, Moves};
 
 use crate::Posed;
-use crate::batches::{copies, done_reply, hold_in, line_at, one};
+use crate::batches::{done_reply, one};
 use crate::questions::{mask_reply, milestones_reply, missing_reply, reach_reply, why_reply};
 use crate::reached::{list_reply, summary_reply};
 use crate::refusals::{refused, refused_as};
@@ -25,7 +23,7 @@ use game_types::Game;
 use plan_base::{Denied, NoMemory, Steps, Text};
 use plan_lines::{Change, Command, RefusalCode, Reply};
 use planner_tables::{linear_named, rate_reply, solve_reply};
-use planning_state::{LoadFault, Planning, Undo, can_be_held};
+use planning_state::{LoadFault, Planning, Undo};
 use production_table::Table;
 use std::alloc::Global;
 use std::marker::Model;
@@ -33,11 +31,11 @@ use std::marker::Model;
 /// A planning state with its history, an open batch where there is one, and whether it is quiet.
 #[derive(Drop)]
 pub struct Planner {
-    alloc: Global,
-    planning: Planning,
-    history: History<Change, Undo>,
-    batch: Option<Vec<(u32, Change)>>,
-    quiet: bool,
+    pub(crate) alloc: Global,
+    pub(crate) planning: Planning,
+    pub(crate) history: History<Change, Undo>,
+    pub(crate) batch: Option<Vec<(u32, Change)>>,
+    pub(crate) quiet: bool,
 }
 
 impl Model for Planner {
@@ -200,112 +198,6 @@ impl Planner {
                 self.history.done(),
                 self.history.undone(),
             )),
-        }
-    }
-
-    /// Whether a batch is open.
-    pub(crate) fn is_open(&self) -> bool
-        ensures free { result ≡ false → self.now.batch ≡ None }
-        ensures open_ { result ≡ true → is_free self.now.batch ≡ false }
-    {
-        self.batch.is_some()
-    }
-
-    // Holds a change in the open batch.
-    fn hold(&mut self, line: u32, change: Change) -> Result<Reply, NoMemory>
-        ensures reply { IfOk result (λ answer. (held : List HeldChange) → self.old.batch ≡ Some held → HoldsChange line self.old held change (can_be_held change) self.new answer) }
-        ensures state { (self.new.state ≡ self.old.state) × (self.new.kept ≡ self.old.kept) }
-        ensures err { OnErr result (self.new ≡ self.old) }
-    {
-        if can_be_held(&change) {
-            self.hold_one(line, change)
-        } else {
-            Ok(refused_as(RefusalCode::H3))
-        }
-    }
-
-    // Holds a change that can be held in the open batch.
-    fn hold_one(&mut self, line: u32, change: Change) -> Result<Reply, NoMemory>
-        requires holdable { can_be_held change ≡ true }
-        ensures reply { IfOk result (λ answer. (held : List HeldChange) → self.old.batch ≡ Some held → Holds line self.old held change (nat_lt (length held) 1_024) self.new answer) }
-        ensures state { (self.new.state ≡ self.old.state) × (self.new.kept ≡ self.old.kept) }
-        ensures err { OnErr result (self.new ≡ self.old) }
-    {
-        let quiet = self.quiet;
-        let Some(held) = &mut self.batch else {
-            return Err(NoMemory);
-        };
-        hold_in(held, line, change, quiet)
-    }
-
-    // Closes the batch, and does what it holds as one entry.
-    fn end<L>(&mut self, steps: &mut Steps<L>) -> Result<Reply, NoMemory>
-        ensures reply { IfOk result (λ answer. (held : List HeldChange) → self.old.batch ≡ Some held → Ends self.old held self.new answer) }
-        ensures history { (base : State) → IsSessionOf base self.old → IsSessionOf base self.new }
-        ensures err { OnErr result (self.new ≡ self.old) }
-        ensures work { IfOk result (λ answer. steps.new ≤ steps.old + line_work CommandLine.End self.old self.new answer) }
-        ensures later { steps.old ≤ steps.new }
-    {
-        let Some(held) = &self.batch else {
-            return Err(NoMemory);
-        };
-        let edits = copies(self.alloc, held.as_slice())?;
-        if edits.is_empty() {
-            self.batch = None;
-            return Ok(done_reply(self.quiet));
-        }
-        match self.history.doit(&mut self.planning, edits, steps) {
-            Ok(()) => {
-                self.batch = None;
-                Ok(done_reply(self.quiet))
-            }
-            Err(DoFault::Refused(place, refusal)) => {
-                let at = line_at(held.as_slice(), place);
-                let answer = refused(self.planning.game(), refusal, at);
-                self.batch = None;
-                Ok(answer)
-            }
-            Err(_) => Err(NoMemory),
-        }
-    }
-
-    // A line where a batch is open.
-    fn step_open<L>(
-        &mut self,
-        line: u32,
-        command: Command,
-        steps: &mut Steps<L>,
-    ) -> Result<Reply, NoMemory>
-        requires { is_free self.old.batch ≡ false }
-        ensures reply { IfOk result (λ answer. (held : List HeldChange) → self.old.batch ≡ Some held → IsOpen line self.old held command self.new answer) }
-        ensures history { (base : State) → IsSessionOf base self.old → IsSessionOf base self.new }
-        ensures err { OnErr result (self.new ≡ self.old) }
-        ensures work { IfOk result (λ answer. steps.new ≤ steps.old + line_work command self.old self.new answer) }
-        ensures later { steps.old ≤ steps.new }
-    {
-        match command {
-            Command::Quiet(on) => {
-                self.quiet = on;
-                Ok(Reply::Nothing)
-            }
-            Command::End => self.end(steps),
-            Command::Cancel => {
-                self.batch = None;
-                Ok(done_reply(self.quiet))
-            }
-            Command::Change(change) => self.hold(line, change),
-            Command::Reach(_) => Ok(refused_as(RefusalCode::H3)),
-            Command::Why(_) => Ok(refused_as(RefusalCode::H3)),
-            Command::Missing(_) => Ok(refused_as(RefusalCode::H3)),
-            Command::Mask(_) => Ok(refused_as(RefusalCode::H3)),
-            Command::List(_) => Ok(refused_as(RefusalCode::H3)),
-            Command::Milestones => Ok(refused_as(RefusalCode::H3)),
-            Command::Summary => Ok(refused_as(RefusalCode::H3)),
-            Command::Rate { .. } => Ok(refused_as(RefusalCode::H3)),
-            Command::Solve { .. } => Ok(refused_as(RefusalCode::H3)),
-            Command::Undo => Ok(refused_as(RefusalCode::H3)),
-            Command::Redo => Ok(refused_as(RefusalCode::H3)),
-            Command::Batch => Ok(refused_as(RefusalCode::H3)),
         }
     }
 
