@@ -7,6 +7,7 @@ mod laws;
 mod loading;
 mod milestones;
 mod planning;
+mod questions;
 mod remembered;
 mod settling;
 
