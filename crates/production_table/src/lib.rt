@@ -7,7 +7,10 @@ mod edit_laws;
 mod faults;
 mod laws;
 mod linear;
+mod linear_columns;
 mod numbers;
+mod row_lists;
+mod table_places;
 mod tables;
 
 pub use edit_laws::{fitting_rows_stay, goods_stay};

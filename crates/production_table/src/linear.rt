@@ -1,20 +1,21 @@
 //! The linear form of a table.
-ghost use Rattle.std.specs.Prelude.{◌≡◌, ◌<◌, ◌≤◌, ◌++◌, ◌∷◌, [], All, IfOk, OnErr, OnOk, false, length, map, nat_lt, position, slice_get, true};
-ghost use Rattle.std.specs.List.Sorted.{IsPartitionPoint};
+ghost use Rattle.std.specs.Prelude.{◌≡◌, ◌<◌, ◌≤◌, ◌++◌, All, IfOk, OnOk, length, map};
 ghost use Rattle.plan_base.specs.Outcomes.{Gives};
 ghost use Rattle.game_types.specs.Goods.{good_count};
 ghost use Rattle.game_types.specs.Sound.{IsSound};
 ghost use Rattle.linear_table.specs.Plans.{IsWellFormed};
-ghost use Rattle.production_table.specs.Linear.{columns_of, import_column, is_good_at, is_not_below, is_numbered, linear_of, linear_with, of_row, parts_at, place_in, row_column, row_columns, surplus_column, table_goods, want_of, with_columns, with_good, with_goods};
+ghost use Rattle.production_table.specs.Linear.{columns_of, import_column, linear_of, linear_with, of_row, row_column, row_columns, surplus_column, want_of};
 ghost use Rattle.production_table.specs.Tables.{GoodsRise, IsOfGame, IsSoundTable};
 ghost use Rattle.table_rows.specs.Columns.{column_of};
 ghost use Rattle.table_rows.specs.Setups.{IsFitting};
 
+use crate::linear_columns::{import_column, row_column, surplus_column};
 use crate::numbers::number_of;
+use crate::table_places::goods_of;
 use crate::{LIMIT, Table, TableFault, TableRow};
-use fractions::{Ratio, is_zero};
+use fractions::Ratio;
 use game_types::Game;
-use linear_table::{Column, Linear, LinearColumn};
+use linear_table::{Linear, LinearColumn};
 use plan_base::{Denied, GoodId, Items, NoMemory, Text};
 use std::alloc::Global;
 use table_rows::{RowFault, column_of};
@@ -60,222 +61,6 @@ fn columns_of(
         columns.push(column)?;
     }
     Ok(Items::from_vec(columns))
-}
-
-// The place of the first good that isn't below this one.
-fn find(goods: &[GoodId], good: GoodId) -> Option<usize>
-    ensures { result ≡ position (is_not_below good) goods.now }
-{
-    goods.iter().position(|other| good.0 <= other.0)
-}
-
-// One good more, where it isn't there.
-fn add_good(goods: &mut Vec<GoodId>, good: GoodId) -> Result<(), NoMemory>
-    ensures { OnOk result (goods.new.items ≡ with_good good goods.old.items) }
-{
-    match find(goods.as_slice(), good) {
-        Some(place) => {
-            let other = goods[place];
-            if other.0 != good.0 {
-                goods.insert(place, good)?;
-            }
-        }
-        None => goods.push(good)?,
-    }
-    Ok(())
-}
-
-// The goods of a list more.
-fn add_goods(goods: &mut Vec<GoodId>, pairs: &[(GoodId, Ratio)]) -> Result<(), NoMemory>
-    ensures { OnOk result (goods.new.items ≡ with_goods goods.old.items pairs.now) }
-{
-    for pair in pairs {
-        add_good(goods, pair.0)?;
-    }
-    Ok(())
-}
-
-// The goods of columns more.
-fn add_columns(goods: &mut Vec<GoodId>, columns: &[Items<(GoodId, Ratio)>]) -> Result<(), NoMemory>
-    ensures { OnOk result (goods.new.items ≡ with_columns goods.old.items columns.now) }
-{
-    for column in columns {
-        add_goods(goods, column.as_slice())?;
-    }
-    Ok(())
-}
-
-// The goods of a table.
-fn goods_of(
-    alloc: Global,
-    table: &Table,
-    columns: &[Items<(GoodId, Ratio)>],
-) -> Result<Vec<GoodId>, NoMemory>
-    ensures { IfOk result (λ goods. goods.items ≡ table_goods table.now columns.now) }
-{
-    let mut goods = Vec::new(alloc);
-    add_columns(&mut goods, columns)?;
-    add_goods(&mut goods, table.wants.as_slice())?;
-    add_goods(&mut goods, table.imports.as_slice())?;
-    add_goods(&mut goods, table.surpluses.as_slice())?;
-    Ok(goods)
-}
-
-// How many of the goods, which rise, come before this one.
-fn count_below(goods: &[GoodId], good: GoodId) -> usize
-    requires { GoodsRise 0 goods.now }
-    ensures { IsPartitionPoint (λ other. nat_lt other.0 good.0 ≡ true) (λ other. nat_lt other.0 good.0 ≡ false) goods.now result }
-{
-    goods.partition_point(|other| other.0 < good.0)
-}
-
-// Whether a good stands at a place.
-fn is_good_at(goods: &[GoodId], place: usize, good: GoodId) -> bool
-    ensures { result ≡ is_good_at good.0 (slice_get goods.now place) }
-{
-    match goods.get(place) {
-        Some(other) => other.0 == good.0,
-        None => false,
-    }
-}
-
-// The place of a good among goods that rise, where it is there.
-fn find_good(goods: &[GoodId], good: GoodId) -> Option<usize>
-    requires { GoodsRise 0 goods.now }
-    ensures { result ≡ position (is_numbered good.0) goods.now }
-{
-    let place = count_below(goods, good);
-    if is_good_at(goods, place, good) {
-        Some(place)
-    } else {
-        None
-    }
-}
-
-#[tactic(auto, unfolding(crate::specs::Linear::place_in))]
-// The place of a good.
-fn place_in(goods: &[GoodId], good: GoodId) -> usize
-    requires { GoodsRise 0 goods.now }
-    ensures { result ≡ place_in goods.now good.0 }
-{
-    match find_good(goods, good) {
-        Some(place) => place,
-        None => 0,
-    }
-}
-
-// The place of a good among so few that its number is small.
-fn small_place_in(goods: &[GoodId], good: GoodId) -> u32
-    requires few { length goods.now ≤ 512 }
-    requires rises { GoodsRise 0 goods.now }
-    ensures { result ≡ place_in goods.now good.0 }
-{
-    let place = place_in(goods, good);
-    if place < LIMIT { place as u32 } else { 0 }
-}
-
-#[tactic(auto, unfolding(crate::specs::Linear::parts_at))]
-// A part where the sum isn't 0.
-fn add_part(
-    parts: &mut Vec<(u32, Ratio)>,
-    goods: &[GoodId],
-    pair: &(GoodId, Ratio),
-) -> Result<(), NoMemory>
-    requires few { length goods.now ≤ 512 }
-    requires rises { GoodsRise 0 goods.now }
-    ensures { OnOk result (parts.new.items ≡ parts.old.items ++ parts_at goods.now (pair.now ∷ [])) }
-{
-    if is_zero(&pair.1) {
-        return Ok(());
-    }
-    parts.push((small_place_in(goods, pair.0), pair.1))?;
-    Ok(())
-}
-
-// The parts of a row's column.
-fn parts_of(
-    alloc: Global,
-    goods: &[GoodId],
-    column: &[(GoodId, Ratio)],
-) -> Result<Items<(u32, Ratio)>, NoMemory>
-    requires few { length goods.now ≤ 512 }
-    requires rises { GoodsRise 0 goods.now }
-    ensures { IfOk result (λ parts. parts ≡ parts_at goods.now column.now) }
-{
-    let mut parts = Vec::new(alloc);
-    for pair in column {
-        add_part(&mut parts, goods, pair)?;
-    }
-    Ok(Items::from_vec(parts))
-}
-
-// The column of a row in a linear form.
-fn row_column(
-    alloc: Global,
-    goods: &[GoodId],
-    number: u32,
-    row: &TableRow,
-    column: &[(GoodId, Ratio)],
-) -> Result<LinearColumn, NoMemory>
-    requires few { length goods.now ≤ 512 }
-    requires rises { GoodsRise 0 goods.now }
-    ensures { IfOk result (λ made. made ≡ row_column goods.now number row.now column.now) }
-{
-    Ok(LinearColumn {
-        column: Column::Line(number),
-        price: row.price,
-        parts: parts_of(alloc, goods, column)?,
-    })
-}
-
-// One part at a good's place.
-fn one_part(
-    alloc: Global,
-    goods: &[GoodId],
-    good: GoodId,
-    amount: Ratio,
-) -> Result<Items<(u32, Ratio)>, NoMemory>
-    requires few { length goods.now ≤ 512 }
-    requires rises { GoodsRise 0 goods.now }
-    ensures { IfOk result (λ parts. parts ≡ (place_in goods.now good.0, amount) ∷ []) }
-{
-    let mut parts = Vec::new(alloc);
-    parts.push((small_place_in(goods, good), amount))?;
-    Ok(Items::from_vec(parts))
-}
-
-// The column of what comes in.
-fn import_column(
-    alloc: Global,
-    goods: &[GoodId],
-    pair: &(GoodId, Ratio),
-) -> Result<LinearColumn, NoMemory>
-    requires few { length goods.now ≤ 512 }
-    requires rises { GoodsRise 0 goods.now }
-    ensures { IfOk result (λ made. made ≡ import_column goods.now pair.now) }
-{
-    Ok(LinearColumn {
-        column: Column::Import(pair.0),
-        price: pair.1,
-        parts: one_part(alloc, goods, pair.0, Ratio::one())?,
-    })
-}
-
-// The column of what goes out.
-fn surplus_column(
-    alloc: Global,
-    goods: &[GoodId],
-    pair: &(GoodId, Ratio),
-) -> Result<LinearColumn, NoMemory>
-    requires few { length goods.now ≤ 512 }
-    requires rises { GoodsRise 0 goods.now }
-    ensures { IfOk result (λ made. made ≡ surplus_column goods.now pair.now) }
-{
-    Ok(LinearColumn {
-        column: Column::Surplus(pair.0),
-        price: pair.1,
-        parts: one_part(alloc, goods, pair.0, Ratio::one().neg())?,
-    })
 }
 
 #[tactic(auto, unfolding(crate::specs::Linear::want_of))]

@@ -4,7 +4,7 @@ use Rattle.fractions.specs.Fraction.{Fraction}
 use Rattle.game_types.proofs.Walks.{next}
 use Rattle.production_table.specs.Linear.{parts_at}
 use Rattle.production_table.proofs.Forms.{parts_end, parts_on}
-use Rattle.production_table.proofs.linear.parts_of.Goals as goal
+use Rattle.production_table.proofs.linear_columns.parts_of.Goals as goal
 
 pub loop-pair-preserved : goal.loop-pair-preserved
 loop-pair-preserved c =

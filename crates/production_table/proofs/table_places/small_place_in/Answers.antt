@@ -2,7 +2,7 @@ use Rattle.std.proofs.Common.{◌≡◌, ◌<◌, ◌≤◌, ℕ, length, sym, a
 use Rattle.std.specs.Prelude.{◌⊎◌}
 use Rattle.production_table.specs.Linear.{place_in}
 use Rattle.production_table.proofs.Goods.{place_within}
-use Rattle.production_table.proofs.linear.small_place_in.Goals as goal
+use Rattle.production_table.proofs.table_places.small_place_in.Goals as goal
 
 out : (place n : ℕ) → (place < n) ⊎ (place ≡ 0) → n ≤ 512 → 512 ≤ place → 0 ≡ place
 out place n (inl h) few far = absurd (omega arith)

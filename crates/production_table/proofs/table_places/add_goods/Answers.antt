@@ -4,7 +4,7 @@ use Rattle.plan_base.specs.declared.ids.GoodId.{GoodId}
 use Rattle.std.proofs.Common.{List, drop, ◌+◌}
 use Rattle.production_table.specs.Linear.{with_goods}
 use Rattle.production_table.proofs.Goods.{goods_end, goods_on}
-use Rattle.production_table.proofs.linear.add_goods.Goals as goal
+use Rattle.production_table.proofs.table_places.add_goods.Goals as goal
 
 pub loop-pair-preserved : goal.loop-pair-preserved
 loop-pair-preserved c =

@@ -3,7 +3,7 @@ use Rattle.std.specs.Prelude.{position}
 use Rattle.plan_base.specs.declared.ids.GoodId.{GoodId}
 use Rattle.production_table.specs.Linear.{is_not_below}
 use Rattle.production_table.proofs.Goods.{add_last, add_new, add_there}
-use Rattle.production_table.proofs.linear.add_good.Goals as goal
+use Rattle.production_table.proofs.table_places.add_good.Goals as goal
 
 pub returns-in_ok-insert-in-Some : goal.returns-in_ok-insert-in-Some
 returns-in_ok-insert-in-Some c =

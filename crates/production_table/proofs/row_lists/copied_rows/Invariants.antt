@@ -1,5 +1,5 @@
 use Rattle.std.proofs.Common.{◌≡◌, take}
-use Rattle.production_table.proofs.changes.copied_rows.Given as goal
+use Rattle.production_table.proofs.row_lists.copied_rows.Given as goal
 
 abbrev pub invariant-loop-row : goal.invariant-loop-row
 invariant-loop-row l = l.copy.items ≡ take l.row-index l.rows

@@ -5,7 +5,7 @@ use Rattle.plan_base.specs.declared.ids.GoodId.{GoodId}
 use Rattle.std.proofs.Common.{List, drop, ◌+◌}
 use Rattle.production_table.specs.Linear.{with_columns, with_goods}
 use Rattle.production_table.proofs.Goods.{columns_end, columns_on}
-use Rattle.production_table.proofs.linear.add_columns.Goals as goal
+use Rattle.production_table.proofs.table_places.add_columns.Goals as goal
 
 pub loop-column-preserved : goal.loop-column-preserved
 loop-column-preserved c =
