@@ -3,6 +3,8 @@
 
 mod names;
 mod refusals;
+mod setups;
 
-pub use names::{good_named, setup_named};
+pub use names::good_named;
 pub use refusals::{TableRefusal, code_of, detail_of, refused};
+pub use setups::setup_named;
