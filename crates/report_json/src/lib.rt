@@ -9,11 +9,13 @@ mod laws;
 mod lines;
 mod lists;
 mod numbers;
+mod plan_rows;
 mod plans;
 mod questions;
 mod rates;
 mod refusals;
 mod replies;
+mod streams;
 mod trails;
 mod values;
 

@@ -2,7 +2,7 @@ use Rattle.std.proofs.Common.{ap, map, ◌∙◌}
 use Rattle.std.proofs.lemmas.Iterator.{YieldsList-from_slice, YieldsList-from_zip}
 use Rattle.std.proofs.lemmas.Iterator.Consumers.{YieldsList-end}
 use Rattle.report_json.specs.Replies.{row_value}
-use Rattle.report_json.proofs.plans.row_values.Goals as goal
+use Rattle.report_json.proofs.plan_rows.row_values.Goals as goal
 
 pub returns : goal.returns
 returns c =

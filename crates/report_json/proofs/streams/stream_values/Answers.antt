@@ -3,7 +3,7 @@ use Rattle.std.specs.List.{flat_map}
 use Rattle.std.proofs.lemmas.Iterator.{YieldsList-from_slice, YieldsList-from_zip}
 use Rattle.std.proofs.lemmas.Iterator.Consumers.{YieldsList-end}
 use Rattle.report_json.specs.Replies.{streams_of}
-use Rattle.report_json.proofs.plans.stream_values.Goals as goal
+use Rattle.report_json.proofs.streams.stream_values.Goals as goal
 
 pub returns : goal.returns
 returns c =
