@@ -6,9 +6,10 @@ ghost use Rattle.depend_index.specs.Indexed.{IsIndex};
 ghost use Rattle.serde_json.specs.View.{members_view};
 ghost use Rattle.catalog_things.specs.Goods.{good_node_where, machine_node_where, makes_heat, reactors, special_makers, with_bonus, with_fluid, with_fluid_fuel, with_fuel, with_fuel_members, with_heat, with_hundredths, with_item, with_module, with_module_members, with_special};
 
+use crate::amounts::put_unless_zero;
 use crate::doers::machines_for;
 use crate::nodes::{good_node, thing_node};
-use crate::parts::{put_products, put_unless_zero};
+use crate::products::put_products;
 use crate::techs::recipe_nodes;
 use catalog_members::{Members, put_amount, put_id_where, put_ids, put_object};
 use depend_index::{Index, first_machine};

@@ -4,15 +4,18 @@
 //! goods that may stand for an ingredient. A law says that a row whose parts are offered is refused for none of them.
 #![tactic(auto)]
 
+mod amounts;
 mod doers;
 mod fits;
 mod goods;
 mod laws;
+mod machine_kinds;
 mod machines;
 mod makers;
 mod nodes;
 mod offers;
 mod parts;
+mod products;
 mod recipes;
 mod techs;
 

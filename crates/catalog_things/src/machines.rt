@@ -4,153 +4,24 @@ ghost use Rattle.game_types.specs.Sound.{IsSound};
 ghost use Rattle.depend_index.specs.Indexed.{IsIndex};
 ghost use Rattle.depend_index.specs.Machines.{placers};
 ghost use Rattle.serde_json.specs.View.{members_view};
-ghost use Rattle.catalog_things.specs.Machines.{distribution_of, effect_words, efficiency_of, energy_name, fixed_of, good_nodes, input_of, inputs_of, kind_name, output_of, power_of, recipe_node_where, speed_of, temperature_of, with_effects, with_energy, with_flows, with_machine, with_machine_kind, with_machine_members, with_output, with_use, with_work, word_where};
+ghost use Rattle.catalog_things.specs.Machines.{effect_words, good_nodes, recipe_node_where, with_effects, with_energy, with_flows, with_machine, with_machine_kind, with_machine_members, with_output, with_use, with_work, word_where};
 
+use crate::amounts::put_unless_zero;
 use crate::goods::good_node_where;
+use crate::machine_kinds::{
+    distribution_of, efficiency_of, energy_name, fixed_of, input_of, inputs_of, kind_name,
+    output_of, power_of, speed_of, temperature_of,
+};
 use crate::nodes::{good_node, thing_node};
 use crate::offers::{fuels_of, modules_of};
-use crate::parts::put_unless_zero;
 use catalog_members::{
     Members, put_amount, put_amount_where, put_count, put_id_where, put_ids, put_text, put_words,
 };
 use depend_index::Index;
-use fractions::Ratio;
 use game_types::{Allowed, Energy, Game, Machine, MachineKind};
 use node_lists::list_of;
 use plan_base::{EntityId, GoodId, Kind, NoMemory, NodeId, RecipeId, Text};
 use std::alloc::Global;
-
-#[tactic(auto, unfolding(crate::specs::Machines::kind_name))]
-fn kind_name(kind: &MachineKind) -> &'static str
-    ensures { result.now ≡ kind_name kind.now }
-{
-    match kind {
-        MachineKind::Crafter { .. } => "crafter",
-        MachineKind::Drill { .. } => "drill",
-        MachineKind::Pump { .. } => "pump",
-        MachineKind::Boiler { .. } => "boiler",
-        MachineKind::Generator { .. } => "generator",
-        MachineKind::BurnerGenerator { .. } => "burner",
-        MachineKind::Solar { .. } => "solar",
-        MachineKind::Reactor => "reactor",
-        MachineKind::Lab { .. } => "lab",
-        MachineKind::Beacon { .. } => "beacon",
-    }
-}
-
-fn energy_name(energy: &Energy) -> &'static str
-    ensures { result.now ≡ energy_name energy.now }
-{
-    match energy {
-        Energy::Electric => "electric",
-        Energy::Burner { .. } => "burner",
-        Energy::Heat => "heat",
-        Energy::Fluid { .. } => "fluid",
-        Energy::Void => "void",
-    }
-}
-
-// The speed of a machine that has one.
-#[tactic(auto, unfolding(crate::specs::Machines::speed_of))]
-fn speed_of(kind: &MachineKind) -> Option<Ratio>
-    ensures { result ≡ speed_of kind.now }
-{
-    match kind {
-        MachineKind::Crafter { speed, .. } => Some(*speed),
-        MachineKind::Drill { speed, .. } => Some(*speed),
-        MachineKind::Pump { speed, .. } => Some(*speed),
-        MachineKind::Lab { speed, .. } => Some(*speed),
-        _ => None,
-    }
-}
-
-// What of the energy that it burns a machine uses.
-fn efficiency_of(energy: &Energy) -> Option<Ratio>
-    ensures { result ≡ efficiency_of energy.now }
-{
-    match energy {
-        Energy::Burner { effectivity, .. } => Some(*effectivity),
-        Energy::Fluid { effectivity, .. } => Some(*effectivity),
-        _ => None,
-    }
-}
-
-// The recipe that a crafter is fixed to.
-fn fixed_of(kind: &MachineKind) -> Option<RecipeId>
-    ensures { result ≡ fixed_of kind.now }
-{
-    match kind {
-        MachineKind::Crafter { fixed, .. } => *fixed,
-        _ => None,
-    }
-}
-
-// The fluid that a boiler or a generator takes in.
-fn input_of(kind: &MachineKind) -> Option<GoodId>
-    ensures { result ≡ input_of kind.now }
-{
-    match kind {
-        MachineKind::Boiler { input, .. } => *input,
-        MachineKind::Generator { input, .. } => *input,
-        _ => None,
-    }
-}
-
-// The fluid that a boiler or a pump gives.
-fn output_of(kind: &MachineKind) -> Option<GoodId>
-    ensures { result ≡ output_of kind.now }
-{
-    match kind {
-        MachineKind::Boiler { output, .. } => *output,
-        MachineKind::Pump { fluid, .. } => Some(*fluid),
-        _ => None,
-    }
-}
-
-// The temperature to which a boiler heats.
-#[tactic(auto, unfolding(crate::specs::Machines::temperature_of))]
-fn temperature_of(kind: &MachineKind) -> Option<Ratio>
-    ensures { result ≡ temperature_of kind.now }
-{
-    match kind {
-        MachineKind::Boiler { temperature, .. } => Some(*temperature),
-        _ => None,
-    }
-}
-
-// The most electric power that a machine gives.
-#[tactic(auto, unfolding(crate::specs::Machines::power_of))]
-fn power_of(kind: &MachineKind) -> Option<Ratio>
-    ensures { result ≡ power_of kind.now }
-{
-    match kind {
-        MachineKind::Generator { output, .. } => *output,
-        MachineKind::BurnerGenerator { output } => Some(*output),
-        MachineKind::Solar { production } => Some(*production),
-        _ => None,
-    }
-}
-
-// What a beacon passes on.
-#[tactic(auto, unfolding(crate::specs::Machines::distribution_of))]
-fn distribution_of(kind: &MachineKind) -> Option<Ratio>
-    ensures { result ≡ distribution_of kind.now }
-{
-    match kind {
-        MachineKind::Beacon { effectivity } => Some(*effectivity),
-        _ => None,
-    }
-}
-
-// The packs that a lab takes.
-fn inputs_of(kind: &MachineKind) -> &[GoodId]
-    ensures { result.now ≡ inputs_of kind.now }
-{
-    match kind {
-        MachineKind::Lab { inputs, .. } => inputs.as_slice(),
-        _ => &[],
-    }
-}
 
 #[tactic(auto, unfolding(crate::specs::Machines::good_nodes))]
 fn good_nodes(alloc: Global, game: &Game, goods: &[GoodId]) -> Result<Vec<NodeId>, NoMemory>

@@ -1,83 +1,30 @@
-//! What is taken and what is given.
+//! What is taken: amounts of goods, and ingredients with the goods that may stand for them.
 ghost use Rattle.std.specs.Prelude.{◌≡◌, ◌++◌, ◌∷◌, [], IfOk, OnOk};
 ghost use Rattle.game_types.specs.Sound.{IsSound};
 ghost use Rattle.serde_json.specs.Data.{object};
 ghost use Rattle.serde_json.specs.View.{items_view, members_view, view};
 ghost use Rattle.catalog_members.specs.Members.{items_tree};
-ghost use Rattle.catalog_things.specs.Parts.{free_of, good_value, is_alone, part_value, product_value, with_fits, with_good, with_goods, with_outcome, with_part, with_parts, with_product, with_products, with_range, with_unless_one, with_unless_zero, with_yield};
+ghost use Rattle.catalog_things.specs.Parts.{good_value, is_alone, part_value, with_fits, with_good, with_goods, with_part, with_parts};
 
 use crate::fits::fits_of;
 use crate::nodes::good_node;
-use catalog_members::{
-    Members, put_amount, put_amount_where, put_id, put_ids, put_items, put_text,
-};
+use catalog_members::{Members, put_amount, put_amount_where, put_id, put_ids, put_items};
 use depend_index::Index;
-use fractions::{Ratio, is_zero};
-use game_types::steps::subtracted;
-use game_types::{Game, Part, Product, Wide};
-use machine_rates::yield_of;
+use fractions::Ratio;
+use game_types::{Game, Part};
 use plan_base::{GoodId, NoMemory, NodeId};
 use serde_json::{Map, Value};
 use std::alloc::Global;
 
-/// Puts a fraction, or that it is past the limits.
-#[tactic(auto, unfolding(crate::specs::Parts::with_outcome))]
-pub fn put_outcome(
-    members: &mut Members,
-    alloc: Global,
-    key: &str,
-    amount: Result<Ratio, Wide>,
-) -> Result<(), NoMemory>
-    ensures { OnOk result (members_view members.new.entries ≡ with_outcome key.now amount (members_view members.old.entries)) }
-{
-    match amount {
-        Ok(amount) => put_amount(members, alloc, key, &amount),
-        Err(_) => put_text(members, alloc, key, "wide"),
-    }
-}
-
-/// Puts a fraction, unless it is 1.
-#[tactic(auto, unfolding(crate::specs::Parts::with_unless_one))]
-pub fn put_unless_one(
-    members: &mut Members,
-    alloc: Global,
-    key: &str,
-    number: &Ratio,
-) -> Result<(), NoMemory>
-    ensures { OnOk result (members_view members.new.entries ≡ with_unless_one key.now number.now (members_view members.old.entries)) }
-{
-    if *number == Ratio::one() {
-        Ok(())
-    } else {
-        put_amount(members, alloc, key, number)
-    }
-}
-
-/// Puts a fraction, unless it is 0.
-#[tactic(auto, unfolding(crate::specs::Parts::with_unless_zero))]
-pub fn put_unless_zero(
-    members: &mut Members,
-    alloc: Global,
-    key: &str,
-    number: &Ratio,
-) -> Result<(), NoMemory>
-    ensures { OnOk result (members_view members.new.entries ≡ with_unless_zero key.now number.now (members_view members.old.entries)) }
-{
-    if is_zero(number) {
-        Ok(())
-    } else {
-        put_amount(members, alloc, key, number)
-    }
-}
-
-// An object of members.
-fn value_of(members: Members) -> Value
+/// An object of members.
+pub fn value_of(members: Members) -> Value
     ensures { view result ≡ object (members_view members.entries) }
 {
     Value::Object(members)
 }
 
-fn push(list: &mut Vec<Value>, value: Value) -> Result<(), NoMemory>
+/// Puts a value behind others.
+pub fn push(list: &mut Vec<Value>, value: Value) -> Result<(), NoMemory>
     ensures { OnOk result (list.new.items ≡ list.old.items ++ value ∷ []) }
 {
     Ok(serde_json::push(list, value)?)
@@ -228,94 +175,4 @@ pub fn put_parts(
 {
     let list = part_values(alloc, game, index, parts)?;
     put_items(members, alloc, "in", list)
-}
-
-// What productivity adds to: what a craft gives at a productivity of 1 above what it gives without.
-#[tactic(auto, unfolding(crate::specs::Parts::free_of))]
-fn free_of(product: &Product) -> Result<Ratio, Wide>
-    ensures { result ≡ free_of product.now }
-{
-    let all = yield_of(product, &Ratio::one())?;
-    let expected = yield_of(product, &Ratio::zero())?;
-    subtracted(8, &all, &expected)
-}
-
-// Puts the least and the most that a craft gives, where they differ.
-#[tactic(auto, unfolding(crate::specs::Parts::with_range))]
-fn put_range(
-    members: &mut Members,
-    alloc: Global,
-    low: &Ratio,
-    high: &Ratio,
-) -> Result<(), NoMemory>
-    ensures { OnOk result (members_view members.new.entries ≡ with_range low.now high.now (members_view members.old.entries)) }
-{
-    if *low == *high {
-        return Ok(());
-    }
-    put_amount(members, alloc, "min", low)?;
-    put_amount(members, alloc, "max", high)
-}
-
-#[tactic(auto, unfolding(crate::specs::Parts::with_yield))]
-fn put_yield(members: &mut Members, alloc: Global, product: &Product) -> Result<(), NoMemory>
-    ensures { OnOk result (members_view members.new.entries ≡ with_yield product.now (members_view members.old.entries)) }
-{
-    let amount = yield_of(product, &Ratio::zero());
-    put_outcome(members, alloc, "amount", amount)?;
-    put_outcome(members, alloc, "free", free_of(product))
-}
-
-#[tactic(auto, unfolding(crate::specs::Parts::with_product))]
-fn put_product(
-    members: &mut Members,
-    alloc: Global,
-    game: &Game,
-    product: &Product,
-) -> Result<(), NoMemory>
-    requires { IsSound game.now }
-    ensures { OnOk result (members_view members.new.entries ≡ with_product game.now product.now (members_view members.old.entries)) }
-{
-    put_yield(members, alloc, product)?;
-    put_id(members, alloc, "good", game, good_node(game, product.good))?;
-    put_range(members, alloc, &product.low, &product.high)?;
-    put_unless_one(members, alloc, "probability", &product.probability)?;
-    put_amount_where(members, alloc, "temperature", &product.temperature)
-}
-
-fn product_value(alloc: Global, game: &Game, product: &Product) -> Result<Value, NoMemory>
-    requires { IsSound game.now }
-    ensures { IfOk result (λ value. view value ≡ product_value game.now product.now) }
-{
-    let mut members = Map::new(alloc);
-    put_product(&mut members, alloc, game, product)?;
-    Ok(value_of(members))
-}
-
-#[tactic(auto, using(catalog_members::proofs::Listing::none_written, catalog_members::proofs::Listing::one_written, catalog_members::proofs::Listing::all_written))]
-fn product_values(alloc: Global, game: &Game, products: &[Product]) -> Result<Vec<Value>, NoMemory>
-    requires { IsSound game.now }
-    ensures { IfOk result (λ list. items_view list.items ≡ items_tree (product_value game.now) products.now) }
-{
-    let mut list = Vec::new(alloc);
-    for product in products {
-        push(&mut list, product_value(alloc, game, product)?)?;
-    }
-    Ok(list)
-}
-
-/// Puts products, unless there are none.
-#[tactic(auto, unfolding(crate::specs::Parts::with_products))]
-pub fn put_products(
-    members: &mut Members,
-    alloc: Global,
-    key: &str,
-    game: &Game,
-    products: &[Product],
-) -> Result<(), NoMemory>
-    requires { IsSound game.now }
-    ensures { OnOk result (members_view members.new.entries ≡ with_products key.now game.now products.now (members_view members.old.entries)) }
-{
-    let list = product_values(alloc, game, products)?;
-    put_items(members, alloc, key, list)
 }

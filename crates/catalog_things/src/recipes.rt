@@ -5,9 +5,11 @@ ghost use Rattle.depend_index.specs.Indexed.{IsIndex};
 ghost use Rattle.serde_json.specs.View.{members_view};
 ghost use Rattle.catalog_things.specs.Ways.{with_by, with_craft, with_marks, with_mining, with_recipe, with_source, with_source_fluid};
 
+use crate::amounts::put_unless_one;
 use crate::doers::machines_for;
 use crate::makers::{character_crafts, character_mines};
-use crate::parts::{put_goods, put_parts, put_products, put_unless_one};
+use crate::parts::{put_goods, put_parts};
+use crate::products::put_products;
 use catalog_members::{Members, put_amount, put_ids, put_true};
 use depend_index::{Index, techs_unlocking};
 use fractions::Ratio;
