@@ -3,10 +3,12 @@
 //! The texts are in `specs/`: `Causes` (by the code of a refusal), `Forms` (what stands where on a line).
 #![tactic(auto)]
 
+mod cause_texts;
 mod causes;
 mod forms;
 mod words;
 
-pub use causes::{Cause, Short, cause_text, code_of, code_words};
+pub use cause_texts::cause_text;
+pub use causes::{Cause, Short, code_of, code_words};
 pub use forms::{Slot, form_of, slot_code};
 pub use words::{LineWord, QuoteFault, Unread, words_of};
