@@ -5,6 +5,7 @@
 mod columns;
 mod contributions;
 mod faults;
+mod given_taken;
 mod rates;
 mod setups;
 

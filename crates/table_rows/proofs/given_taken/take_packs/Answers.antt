@@ -2,7 +2,7 @@ use Rattle.std.proofs.Common.{◌≡◌, ◌∙◌, List, refl, sym, ap, subst}
 use Rattle.game_types.proofs.Walks.{next, returned}
 use Rattle.table_rows.specs.Columns.{given, pack_taken, taken}
 use Rattle.table_rows.proofs.Sums.{handed_on, walk_end, walk_on, walk_stop}
-use Rattle.table_rows.proofs.contributions.take_packs.Goals as goal
+use Rattle.table_rows.proofs.given_taken.take_packs.Goals as goal
 
 pub returns-in_err-take_pack : goal.returns-in_err-take_pack
 returns-in_err-take_pack c =
