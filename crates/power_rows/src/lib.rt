@@ -5,6 +5,7 @@
 #![tactic(auto)]
 
 mod checks;
+mod generators;
 mod inputs;
 mod rates;
 

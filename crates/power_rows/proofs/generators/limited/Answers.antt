@@ -1,7 +1,7 @@
 use Rattle.std.proofs.Common.{sym, subst}
 use Rattle.fractions.specs.Fraction.{Fraction, zero_fraction, ◌<ʳ◌}
 use Rattle.power_rows.proofs.Positive.{at_most_positive, shut_positive}
-use Rattle.power_rows.proofs.rates.limited.Goals as goal
+use Rattle.power_rows.proofs.generators.limited.Goals as goal
 
 pub returns-in-Some-clause-positive : goal.returns-in-Some-clause-positive
 returns-in-Some-clause-positive c =

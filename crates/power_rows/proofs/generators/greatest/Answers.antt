@@ -3,7 +3,7 @@ use Rattle.fractions.specs.Fraction.{Fraction, zero_fraction, ◌<ʳ◌}
 use Rattle.std.specs.Prelude.{Ok}
 use Rattle.game_types.proofs.StepLemmas.{positive_whole}
 use Rattle.power_rows.proofs.Positive.{product_positive}
-use Rattle.power_rows.proofs.rates.greatest.Goals as goal
+use Rattle.power_rows.proofs.generators.greatest.Goals as goal
 
 pub limited-requires-clause-most : goal.limited-requires-clause-most
 limited-requires-clause-most c =

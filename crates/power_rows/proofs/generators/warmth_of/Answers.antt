@@ -1,7 +1,7 @@
 use Rattle.std.proofs.Common.{sym, subst, ◌∙◌, ap}
 use Rattle.fractions.specs.Fraction.{Fraction, zero_fraction, ◌<ʳ◌, ◌-ʳ◌}
 use Rattle.power_rows.proofs.Positive.{product_positive, warm_capacity, warm_rise, subtracted_value}
-use Rattle.power_rows.proofs.rates.warmth_of.Goals as goal
+use Rattle.power_rows.proofs.generators.warmth_of.Goals as goal
 
 pub returns-clause-positive : goal.returns-clause-positive
 returns-clause-positive c =

@@ -1,5 +1,5 @@
 use Rattle.power_rows.proofs.Positive.{generator_tick}
-use Rattle.power_rows.proofs.rates.generating.Goals as goal
+use Rattle.power_rows.proofs.generators.generating.Goals as goal
 
 pub greatest-requires-clause-per_tick : goal.greatest-requires-clause-per_tick
 greatest-requires-clause-per_tick c =
