@@ -2,6 +2,7 @@
 #![tactic(auto)]
 
 mod goods;
+mod ingredient_groups;
 mod machines;
 mod members;
 mod recipes;

@@ -6,7 +6,7 @@ use Rattle.game_types.specs.Sound.{IsGood}
 use Rattle.depend_rows.proofs.FoundLemmas.{all_found}
 use Rattle.depend_index.specs.Goods.{good_count}
 use Rattle.depend_rows.specs.Goods.{free_good, is_free}
-use Rattle.depend_rows.proofs.recipes.ingredients.Goals as goal
+use Rattle.depend_rows.proofs.ingredient_groups.ingredients.Goals as goal
 
 pub named-requires-clause-numbers : goal.named-requires-clause-numbers
 named-requires-clause-numbers c =

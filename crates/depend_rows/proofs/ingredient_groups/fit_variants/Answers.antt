@@ -1,5 +1,5 @@
 use Rattle.depend_index.proofs.CoolestLemmas.{coolest_for, fits_by_index}
-use Rattle.depend_rows.proofs.recipes.fit_variants.Goals as goal
+use Rattle.depend_rows.proofs.ingredient_groups.fit_variants.Goals as goal
 
 pub numbers_within-requires : goal.numbers_within-requires
 numbers_within-requires c =
