@@ -1,32 +1,30 @@
 //! What the things of a game are listed under: the numbers of the goods, recipes and categories that each is about.
-ghost use Rattle.std.specs.Prelude.{◌≡◌, ℕ, ◌==◌, ◌&&◌, IfOk, false, slice_get};
+ghost use Rattle.std.specs.Prelude.{◌≡◌, ℕ, ◌==◌, IfOk};
 ghost use Rattle.std.specs.List.{list_any};
-ghost use Rattle.std.specs.Option.{option_copied, option_to_list};
+ghost use Rattle.std.specs.Option.{option_to_list};
 ghost use Rattle.game_types.specs.Making.{gives};
 ghost use Rattle.game_types.specs.Temperatures.{is_good};
 ghost use Rattle.depend_index.specs.Goods.{puts_out};
-ghost use Rattle.depend_index.specs.Machines.{is_machine, names_good};
-ghost use Rattle.depend_index.specs.Kinds.{crafts_all_of, crafts_alone, has_category, is_drill_of, is_fuel_of, takes};
+ghost use Rattle.depend_index.specs.Machines.{is_machine};
+ghost use Rattle.depend_index.specs.Kinds.{is_fuel_of};
 ghost use Rattle.node_lists.specs.Lists.{is_among};
 
-use crate::listed::fixed;
 use crate::products::is_expected;
 use fractions::is_positive;
-use game_types::{Fluid, Fuel, Item, Machine, MachineKind, Product, Recipe, Source, Tech, holds};
+use game_types::{Fluid, Fuel, Item, Machine, MachineKind, Product, Recipe, Source, Tech};
 use node_lists::Keys;
 use plan_base::{EntityId, GoodId, NoMemory, RecipeId};
 use std::alloc::Global;
 
-// ---- what things are about
-
-fn copied(alloc: Global, numbers: &[u32]) -> Result<Vec<u32>, NoMemory>
+/// The same numbers.
+pub fn copied(alloc: Global, numbers: &[u32]) -> Result<Vec<u32>, NoMemory>
     ensures { IfOk result (λ copy. copy.items ≡ numbers.now) }
 {
     Ok(Vec::from_slice(alloc, numbers)?)
 }
 
-// A number, where there is one.
-fn one_number(alloc: Global, number: Option<u32>) -> Result<Vec<u32>, NoMemory>
+/// A number, where there is one.
+pub fn one_number(alloc: Global, number: Option<u32>) -> Result<Vec<u32>, NoMemory>
     ensures { IfOk result (λ numbers. numbers.items ≡ option_to_list number) }
 {
     let mut numbers = Vec::new(alloc);
@@ -155,119 +153,6 @@ impl Keys<Item> for Placed {
     }
 }
 
-// The categories of which machines craft all recipes.
-#[derive(Drop)]
-pub struct CraftedByCategory;
-
-fn categories_crafted(alloc: Global, kind: &MachineKind) -> Result<Vec<u32>, NoMemory>
-    ensures { IfOk result (λ numbers. (k : ℕ) → is_among numbers.items k ≡ crafts_all_of kind.now k) }
-{
-    match kind {
-        MachineKind::Crafter {
-            categories,
-            fixed: None,
-            ..
-        } => copied(alloc, categories.as_slice()),
-        _ => one_number(alloc, None),
-    }
-}
-
-impl Keys<Machine> for CraftedByCategory {
-    ghost about = { λ _ machine category. crafts_all_of machine.kind category };
-
-    fn keys(&self, alloc: Global, machine: &Machine) -> Result<Vec<u32>, NoMemory> {
-        categories_crafted(alloc, &machine.kind)
-    }
-}
-
-// The recipes that machines craft alone.
-#[derive(Drop)]
-pub struct CraftedAlone<'a> {
-    pub recipes: &'a [Recipe],
-}
-
-fn has_category(categories: &[u32], recipe: Option<&Recipe>) -> bool
-    ensures { result ≡ has_category categories.now (option_copied recipe.entry) }
-{
-    match recipe {
-        Some(recipe) => holds(categories, recipe.category),
-        None => false,
-    }
-}
-
-fn number_fixed(
-    alloc: Global,
-    recipes: &[Recipe],
-    categories: &[u32],
-    fixed: RecipeId,
-) -> Result<Vec<u32>, NoMemory>
-    ensures { IfOk result (λ numbers. (k : ℕ) → is_among numbers.items k ≡ ((fixed.0 == k) && has_category categories.now (slice_get recipes.now k))) }
-{
-    if has_category(categories, recipes.get(fixed.0 as usize)) {
-        one_number(alloc, Some(fixed.0))
-    } else {
-        one_number(alloc, None)
-    }
-}
-
-fn recipe_crafted(
-    alloc: Global,
-    recipes: &[Recipe],
-    kind: &MachineKind,
-) -> Result<Vec<u32>, NoMemory>
-    ensures { IfOk result (λ numbers. (k : ℕ) → is_among numbers.items k ≡ crafts_alone recipes.now kind.now k) }
-{
-    match kind {
-        MachineKind::Crafter {
-            categories,
-            fixed: Some(fixed),
-            ..
-        } => number_fixed(alloc, recipes, categories.as_slice(), *fixed),
-        _ => one_number(alloc, None),
-    }
-}
-
-impl Keys<Machine> for CraftedAlone<'_> {
-    ghost about = { λ t machine number. crafts_alone t.recipes.now machine.kind number };
-
-    fn keys(&self, alloc: Global, machine: &Machine) -> Result<Vec<u32>, NoMemory> {
-        recipe_crafted(alloc, self.recipes, &machine.kind)
-    }
-}
-
-// The categories of drills, with a box for a fluid where one is wanted.
-#[derive(Drop)]
-pub struct Drilled {
-    pub boxed: bool,
-}
-
-fn categories_drilled(alloc: Global, boxed: bool, kind: &MachineKind) -> Result<Vec<u32>, NoMemory>
-    ensures { IfOk result (λ numbers. (k : ℕ) → is_among numbers.items k ≡ is_drill_of boxed kind.now k) }
-{
-    match kind {
-        MachineKind::Drill {
-            categories,
-            fluid_box,
-            ..
-        } => {
-            if !boxed || *fluid_box {
-                copied(alloc, categories.as_slice())
-            } else {
-                one_number(alloc, None)
-            }
-        }
-        _ => one_number(alloc, None),
-    }
-}
-
-impl Keys<Machine> for Drilled {
-    ghost about = { λ t machine category. is_drill_of t.boxed machine.kind category };
-
-    fn keys(&self, alloc: Global, machine: &Machine) -> Result<Vec<u32>, NoMemory> {
-        categories_drilled(alloc, self.boxed, &machine.kind)
-    }
-}
-
 // The categories of fuels that have any energy.
 #[derive(Drop)]
 pub struct Burnt;
@@ -292,36 +177,5 @@ impl Keys<Item> for Burnt {
 
     fn keys(&self, alloc: Global, item: &Item) -> Result<Vec<u32>, NoMemory> {
         category_of_fuel(alloc, item.fuel)
-    }
-}
-
-// The goods that labs take.
-#[derive(Drop)]
-pub struct Taken;
-
-fn numbers_of_goods(alloc: Global, goods: &[GoodId]) -> Result<Vec<u32>, NoMemory>
-    ensures { IfOk result (λ numbers. (k : ℕ) → is_among numbers.items k ≡ names_good goods.now k) }
-{
-    let mut numbers = Vec::new(alloc);
-    for good in goods {
-        numbers.push(good.0)?;
-    }
-    Ok(numbers)
-}
-
-fn goods_taken(alloc: Global, kind: &MachineKind) -> Result<Vec<u32>, NoMemory>
-    ensures { IfOk result (λ numbers. (k : ℕ) → is_among numbers.items k ≡ takes kind.now k) }
-{
-    match kind {
-        MachineKind::Lab { inputs, .. } => numbers_of_goods(alloc, inputs.as_slice()),
-        _ => one_number(alloc, None),
-    }
-}
-
-impl Keys<Machine> for Taken {
-    ghost about = { λ _ machine good. takes machine.kind good };
-
-    fn keys(&self, alloc: Global, machine: &Machine) -> Result<Vec<u32>, NoMemory> {
-        goods_taken(alloc, &machine.kind)
     }
 }

@@ -6,6 +6,7 @@ mod index;
 mod keys;
 mod kinds;
 mod listed;
+mod machine_keys;
 mod marks;
 mod noting;
 mod places;

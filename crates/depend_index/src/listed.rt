@@ -11,9 +11,8 @@ ghost use Rattle.node_lists.specs.Lists.{AreAllLists, AreLists, HoldThose};
 ghost use Rattle.node_lists.specs.Words.{AreWords};
 ghost use Rattle.depend_index.specs.Coolest.{AreSorted};
 
-use crate::keys::{
-    Burnt, CraftedAlone, CraftedByCategory, Drilled, Given, Placed, Taken, Unlocked,
-};
+use crate::keys::{Burnt, Given, Placed, Unlocked};
+use crate::machine_keys::{CraftedAlone, CraftedByCategory, Drilled, Taken};
 use crate::places::{
     first_fluid, first_machine, first_recipe, first_source, first_tech, good_count,
 };
