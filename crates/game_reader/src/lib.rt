@@ -8,6 +8,7 @@ mod keys;
 mod laws;
 mod links;
 mod machines;
+mod prototype_lists;
 mod ways;
 
 pub use dump::read_dump;

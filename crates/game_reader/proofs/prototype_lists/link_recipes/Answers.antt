@@ -1,6 +1,6 @@
 use Rattle.std.proofs.Common.{◌∙◌}
 use Rattle.game_reader.proofs.Loops.{linked_first, linked_more, linked_fails}
-use Rattle.game_reader.proofs.links.link_recipes.Goals as goal
+use Rattle.game_reader.proofs.prototype_lists.link_recipes.Goals as goal
 
 pub loop-recipe-init : goal.loop-recipe-init
 loop-recipe-init c =

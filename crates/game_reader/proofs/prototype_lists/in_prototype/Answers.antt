@@ -1,7 +1,7 @@
 use Rattle.std.proofs.Common.{sym}
 use Rattle.craft_reader.proofs.FaultsLemmas.{placed_fault}
 use Rattle.machine_reader.specs.Sections.{section_text}
-use Rattle.game_reader.proofs.links.in_prototype.Goals as goal
+use Rattle.game_reader.proofs.prototype_lists.in_prototype.Goals as goal
 
 pub returns-in-Err : goal.returns-in-Err
 returns-in-Err g c = λ meant gives.
