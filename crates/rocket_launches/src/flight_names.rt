@@ -4,7 +4,6 @@ ghost use Rattle.std.specs.Option.{MatchOption};
 ghost use Rattle.game_types.specs.Sound.{IsSound};
 ghost use Rattle.rocket_launches.specs.Clashes.{cargo_named, dumped_flight, earlier_of, flight_cut, flight_named, is_before, later_of, least_below, least_in, silo_named, sooner};
 
-use crate::clashes::behind;
 use crate::silos::{Flight, Silo, cargo_of, silo_of};
 use game_types::Game;
 use plan_base::{EntityId, GoodId};

@@ -2,6 +2,7 @@
 #![tactic(auto)]
 
 mod adding;
+mod cargo_middles;
 mod clashes;
 mod flight_names;
 mod launches;

@@ -1,6 +1,6 @@
 use Rattle.std.proofs.Common.{◌∙◌, None, Some, sym}
 use Rattle.rocket_launches.proofs.Clashing.{ends_past, ends_rest}
-use Rattle.rocket_launches.proofs.clashes.ends_with.Goals as goal
+use Rattle.rocket_launches.proofs.cargo_middles.ends_with.Goals as goal
 
 pub returns-in-Some-cargo_named : goal.returns-in-Some-cargo_named
 returns-in-Some-cargo_named c =

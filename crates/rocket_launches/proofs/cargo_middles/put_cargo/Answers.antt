@@ -1,7 +1,7 @@
 use Rattle.std.proofs.Common.{◌∙◌, ◌≤◌, length, arith}
 use Rattle.rocket_launches.specs.Clashes.{ends_at}
 use Rattle.rocket_launches.proofs.MiddleEnds.{at_end}
-use Rattle.rocket_launches.proofs.clashes.put_cargo.Goals as goal
+use Rattle.rocket_launches.proofs.cargo_middles.put_cargo.Goals as goal
 
 pub returns-clause-put : goal.returns-clause-put
 returns-clause-put c = λ middle.

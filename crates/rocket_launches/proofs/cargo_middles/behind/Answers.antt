@@ -1,7 +1,7 @@
 use Rattle.std.proofs.Common.{◌∙◌, ◌++◌, ap, sym, arith}
 use Rattle.std.proofs.lemmas.Str.Pattern.{strip_prefix_char}
 use Rattle.rocket_launches.proofs.Clashing.{behind_front}
-use Rattle.rocket_launches.proofs.clashes.behind.Goals as goal
+use Rattle.rocket_launches.proofs.cargo_middles.behind.Goals as goal
 
 pub returns-in-Some : goal.returns-in-Some
 returns-in-Some c =

@@ -1,7 +1,7 @@
 use Rattle.std.proofs.Common.{sym}
 use Rattle.rocket_launches.specs.Clashes.{ends_at}
 use Rattle.rocket_launches.proofs.MiddleEnds.{no_colon, no_rest, ok_both, some_rest}
-use Rattle.rocket_launches.proofs.clashes.put_cut.Goals as goal
+use Rattle.rocket_launches.proofs.cargo_middles.put_cut.Goals as goal
 
 pub returns-in-Some-cargo_named-clause-put : goal.returns-in-Some-cargo_named-clause-put
 returns-in-Some-cargo_named-clause-put c =

@@ -1,6 +1,6 @@
 use Rattle.std.proofs.Common.{◌≡◌, ℕ, List}
 use Rattle.rocket_launches.specs.Clashes.{IsWithin, ends_at, ends_among}
-use Rattle.rocket_launches.proofs.clashes.middles_of.Given as goal
+use Rattle.rocket_launches.proofs.cargo_middles.middles_of.Given as goal
 
 abbrev pub invariant-loop-good : goal.invariant-loop-good
 invariant-loop-good l = record {

@@ -1,7 +1,7 @@
 use Rattle.std.proofs.Common.{◌≡◌, ℕ, List, length}
 use Rattle.std.specs.Prelude.{nat_lt, if◌then◌else◌}
 use Rattle.rocket_launches.specs.Clashes.{IsWithin, ends_at, ends_with, joined}
-use Rattle.rocket_launches.proofs.clashes.put_cargo.Given as goal
+use Rattle.rocket_launches.proofs.cargo_middles.put_cargo.Given as goal
 
 abbrev pub invariant-loop-place : goal.invariant-loop-place
 invariant-loop-place l = record {

@@ -1,7 +1,7 @@
 use Rattle.std.proofs.Common.{◌∙◌, ap, get_or, sym}
 use Rattle.rocket_launches.specs.Clashes.{ends_with, joined}
 use Rattle.rocket_launches.proofs.MiddleEnds.{among_none, among_one}
-use Rattle.rocket_launches.proofs.clashes.middles_of.Goals as goal
+use Rattle.rocket_launches.proofs.cargo_middles.middles_of.Goals as goal
 
 pub loop-good-init : goal.loop-good-init
 loop-good-init c = record {
