@@ -9,7 +9,8 @@ ghost use Rattle.fractions.specs.Leading.{IsLeading, near_exponent, near_place};
 ghost use Rattle.fractions.specs.Quotient.{Quotient, WritesQuotient};
 ghost use Rattle.fractions.specs.Reading.{GivesNumeral, GivesMagnitude, GivesQuotient, ReadsNumeral, ReadsRatio};
 
-use crate::ratio::{Ratio, reduced};
+use crate::arithmetic::reduced;
+use crate::ratio::Ratio;
 use crate::split::{Written, WrittenQuotient, numeral_parts, quotient_parts};
 use thiserror::Error;
 

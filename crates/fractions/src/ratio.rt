@@ -1,23 +1,16 @@
-//! Fractions in lowest terms: arithmetic, order, text.
-
-ghost use Rattle.std.specs.Prelude.{◌≡◌, ℕ, ◌+◌, ◌*◌, ◌/◌, ◌<◌, ◌≤◌, ◌^◌, ℤ, pos, ◌+ℤ◌, ◌*ℤ◌, neg_ℤ, ◌≤ℤ◌, ◌<ℤ◌, int_div, unsigned_abs, IsTrue, ◌↔◌, ◌≢◌, IfOk, string_bytes, length, slice_index};
-ghost use Rattle.std.specs.Result.{OkIff};
+//! Fractions in lowest terms: their parts, order and text.
+ghost use Rattle.std.specs.Prelude.{◌≡◌, ◌<◌, ◌≤◌, ◌^◌, ℤ, pos, ◌<ℤ◌, unsigned_abs, IsTrue, ◌↔◌, IfOk};
 ghost use Rattle.std.specs.Option.{SomeIff};
-ghost use Rattle.std.specs.Int.{IsInRange};
-ghost use Rattle.std.specs.Str.Parse.{AllDigits, digits_value};
-ghost use Rattle.fractions.specs.Gcd.{gcd};
-ghost use Rattle.std.specs.Ordering.{nat_cmp, MatchOrdering};
-ghost use Rattle.fractions.specs.Fraction.{frac, ◌*ʳ◌, ◌+ʳ◌, ◌-ʳ◌, ◌/ʳ◌, ◌<ʳ◌, ◌≤ʳ◌, whole_fraction, negated, inverse, zero_fraction, one_fraction};
+ghost use Rattle.std.specs.Ordering.{MatchOrdering};
+ghost use Rattle.fractions.specs.Fraction.{frac, ◌<ʳ◌, ◌≤ʳ◌, whole_fraction, zero_fraction, one_fraction};
 ghost use Rattle.fractions.specs.Compare.{are_same};
-ghost use Rattle.fractions.specs.Limits.{IsNarrow, SumFits, DifferenceFits, IsBelow};
+ghost use Rattle.fractions.specs.Limits.{IsBelow};
 ghost use Rattle.fractions.specs.Print.{printed};
 ghost use Rattle.fractions.specs.Stored.{IsStored};
 
+use crate::arithmetic::reduced;
 use crate::small::Small;
-use crate::whole::{
-    compare_parts, divided, greatest_common_divisor, natural_product, rounded_up, whole_product,
-    whole_sum,
-};
+use crate::whole::{compare_parts, rounded_up};
 use plan_base::{NoMemory, Text};
 use std::alloc::Global;
 use std::cmp::Ordering;
@@ -96,7 +89,7 @@ impl Ratio {
     }
 
     // The same fraction on 64 bits, where both parts are below 2^62.
-    fn small(&self) -> Option<Small>
+    pub(crate) fn small(&self) -> Option<Small>
         ensures { SomeIff result (IsBelow 62 self.now) self.now }
     {
         let numerator = self.numerator();
@@ -112,7 +105,7 @@ impl Ratio {
     }
 
     // The denominator as an unsigned number.
-    fn natural_denominator(&self) -> u128
+    pub(crate) fn natural_denominator(&self) -> u128
         ensures value { result ≡ self.now.den }
         ensures narrow { result < 2 ^ 127 }
     {
@@ -195,12 +188,6 @@ impl Ratio {
         self.numerator() == 0
     }
 
-    pub fn neg(&self) -> Ratio
-        ensures { result ≡ negated self.now }
-    {
-        Ratio::stored(-self.numerator(), self.natural_denominator())
-    }
-
     /// How two fractions compare.
     pub fn cmp(&self, other: &Ratio) -> Ordering
         ensures { MatchOrdering result (self.now <ʳ other.now) (self.now ≡ other.now) (other.now <ʳ self.now) }
@@ -234,41 +221,6 @@ impl Ratio {
         }
     }
 
-    /// The product.
-    ///
-    /// # Errors
-    ///
-    /// `Wide` exactly where the product's lowest terms do not fit.
-    pub fn mul(&self, other: &Ratio) -> Result<Ratio, Wide>
-        ensures { OkIff result (IsNarrow (self.now *ʳ other.now)) (self.now *ʳ other.now) }
-    {
-        if let Some(first) = self.small() {
-            if let Some(second) = other.small() {
-                return Ok(first.product(&second));
-            }
-        }
-        self.long_product(other)
-    }
-
-    // The same for parts of any size: each numerator is divided by what it has in common with the other denominator.
-    fn long_product(&self, other: &Ratio) -> Result<Ratio, Wide>
-        ensures { OkIff result (IsNarrow (self.now *ʳ other.now)) (self.now *ʳ other.now) }
-    {
-        let a = self.numerator();
-        let b = self.natural_denominator();
-        let c = other.numerator();
-        let d = other.natural_denominator();
-        let left = greatest_common_divisor(a.unsigned_abs(), d);
-        let right = greatest_common_divisor(c.unsigned_abs(), b);
-        let Ok(top) = whole_product(divided(a, left), divided(c, right)) else {
-            return Err(Wide);
-        };
-        let Ok(bottom) = natural_product(b / right, d / left) else {
-            return Err(Wide);
-        };
-        Ok(Ratio::stored(top, bottom))
-    }
-
     /// The least whole number that is not below.
     pub fn ceil(&self) -> Ratio
         ensures whole { result.den ≡ 1 }
@@ -295,94 +247,4 @@ impl Ratio {
         };
         Ok(Text::from_string(text))
     }
-
-    // One over a fraction that is not 0.
-    fn inverse(&self) -> Ratio
-        requires { self.now ≢ zero_fraction }
-        ensures { result ≡ inverse self.now }
-    {
-        let n = self.numerator();
-        let d = self.natural_denominator() as i128;
-        if n < 0 {
-            Ratio::stored(-d, n.unsigned_abs())
-        } else {
-            Ratio::stored(d, n.unsigned_abs())
-        }
-    }
-
-    pub fn div(&self, other: &Ratio) -> Result<Ratio, Wide>
-        requires { other.now ≢ zero_fraction }
-        ensures { OkIff result (IsNarrow (self.now /ʳ other.now)) (self.now /ʳ other.now) }
-    {
-        self.mul(&other.inverse())
-    }
-
-    /// The sum. Both fractions are written over their least common denominator.
-    ///
-    /// # Errors
-    ///
-    /// `Wide` exactly where that denominator, a numerator over it, or the sum of the two is 2^127 or more in magnitude. So
-    /// it never comes where all parts are below 2^62 (`field_laws::sums_of_small_parts`).
-    pub fn add(&self, other: &Ratio) -> Result<Ratio, Wide>
-        ensures { OkIff result (SumFits self.now other.now) (self.now +ʳ other.now) }
-    {
-        if let Some(first) = self.small() {
-            if let Some(second) = other.small() {
-                return Ok(first.sum(&second));
-            }
-        }
-        self.long_sum(other)
-    }
-
-    // The same for parts of any size.
-    fn long_sum(&self, other: &Ratio) -> Result<Ratio, Wide>
-        ensures { OkIff result (SumFits self.now other.now) (self.now +ʳ other.now) }
-    {
-        let b = self.natural_denominator();
-        let d = other.natural_denominator();
-        let common = greatest_common_divisor(b, d);
-        let b_factor = d / common;
-        let d_factor = b / common;
-        let Ok(_) = natural_product(b, b_factor) else {
-            return Err(Wide);
-        };
-        let Ok(first) = whole_product(self.numerator(), b_factor as i128) else {
-            return Err(Wide);
-        };
-        let Ok(second) = whole_product(other.numerator(), d_factor as i128) else {
-            return Err(Wide);
-        };
-        let Ok(top) = whole_sum(first, second) else {
-            return Err(Wide);
-        };
-        let shared = greatest_common_divisor(top.unsigned_abs(), common);
-        Ok(Ratio::stored(divided(top, shared), d_factor * (d / shared)))
-    }
-
-    pub fn sub(&self, other: &Ratio) -> Result<Ratio, Wide>
-        ensures { OkIff result (DifferenceFits self.now other.now) (self.now -ʳ other.now) }
-    {
-        self.add(&other.neg())
-    }
-
-    /// The value of `t - u*v`.
-    pub fn sub_mul(t: &Ratio, u: &Ratio, v: &Ratio) -> Result<Ratio, Wide>
-        ensures { OkIff result (IsNarrow (u.now *ʳ v.now) × DifferenceFits t.now (u.now *ʳ v.now)) (t.now -ʳ u.now *ʳ v.now) }
-    {
-        let Ok(product) = u.mul(v) else {
-            return Err(Wide);
-        };
-        t.sub(&product)
-    }
-}
-
-/// A fraction of any two numbers below the limit, brought to lowest terms.
-pub fn reduced(top: i128, bottom: u128) -> Ratio
-    requires positive { 0 < bottom }
-    requires narrow_top { unsigned_abs top < 2 ^ 127 }
-    requires narrow_bottom { bottom < 2 ^ 127 }
-    ensures { result ≡ frac top bottom }
-{
-    let common = greatest_common_divisor(top.unsigned_abs(), bottom);
-    Ratio::stored(divided(top, common), bottom / common)
 }

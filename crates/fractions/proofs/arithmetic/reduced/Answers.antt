@@ -1,6 +1,6 @@
 use Rattle.std.proofs.Common.{◌∙◌}
 use Rattle.fractions.proofs.Lowest.{reduced_parts}
-use Rattle.fractions.proofs.ratio.reduced.Goals as goal
+use Rattle.fractions.proofs.arithmetic.reduced.Goals as goal
 
 pub stored-requires : goal.stored-requires
 stored-requires c =
