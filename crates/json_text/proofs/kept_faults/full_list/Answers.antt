@@ -1,7 +1,7 @@
 use Rattle.std.proofs.Common.{◌∙◌, sym, arith, inl, inr}
 use Rattle.json_text.proofs.Lexed.{said}
 use Rattle.json_text.proofs.SpanLemmas.{from-full-open, from-full-deep, from-full-scalar, from-full-other}
-use Rattle.json_text.proofs.read.full_list.Goals as goal
+use Rattle.json_text.proofs.kept_faults.full_list.Goals as goal
 
 pub returns-then-depth-lt-MAX_OPEN : goal.returns-then-depth-lt-MAX_OPEN
 returns-then-depth-lt-MAX_OPEN c = λ w n f fs d full. from-full-open w c.args.bytes.now c.args.at n f fs (omega arith) (elim c.in-OpenList.is [ inl e ↦ inl (sym c.class_of.ensures ∙ e) | inr e ↦ inr (sym c.class_of.ensures ∙ e) ]) (omega (arith, d)) full ∙ said _ _ _ _ c.too_many.ensures.code c.too_many.ensures.at

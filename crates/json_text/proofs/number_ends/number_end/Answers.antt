@@ -3,7 +3,7 @@ use Rattle.std.specs.Prelude.{slice_range}
 use Rattle.json_text.proofs.Lexed.{from-number-ends, ok_then, err_then}
 use Rattle.json_text.proofs.Cuts.{number_whole, number_stops_at}
 use Rattle.json_text.proofs.Digits.{still_no_minus, number_further, from-phases}
-use Rattle.json_text.proofs.literals.number_end.Goals as goal
+use Rattle.json_text.proofs.number_ends.number_end.Goals as goal
 
 pub returns-then-stops_before-clause-numeral : goal.returns-then-stops_before-clause-numeral
 returns-then-stops_before-clause-numeral c =

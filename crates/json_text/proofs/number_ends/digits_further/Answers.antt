@@ -2,7 +2,7 @@ use Rattle.std.proofs.Common.{arith, ◌+◌}
 use Rattle.std.specs.Prelude.{slice_range}
 use Rattle.json_text.specs.declared.number.Phase.TheVariants.{Fraction}
 use Rattle.json_text.proofs.Digits.{fraction_on, phases_join}
-use Rattle.json_text.proofs.literals.digits_further.Goals as goal
+use Rattle.json_text.proofs.number_ends.digits_further.Goals as goal
 
 pub returns-then-has_point-clause-phases : goal.returns-then-has_point-clause-phases
 returns-then-has_point-clause-phases c =

@@ -5,7 +5,7 @@ use Rattle.json_text.proofs.Lexed.{from-digit, from-number-ends, from-number-end
 use Rattle.std.proofs.Common.{subst, length, ◌<◌, ◌≤◌}
 use Rattle.json_text.specs.Cutting.{NumberCut}
 use Rattle.json_text.proofs.Cuts.{number_more_at, number_whole, number_stops_at, number_cut, stops_at_end}
-use Rattle.json_text.proofs.literals.number_rest.Goals as goal
+use Rattle.json_text.proofs.number_ends.number_rest.Goals as goal
 
 pub loop-i-preserved : goal.loop-i-preserved
 loop-i-preserved c = record {

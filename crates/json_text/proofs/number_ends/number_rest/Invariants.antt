@@ -4,7 +4,7 @@ use Rattle.json_text.specs.Cutting.{NumberTo}
 use Rattle.json_text.specs.Kept.{Wishes}
 use Rattle.json_text.specs.Machine.{Frame, in_number, from}
 use Rattle.json_text.specs.declared.number.Phase.TheVariants.{Minus}
-use Rattle.json_text.proofs.literals.number_rest.Given as goal
+use Rattle.json_text.proofs.number_ends.number_rest.Given as goal
 
 abbrev pub invariant-loop-i : goal.invariant-loop-i
 invariant-loop-i l = record {
