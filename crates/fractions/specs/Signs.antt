@@ -1,5 +1,5 @@
 -- The sign of a fraction is that of its numerator, since its denominator is above 0: tests that definitions cite.
-use Rattle.std.specs.Prelude.{ℕ, ◌==◌, Bool, true, false, ℤ, pos, negsuc, nat_lt}
+use Rattle.std.specs.Prelude.{◌==◌, Bool, true, false, ℤ, pos, negsuc, nat_lt}
 use Rattle.fractions.specs.Fraction.{Fraction}
 
 -- whether a number is above 0
