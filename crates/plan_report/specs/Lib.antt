@@ -4,4 +4,5 @@ pub mod Replies
 pub mod Layout
 pub mod Nodes
 pub mod Questions
+pub mod RankEnds
 pub mod Words

@@ -1,5 +1,5 @@
 //! Words as they are printed.
-ghost use Rattle.std.specs.Prelude.{◌≡◌, ◌++◌, ◌∷◌, not, IfOk, OnOk, encode_utf8, string_bytes};
+ghost use Rattle.std.specs.Prelude.{◌≡◌, ◌++◌, ◌∷◌, [], not, IfOk, OnOk, encode_utf8, string_bytes};
 ghost use Rattle.std.specs.List.{flat_map, list_all};
 ghost use Rattle.script_reader.specs.Fields.{kind_word};
 ghost use Rattle.plan_report.specs.Words.{in_quotes, is_bare, needs_quotes, object_word, printed_word, quoted};
@@ -25,13 +25,23 @@ pub fn kind_word(kind: Kind) -> &'static str
 fn needs_quotes(byte: u8) -> bool
     ensures { result ≡ needs_quotes byte }
 {
-    byte == b' ' || byte == b'\t' || byte == b'\n' || byte == b'\r' || byte == b'"' || byte == b'\\'
+    (byte == b' ')
+        | (byte == b'\t')
+        | (byte == b'\n')
+        | (byte == b'\r')
+        | (byte == b'"')
+        | (byte == b'\\')
 }
 
+// Whether no byte needs quotes. Each is looked at, with no branch between them, so that many are looked at at once.
 fn need_no_quotes(bytes: &[u8]) -> bool
     ensures { result ≡ list_all (λ byte. not (needs_quotes byte)) bytes.now }
 {
-    bytes.iter().all(|byte| !needs_quotes(*byte))
+    let mut plain = true;
+    for byte in bytes {
+        plain = plain & !needs_quotes(*byte);
+    }
+    plain
 }
 
 // Whether the word is printed as it is.
@@ -99,12 +109,26 @@ pub fn printed_word(alloc: Global, word: &str) -> Result<String, AllocError>
     Ok(text)
 }
 
+// The kind of an object and the colon behind it.
+fn kind_start(kind: Kind) -> &'static str
+    ensures { result.now ≡ kind_word kind ++ 58 ∷ [] }
+{
+    match kind {
+        Kind::Special => "special:",
+        Kind::Item => "item:",
+        Kind::Fluid => "fluid:",
+        Kind::Recipe => "recipe:",
+        Kind::Source => "source:",
+        Kind::Machine => "machine:",
+        Kind::Tech => "tech:",
+    }
+}
+
 // Puts the name of an object behind a text as it is.
 fn push_bare_object(text: &mut String, kind: Kind, name: &str) -> Result<(), AllocError>
     ensures { OnOk result (string_bytes text.new ≡ string_bytes text.old ++ (kind_word kind ++ 58 ∷ name.now)) }
 {
-    text.push_str(kind_word(kind))?;
-    text.push_str(":")?;
+    text.push_str(kind_start(kind))?;
     text.push_str(name)
 }
 
