@@ -4,6 +4,7 @@ use Rattle.std.specs.Global.{Global}
 use Rattle.fractions.specs.Fraction.{Fraction}
 use Rattle.plan_base.specs.declared.ids.GoodId.{GoodId}
 use Rattle.game_types.specs.declared.effects.Wide.{Wide}
+use Rattle.table_rows.specs.declared.contributions.RowColumn.{RowColumn}
 use Rattle.table_rows.specs.declared.faults.RowFault.{RowFault}
 use Rattle.table_rows.specs.declared.faults.RowFault.TheVariants.{Wide as WideRow}
 
@@ -16,3 +17,8 @@ Extends meant (Err fault) new = (wide : Wide) → fault ≡ WideRow wide → mea
 abbrev pub GivesColumn : Result (List (GoodId × Fraction)) Wide → Result (Vec (GoodId × Fraction) Global) RowFault → Type 0
 GivesColumn meant (Ok column) = meant ≡ Ok column.items
 GivesColumn meant (Err fault) = (wide : Wide) → fault ≡ WideRow wide → meant ≡ Err wide
+
+-- a whole column that comes with the figures of its row
+abbrev pub GivesRow : Result (List (GoodId × Fraction)) Wide → Result RowColumn RowFault → Type 0
+GivesRow meant (Ok row) = meant ≡ Ok row.column.items
+GivesRow meant (Err fault) = (wide : Wide) → fault ≡ WideRow wide → meant ≡ Err wide

@@ -1,9 +1,9 @@
-//! The column of a row.
-ghost use Rattle.std.specs.Prelude.{◌≡◌, ◌<◌, ◌∷◌, ◌++◌, IfSome, length, map};
+//! The column of a row, and its figures.
+ghost use Rattle.std.specs.Prelude.{◌≡◌, ◌<◌, ◌∷◌, ◌++◌, IfOk, IfSome, Ok, length, map};
 ghost use Rattle.fractions.specs.Fraction.{one_fraction};
 ghost use Rattle.game_types.specs.Sound.{IsItem, IsSound, IsSoundActivity, IsSoundSetup};
-ghost use Rattle.table_rows.specs.Answers.{Extends, GivesColumn};
-ghost use Rattle.table_rows.specs.Columns.{activity_parts, burnt_parts, column_of, contributions, drawn, drawn_where, fuel_parts, given, gives, input_taken, pack_taken, source_fluid, summed, taken, takes};
+ghost use Rattle.table_rows.specs.Answers.{Extends, GivesColumn, GivesRow};
+ghost use Rattle.table_rows.specs.Columns.{activity_parts, burnt_parts, column_of, contributions, drawn, drawn_where, figures_of, fuel_parts, given, gives, input_taken, pack_taken, source_fluid, summed, taken, takes};
 ghost use Rattle.table_rows.specs.Setups.{IsFitting};
 ghost use Rattle.research_rows.specs.Research.{tech_at};
 
@@ -15,7 +15,7 @@ use crate::given_taken::{
 use crate::rates::{RowRates, rates_of_row};
 use beacon_effects::beacon_power;
 use fractions::Ratio;
-use game_types::{Activity, Game, Rates, Recipe, Setup, Source};
+use game_types::{Activity, Effects, Game, Rates, Recipe, Setup, Source};
 use plan_base::{GoodId, TechId};
 use power_rows::{Input, draw_of, input_of};
 use std::alloc::Global;
@@ -226,7 +226,40 @@ fn add_draw_where(
     }
 }
 
-#[tactic(auto, using(crate::proofs::Fitting::beacons_fit), unfolding(crate::specs::Columns::column_of))]
+/// The column of a set-up, and what its row is asked for alone.
+#[derive(Drop)]
+pub struct RowColumn {
+    /// What one craft a second adds to each good that the row mentions, in the order of goods.
+    pub column: Vec<(GoodId, Ratio)>,
+    /// The effects on the machine, what one craft a second takes, and the power of the beacons of each machine, in watts.
+    pub figures: (Effects, Rates, Ratio),
+}
+
+#[tactic(auto, using(crate::proofs::Fitting::beacons_fit), unfolding(crate::specs::Columns::column_of, crate::specs::Columns::figures_of))]
+/// The column of a set-up in a table that balances its electric power, or doesn't, with what `row_rates` gives of the set-up:
+/// the rates of the row are worked out once for both.
+///
+/// # Errors
+///
+/// `Wide` with the first step of the column that is past the limits of fractions, exactly where there is one and memory could
+/// be had.
+pub fn row_of(alloc: Global, game: &Game, power: bool, setup: &Setup) -> Result<RowColumn, RowFault>
+    requires sound { IsSound game.now }
+    requires setup { IsFitting game.now setup.now }
+    ensures column { GivesRow (column_of game.now power setup.now) result }
+    ensures figures { IfOk result (λ row. figures_of game.now setup.now ≡ Ok row.figures) }
+{
+    let row = rates_of_row(game, setup)?;
+    let mut column = Vec::new(alloc);
+    add_contributions(&mut column, game, setup, &row)?;
+    let beacons = beacon_power(game, setup)?;
+    add_draw_where(power, &mut column, game, &row.rates, &beacons)?;
+    Ok(RowColumn {
+        column,
+        figures: (row.effects, row.rates, beacons),
+    })
+}
+
 /// The column of a set-up in a table that balances its electric power, or doesn't: what one craft a second adds to each good
 /// that the row mentions, in the order of goods.
 ///
@@ -243,10 +276,8 @@ pub fn column_of(
     requires setup { IsFitting game.now setup.now }
     ensures { GivesColumn (column_of game.now power setup.now) result }
 {
-    let row = rates_of_row(game, setup)?;
-    let mut column = Vec::new(alloc);
-    add_contributions(&mut column, game, setup, &row)?;
-    let beacons = beacon_power(game, setup)?;
-    add_draw_where(power, &mut column, game, &row.rates, &beacons)?;
-    Ok(column)
+    match row_of(alloc, game, power, setup) {
+        Ok(row) => Ok(row.column),
+        Err(fault) => Err(fault),
+    }
 }

@@ -10,7 +10,7 @@ mod rates;
 mod setups;
 
 pub use columns::{has_at, place_in};
-pub use contributions::column_of;
+pub use contributions::{RowColumn, column_of, row_of};
 pub use faults::{RowFault, SetupFault};
 pub use rates::{RowRates, rates_of_row, row_rates};
 pub use setups::check_setup;
