@@ -1,18 +1,22 @@
 -- The loops of linear forms.
 use Rattle.std.proofs.Common.{◌≡◌, ◌∙◌, ◌≤◌, ◌+◌, ◌++◌, ℕ, List, [], ◌∷◌, length, drop, arith, append_assoc, refl, sym, ap, subst, Result}
+use Rattle.std.proofs.lemmas.List.{map-append}
 use Rattle.std.specs.Prelude.{map, Bool, true, false, Ok, Err, if◌then◌else◌}
 use Rattle.fractions.specs.Fraction.{Fraction}
 use Rattle.plan_base.specs.declared.denied.Denied.{Denied}
 use Rattle.plan_base.specs.declared.ids.GoodId.{GoodId}
 use Rattle.plan_base.specs.Outcomes.{Gives, IsRefused}
+use Rattle.game_types.specs.declared.effects.Effects.{Effects}
+use Rattle.game_types.specs.declared.effects.Rates.{Rates}
+use Rattle.game_types.specs.declared.effects.Wide.{Wide}
 use Rattle.game_types.specs.declared.games.Game.{Game}
 use Rattle.game_types.specs.Steps.{◌▸◌}
 use Rattle.game_types.proofs.Walks.{drop_all}
-use Rattle.table_rows.specs.Columns.{column_of}
+use Rattle.table_rows.specs.Columns.{column_of, figures_of}
 use Rattle.linear_table.specs.declared.LinearColumn.{LinearColumn}
 use Rattle.production_table.specs.declared.faults.TableFault.{TableFault}
 use Rattle.production_table.specs.declared.tables.TableRow.{TableRow}
-use Rattle.production_table.specs.Linear.{columns_of, of_row, parts_at, place_in, row_column, row_columns}
+use Rattle.production_table.specs.Linear.{columns_of, figures_of_row, HasFigures, of_row, parts_at, place_in, row_column, row_columns}
 use Rattle.fractions.specs.Signs.{is_zero}
 
 append_none : {A : Type 0} (xs : List A) → xs ++ [] ≡ xs
@@ -79,6 +83,22 @@ made_on {X} {Y} f done xs k x y at e =
 
 pub made_end : {X Y : Type 0} (f : X → Y) (done : List Y) (xs : List X) (k : ℕ) → length xs ≤ k → done ++ map f (drop k xs) ≡ done
 made_end {X} {Y} f done xs k end = ap (λ (ys : List X). done ++ map f ys) (drop_all xs k end) ∙ append_none done
+
+-- ---- the figures of rows
+-- those of the rows before the k-th are at hand
+abbrev pub HasFiguresTo : Game → List TableRow → ℕ → List (Effects × Rates × Fraction) → Type 0
+HasFiguresTo g rows k done = map (figures_of_row g) rows ≡ map Ok done ++ map (figures_of_row g) (drop k rows)
+
+pub figures_on : (g : Game) (rows : List TableRow) (done more : List (Effects × Rates × Fraction)) (k : ℕ) (row : TableRow) (one : Effects × Rates × Fraction) → drop k rows ≡ row ∷ drop (k + 1) rows
+    → figures_of g row.setup ≡ Ok one → more ≡ done ++ one ∷ [] → HasFiguresTo g rows k done → HasFiguresTo g rows (k + 1) more
+figures_on g rows done more k row one at is new had =
+    had ∙ made_on (figures_of_row g) (map Ok done) rows k row (Ok one) at (sym is)
+    ∙ ap (λ (fine : List (Result (Effects × Rates × Fraction) Wide)). fine ++ map (figures_of_row g) (drop (k + 1) rows))
+    (sym (ap (λ (all : List (Effects × Rates × Fraction)). map Ok all) new ∙ map-append Ok done (one ∷ [])))
+
+pub figures_end : (g : Game) (rows : List TableRow) (done all : List (Effects × Rates × Fraction)) (k : ℕ) → length rows ≤ k → all ≡ done → HasFiguresTo g rows k done → HasFigures g rows all
+figures_end g rows done all k end e had =
+    had ∙ made_end (figures_of_row g) (map Ok done) rows k end ∙ ap (λ (all : List (Effects × Rates × Fraction)). map Ok all) (sym e)
 
 -- ---- the columns of rows, made
 pub lines_on : (goods : List GoodId) (done : List LinearColumn) (rows : List TableRow) (columns : List (List (GoodId × Fraction))) (k : ℕ) (row : TableRow) (column : List (GoodId × Fraction)) (one : LinearColumn)

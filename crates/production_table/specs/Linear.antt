@@ -1,8 +1,10 @@
 -- The linear form of a table: the goods that it mentions in order, a column for each row, import and surplus, and what is
 -- wanted of each good.
-use Rattle.std.specs.Prelude.{ℕ, ◌+◌, ◌==◌, Bool, false, nat_le, nat_lt, List, [], ◌∷◌, ◌++◌, map, length, Option, Some, None, position, Result, Ok, Err, if◌then◌else◌}
+use Rattle.std.specs.Prelude.{ℕ, ◌+◌, ◌==◌, Bool, false, nat_le, nat_lt, List, [], ◌∷◌, ◌++◌, map, length, Option, Some, None, position, Result, Ok, Err, ◌≡◌, if◌then◌else◌}
 use Rattle.fractions.specs.Fraction.{Fraction, zero_fraction, one_fraction, negated}
 use Rattle.plan_base.specs.declared.ids.GoodId.{GoodId}
+use Rattle.game_types.specs.declared.effects.Effects.{Effects}
+use Rattle.game_types.specs.declared.effects.Rates.{Rates}
 use Rattle.game_types.specs.declared.effects.Wide.{Wide}
 use Rattle.game_types.specs.declared.games.Game.{Game}
 use Rattle.game_types.specs.Steps.{◌▸◌}
@@ -15,7 +17,7 @@ use Rattle.production_table.specs.declared.tables.Table.{Table}
 use Rattle.production_table.specs.declared.tables.TableRow.{TableRow}
 use Rattle.production_table.specs.Numbers.{number_of}
 use Rattle.fractions.specs.Signs.{is_zero}
-use Rattle.table_rows.specs.Columns.{column_of}
+use Rattle.table_rows.specs.Columns.{column_of, figures_of}
 
 -- ---- the columns of all rows, or the first row that has a wide step, with the first such step
 abbrev pub of_row : TableRow → Result (List (GoodId × Fraction)) Wide → Result (List (GoodId × Fraction)) TableFault
@@ -28,6 +30,13 @@ columns_of g power (row ∷ rows) =
     of_row row (column_of g power row.setup) ▸ λ column.
     columns_of g power rows ▸ λ columns.
     Ok (column ∷ columns)
+
+-- ---- the figures of all rows, in order: one for each row, those of its set-up, and of none is a step past the limits
+abbrev pub figures_of_row : Game → TableRow → Result (Effects × Rates × Fraction) Wide
+figures_of_row g row = figures_of g row.setup
+
+abbrev pub HasFigures : Game → List TableRow → List (Effects × Rates × Fraction) → Type 0
+HasFigures g rows figures = map (figures_of_row g) rows ≡ map Ok figures
 
 -- ---- the goods of a table: those that a column, a want, an import or a surplus mentions, in order and each once
 -- goods that rise, with one good more at its place, where it isn't there

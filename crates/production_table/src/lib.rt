@@ -16,4 +16,5 @@ mod tables;
 pub use edit_laws::{fitting_rows_stay, goods_stay};
 pub use faults::TableFault;
 pub use laws::{changes_are_undone, changes_stay_in_game};
+pub use linear::LinearAndFigures;
 pub use tables::{LIMIT, Table, TableRow};

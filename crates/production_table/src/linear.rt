@@ -1,12 +1,12 @@
 //! The linear form of a table.
-ghost use Rattle.std.specs.Prelude.{◌≡◌, ◌<◌, ◌≤◌, ◌++◌, All, IfOk, OnOk, length, map};
-ghost use Rattle.plan_base.specs.Outcomes.{Gives};
+ghost use Rattle.std.specs.Prelude.{◌≡◌, ◌<◌, ◌≤◌, ◌++◌, All, IfOk, Ok, OnOk, length, map};
+ghost use Rattle.plan_base.specs.Outcomes.{Gives, seen_as};
 ghost use Rattle.game_types.specs.Goods.{good_count};
 ghost use Rattle.game_types.specs.Sound.{IsSound};
 ghost use Rattle.linear_table.specs.Plans.{IsWellFormed};
-ghost use Rattle.production_table.specs.Linear.{columns_of, import_column, linear_of, linear_with, of_row, row_column, row_columns, surplus_column, want_of};
+ghost use Rattle.production_table.specs.Linear.{columns_of, HasFigures, import_column, linear_of, linear_with, of_row, row_column, row_columns, surplus_column, want_of};
 ghost use Rattle.production_table.specs.Tables.{GoodsRise, IsOfGame, IsSoundTable};
-ghost use Rattle.table_rows.specs.Columns.{column_of};
+ghost use Rattle.table_rows.specs.Columns.{column_of, figures_of};
 ghost use Rattle.table_rows.specs.Setups.{IsFitting};
 
 use crate::linear_columns::{import_column, row_column, surplus_column};
@@ -14,25 +14,41 @@ use crate::numbers::number_of;
 use crate::table_places::goods_of;
 use crate::{LIMIT, Table, TableFault, TableRow};
 use fractions::Ratio;
-use game_types::Game;
+use game_types::{Effects, Game, Rates};
 use linear_table::{Linear, LinearColumn};
 use plan_base::{Denied, GoodId, Items, NoMemory, Text};
 use std::alloc::Global;
-use table_rows::{RowFault, column_of};
+use table_rows::{RowColumn, RowFault, row_of};
 
-// The column of a row.
+/// The linear form of a table, and for each of its rows, in order, what `row_rates` gives of its set-up: the effects on the
+/// machine, what one craft a second takes, and the power of the beacons of each machine.
+#[derive(Drop)]
+pub struct LinearAndFigures {
+    pub linear: Linear,
+    pub figures: Items<(Effects, Rates, Ratio)>,
+}
+
+// The columns of rows, and their figures.
+#[derive(Drop)]
+struct ColumnsAndFigures {
+    columns: Items<Items<(GoodId, Ratio)>>,
+    figures: Items<(Effects, Rates, Ratio)>,
+}
+
+// The column of a row, and its figures.
 fn column_of_row(
     alloc: Global,
     game: &Game,
     power: bool,
     row: &TableRow,
-) -> Result<Items<(GoodId, Ratio)>, Denied<TableFault>>
+) -> Result<RowColumn, Denied<TableFault>>
     requires sound { IsSound game.now }
     requires setup { IsFitting game.now row.now.setup }
-    ensures { Gives (of_row row.now (column_of game.now power row.now.setup)) result }
+    ensures column { Gives (of_row row.now (column_of game.now power row.now.setup)) (seen_as (λ made. made.column.items) result) }
+    ensures figures { IfOk result (λ made. figures_of game.now row.now.setup ≡ Ok made.figures) }
 {
-    match column_of(alloc, game, power, &row.setup) {
-        Ok(column) => Ok(Items::from_vec(column)),
+    match row_of(alloc, game, power, &row.setup) {
+        Ok(made) => Ok(made),
         Err(RowFault::Wide(wide)) => {
             let label = Text::copy(alloc, row.label.as_str())?;
             Err(Denied::Refused(TableFault::Wide {
@@ -44,23 +60,29 @@ fn column_of_row(
     }
 }
 
-// The columns of rows.
+// The columns of rows, and their figures.
 fn columns_of(
     alloc: Global,
     game: &Game,
     power: bool,
     rows: &[TableRow],
-) -> Result<Items<Items<(GoodId, Ratio)>>, Denied<TableFault>>
+) -> Result<ColumnsAndFigures, Denied<TableFault>>
     requires sound { IsSound game.now }
     requires setups { All (λ row. IsFitting game.now row.setup) rows.now }
-    ensures { Gives (columns_of game.now power rows.now) result }
+    ensures columns { Gives (columns_of game.now power rows.now) (seen_as (λ made. made.columns) result) }
+    ensures figures { IfOk result (λ made. HasFigures game.now rows.now made.figures) }
 {
     let mut columns = Vec::new(alloc);
+    let mut figures = Vec::new(alloc);
     for row in rows {
-        let column = column_of_row(alloc, game, power, row)?;
-        columns.push(column)?;
+        let made = column_of_row(alloc, game, power, row)?;
+        figures.push(made.figures)?;
+        columns.push(Items::from_vec(made.column))?;
     }
-    Ok(Items::from_vec(columns))
+    Ok(ColumnsAndFigures {
+        columns: Items::from_vec(columns),
+        figures: Items::from_vec(figures),
+    })
 }
 
 #[tactic(auto, unfolding(crate::specs::Linear::want_of))]
@@ -200,12 +222,39 @@ impl Table {
         ensures formed { IfOk result IsWellFormed }
         ensures goods { IsOfGame game.now self.now → IfOk result (λ linear. All (λ good. good.0 < good_count game.now) linear.goods) }
     {
-        let columns = columns_of(alloc, game, self.power, self.rows.as_slice())?;
-        let goods = goods_of(alloc, self, columns.as_slice())?;
+        match self.to_linear_with_figures(alloc, game) {
+            Ok(made) => Ok(made.linear),
+            Err(fault) => Err(fault),
+        }
+    }
+
+    /// The linear form of the table, with the figures of its rows: the rates of each row are worked out once for both.
+    ///
+    /// # Errors
+    ///
+    /// As `to_linear`.
+    pub fn to_linear_with_figures(
+        &self,
+        alloc: Global,
+        game: &Game,
+    ) -> Result<LinearAndFigures, Denied<TableFault>>
+        requires sound { IsSound game.now }
+        requires table { IsSoundTable self.now }
+        requires rows { All (λ row. IsFitting game.now row.setup) self.now.rows }
+        ensures linear { Gives (linear_of game.now self.now) (seen_as (λ made. made.linear) result) }
+        ensures formed { IfOk result (λ made. IsWellFormed made.linear) }
+        ensures goods { IsOfGame game.now self.now → IfOk result (λ made. All (λ good. good.0 < good_count game.now) made.linear.goods) }
+        ensures figures { IfOk result (λ made. HasFigures game.now self.now.rows made.figures) }
+    {
+        let rows = columns_of(alloc, game, self.power, self.rows.as_slice())?;
+        let goods = goods_of(alloc, self, rows.columns.as_slice())?;
         if goods.len() > LIMIT {
             return Err(Denied::Refused(TableFault::Full));
         }
-        let linear = linear_with(alloc, self, goods, columns.as_slice())?;
-        Ok(linear)
+        let linear = linear_with(alloc, self, goods, rows.columns.as_slice())?;
+        Ok(LinearAndFigures {
+            linear,
+            figures: rows.figures,
+        })
     }
 }
