@@ -8,19 +8,24 @@ use Rattle.plan_base.specs.Outcomes.{Gives, IsRefused}
 use Rattle.plan_base.proofs.Outcomes.{refused_same}
 use Rattle.linear_table.specs.declared.Linear.{Linear}
 use Rattle.linear_table.specs.declared.LinearColumn.{LinearColumn}
+use Rattle.fractions.specs.Fraction.{Fraction}
+use Rattle.game_types.specs.declared.effects.Effects.{Effects}
+use Rattle.game_types.specs.declared.effects.Rates.{Rates}
 use Rattle.game_types.specs.declared.games.Game.{Game}
 use Rattle.game_types.specs.Steps.{◌▸◌}
 use Rattle.game_types.proofs.Walks.{next as next_of, drop_all}
 use Rattle.production_table.specs.declared.faults.TableFault.{TableFault}
 use Rattle.production_table.specs.declared.tables.Table.{Table}
 use Rattle.production_table.specs.declared.tables.TableRow.{TableRow}
+use Rattle.production_table.specs.Linear.{HasFigures}
 use Rattle.production_table.specs.Tables.{labels_of}
 use Rattle.plan_lines.specs.declared.reply.Reply.{Reply}
 use Rattle.table_words.specs.declared.refusals.TableRefusal.{TableRefusal}
 use Rattle.planner_tables.specs.Causes.{cause, caused, denied_as}
 use Rattle.planner_tables.specs.Effects.{table_at, table_named}
-use Rattle.planner_tables.specs.Questions.{column_names, rate_outcome, row_rates_outcome, IsSolvedWhere, IsSolveReply, IsSolveReplyAt, linear_named, linear_outcome}
+use Rattle.planner_tables.specs.Questions.{column_names, rate_outcome, row_rates_outcome, solved_with, IsSolved, IsSolvedWhere, IsSolvedWith, IsSolveReply, IsSolveReplyAt, linear_named, linear_outcome}
 use Rattle.table_words.specs.Refusals.{refused}
+use Rattle.planner_tables.proofs.FigureLemmas.{answer_known}
 
 -- ---- labels
 pub labels_next : (rows : List TableRow) (k : ℕ) (row : TableRow) → k < length rows → row ≡ get_or rows k row → labels_of (drop k rows) ≡ row.label ∷ labels_of (drop (k + 1) rows)
@@ -60,6 +65,18 @@ unfolding IsSolveReply
 solve_asked g ts name budget place t r h e s =
     subst (λ (o : Result ℕ TableRefusal). IsSolveReplyAt g ts budget o r) (sym h)
     (subst (λ (x : Table). IsSolvedWhere g x budget (linear_outcome g x) r) (sym e) s)
+
+-- what the solver says with figures at hand that are the rows' own
+pub solved_known : (g : Game) (t : Table) (l : Linear) (known : List (Effects × Rates × Fraction)) (budget : ℕ) (r : Reply) → HasFigures g t.rows known → IsSolvedWith t l known budget r → IsSolved g t l budget r
+solved_known g t l known budget r has said = record {
+  answer = said.answer;
+  is_answer = said.is_answer;
+  reply_is = said.reply_is ∙ ap (solved_with t l said.answer) (answer_known g t.rows known said.answer has);
+}
+
+pub solved_where : (g : Game) (t : Table) (l : Linear) (known : List (Effects × Rates × Fraction)) (budget : ℕ) (r : Reply) → linear_outcome g t ≡ Ok l → HasFigures g t.rows known → IsSolvedWith t l known budget r
+    → IsSolvedWhere g t budget (linear_outcome g t) r
+solved_where g t l known budget r is has said = subst (λ (o : Result Linear TableRefusal). IsSolvedWhere g t budget o r) (sym is) (solved_known g t l known budget r has said)
 
 pub linear_refused : (g : Game) (ts : List Table) (name : List ℕ) (fault : Denied TableRefusal) → Gives (table_named ts name) (Err fault) → Gives (linear_named g ts name) (Err fault)
 unfolding linear_named

@@ -80,6 +80,12 @@ rows_figures g [] rates = []
 rows_figures g (row ∷ rows) [] = []
 rows_figures g (row ∷ rows) (rate ∷ rates) = row_figures g row rate ∷ rows_figures g rows rates
 
+-- the same of the figures of rows that are at hand, one for each row
+unfoldable pub known_rows_figures : List (Effects × Rates × Fraction) → List Fraction → List Figures
+known_rows_figures [] rates = []
+known_rows_figures (row ∷ rows) [] = []
+known_rows_figures (row ∷ rows) (rate ∷ rates) = figures_at rate row ∷ known_rows_figures rows rates
+
 -- ---- all of them: sums in the order of rows from 0, in which machines aren't counted
 abbrev pub nothing : Figures
 nothing = record {
@@ -109,3 +115,10 @@ answer_figures g rows (Planned plan) = rows_figures g rows plan.rates
 answer_figures g rows (Infeasible prices) = []
 answer_figures g rows (TooWide trail next place) = []
 answer_figures g rows (OutOfBudget trail) = []
+
+-- the same of the figures of rows that are at hand
+abbrev pub known_answer_figures : List (Effects × Rates × Fraction) → SolveAnswer → List Figures
+known_answer_figures rows (Planned plan) = known_rows_figures rows plan.rates
+known_answer_figures rows (Infeasible prices) = []
+known_answer_figures rows (TooWide trail next place) = []
+known_answer_figures rows (OutOfBudget trail) = []

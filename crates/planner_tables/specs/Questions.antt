@@ -18,12 +18,13 @@ use Rattle.production_table.specs.declared.tables.TableRow.{TableRow}
 use Rattle.table_rows.specs.Columns.{figures_of}
 use Rattle.production_table.specs.Linear.{linear_of}
 use Rattle.production_table.specs.Tables.{is_label, labels_of}
+use Rattle.plan_lines.specs.declared.reply.Figures.{Figures}
 use Rattle.plan_lines.specs.declared.reply.Reply.{Reply}
 use Rattle.plan_lines.specs.declared.reply.Reply.TheVariants as reply
 use Rattle.table_words.specs.declared.refusals.TableRefusal.{TableRefusal}
 use Rattle.table_words.specs.declared.refusals.TableRefusal.TheVariants.{NoName, Wide as WideRow}
 use Rattle.planner_tables.specs.Effects.{named, table_at, table_named}
-use Rattle.planner_tables.specs.Figures.{answer_figures, nothing, summed}
+use Rattle.planner_tables.specs.Figures.{answer_figures, known_answer_figures, nothing, summed}
 use Rattle.table_words.specs.Refusals.{refused}
 use Rattle.planner_tables.specs.Causes.{caused}
 
@@ -70,6 +71,10 @@ abbrev pub solved : Game → Table → Linear → SolveAnswer → Reply
 solved g t l a =
     reply.Solved t.name (labels_of t.rows) l.goods (column_names l.columns) (answer_figures g t.rows a) (summed nothing (answer_figures g t.rows a)) a
 
+-- the same with the figures of its rows given
+abbrev pub solved_with : Table → Linear → SolveAnswer → List Figures → Reply
+solved_with t l a rows = reply.Solved t.name (labels_of t.rows) l.goods (column_names l.columns) rows (summed nothing rows) a
+
 -- the linear form of a table, or the first refusal: no table of this name, a row that is too wide, too many goods
 abbrev pub linear_outcome : Game → Table → Result Linear TableRefusal
 linear_outcome g t = caused (NoName t.name) (linear_of g t)
@@ -83,6 +88,12 @@ pub record IsSolved (g : Game) (t : Table) (l : Linear) (budget : ℕ) (r : Repl
   pub answer : SolveAnswer
   pub is_answer : IsSolveAnswer l budget answer
   pub reply_is : r ≡ solved g t l answer
+
+-- a reply that holds an answer of the solver, of the figures of rows that are at hand
+pub record IsSolvedWith (t : Table) (l : Linear) (rows : List (Effects × Rates × Fraction)) (budget : ℕ) (r : Reply) : Type 0 where
+  pub answer : SolveAnswer
+  pub is_answer : IsSolveAnswer l budget answer
+  pub reply_is : r ≡ solved_with t l answer (known_answer_figures rows answer)
 
 abbrev pub IsSolvedWhere : Game → Table → ℕ → Result Linear TableRefusal → Reply → Type 0
 IsSolvedWhere g t budget (Ok l) r = IsSolved g t l budget r

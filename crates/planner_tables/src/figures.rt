@@ -1,17 +1,13 @@
 //! What the rows of a plan take.
-ghost use Rattle.std.specs.Prelude.{◌≡◌, All, IfOk};
-ghost use Rattle.game_types.specs.Sound.{IsSound};
-ghost use Rattle.table_rows.specs.Setups.{IsFitting};
-ghost use Rattle.planner_tables.specs.Figures.{answer_figures, ceiling, figures_at, no_figures, nothing, plus, product, rounded_up, row_figures, rows_figures, summed, times, total, with_figures};
+ghost use Rattle.std.specs.Prelude.{◌≡◌, IfOk};
+ghost use Rattle.planner_tables.specs.Figures.{ceiling, figures_at, known_answer_figures, known_rows_figures, nothing, plus, product, rounded_up, summed, times, total, with_figures};
 
 use fractions::Ratio;
-use game_types::{Effects, Game, Rates};
+use game_types::{Effects, Rates};
 use linear_table::SolveAnswer;
 use plan_base::{Items, NoMemory};
 use plan_lines::Figures;
-use production_table::TableRow;
 use std::alloc::Global;
-use table_rows::row_rates;
 
 // The product, within the limits of fractions.
 fn product(left: &Ratio, right: &Ratio) -> Option<Ratio>
@@ -70,19 +66,6 @@ fn rounded_up(figure: &Option<Ratio>) -> Option<Ratio>
     }
 }
 
-fn no_figures() -> Figures
-    ensures { result ≡ no_figures }
-{
-    Figures {
-        machines: None,
-        count: None,
-        power: None,
-        drain: None,
-        beacons: None,
-        pollution: None,
-    }
-}
-
 // What a row takes at a rate, of its rates and the power of its beacons for one craft a second.
 fn figures_at(rate: &Ratio, row: &(Effects, Rates, Ratio)) -> Figures
     ensures { result ≡ figures_at rate.now row.now }
@@ -99,37 +82,21 @@ fn figures_at(rate: &Ratio, row: &(Effects, Rates, Ratio)) -> Figures
     }
 }
 
-#[tactic(auto, unfolding(crate::specs::Figures::row_figures))]
-// What a row takes at a rate.
-fn row_figures(game: &Game, row: &TableRow, rate: &Ratio) -> Figures
-    requires sound { IsSound game.now }
-    requires fits { IsFitting game.now row.now.setup }
-    ensures { result ≡ row_figures game.now row.now rate.now }
-{
-    match row_rates(game, &row.setup) {
-        Ok(row) => figures_at(rate, &row),
-        Err(_) => no_figures(),
-    }
-}
-
 #[tactic(auto, using(crate::proofs::FigureLemmas::figures_next, crate::proofs::FigureLemmas::figures_end, crate::proofs::FigureLemmas::figures_over))]
 // What each row takes, at the first of some rates.
 fn rows_figures(
     alloc: Global,
-    game: &Game,
-    rows: &[TableRow],
+    rows: &[(Effects, Rates, Ratio)],
     rates: &[Ratio],
 ) -> Result<Items<Figures>, NoMemory>
-    requires sound { IsSound game.now }
-    requires fits { All (λ row. IsFitting game.now row.setup) rows.now }
-    ensures { IfOk result (λ figures. figures ≡ rows_figures game.now rows.now rates.now) }
+    ensures { IfOk result (λ figures. figures ≡ known_rows_figures rows.now rates.now) }
 {
     let mut figures = Vec::new(alloc);
     for i in 0..rows.len() {
-        if i >= rates.len() {
+        let Some(rate) = rates.get(i) else {
             return Ok(Items::from_vec(figures));
-        }
-        figures.push(row_figures(game, &rows[i], &rates[i]))?;
+        };
+        figures.push(figures_at(rate, &rows[i]))?;
     }
     Ok(Items::from_vec(figures))
 }
@@ -172,19 +139,17 @@ pub(crate) fn summed(rows: &[Figures]) -> Figures
     sum
 }
 
-/// What each row takes in a plan; nothing where there is none.
+/// What each row takes in a plan, of the rates of each row and the power of its beacons for one craft a second; nothing where
+/// there is none.
 pub(crate) fn answer_figures(
     alloc: Global,
-    game: &Game,
-    rows: &[TableRow],
+    rows: &[(Effects, Rates, Ratio)],
     answer: &SolveAnswer,
 ) -> Result<Items<Figures>, NoMemory>
-    requires sound { IsSound game.now }
-    requires fits { All (λ row. IsFitting game.now row.setup) rows.now }
-    ensures { IfOk result (λ figures. figures ≡ answer_figures game.now rows.now answer.now) }
+    ensures { IfOk result (λ figures. figures ≡ known_answer_figures rows.now answer.now) }
 {
     match answer {
-        SolveAnswer::Planned(plan) => rows_figures(alloc, game, rows, plan.rates.as_slice()),
+        SolveAnswer::Planned(plan) => rows_figures(alloc, rows, plan.rates.as_slice()),
         SolveAnswer::Infeasible(_) => Ok(Items::from_vec(Vec::new(alloc))),
         SolveAnswer::TooWide { .. } => Ok(Items::from_vec(Vec::new(alloc))),
         SolveAnswer::OutOfBudget { .. } => Ok(Items::from_vec(Vec::new(alloc))),

@@ -1,23 +1,25 @@
 //! What the solver says of tables.
 ghost use Rattle.std.specs.Prelude.{◌≡◌, IfOk};
-ghost use Rattle.plan_base.specs.Outcomes.{Gives};
+ghost use Rattle.plan_base.specs.Outcomes.{Gives, seen_as};
 ghost use Rattle.game_types.specs.Sound.{IsSound};
 ghost use Rattle.linear_table.specs.Plans.{IsWellFormed};
+ghost use Rattle.production_table.specs.Linear.{HasFigures};
 ghost use Rattle.production_table.specs.Tables.{labels_of};
 ghost use Rattle.planner_tables.specs.Effects.{AreSoundTables, IsSoundOn};
-ghost use Rattle.planner_tables.specs.Figures.{answer_figures};
-ghost use Rattle.planner_tables.specs.Questions.{column_names, IsSolved, IsSolvedWhere, IsSolveReply, linear_named, linear_outcome, solved};
+ghost use Rattle.planner_tables.specs.Figures.{known_answer_figures};
+ghost use Rattle.planner_tables.specs.Questions.{column_names, IsSolvedWhere, IsSolvedWith, IsSolveReply, linear_named, linear_outcome, solved_with};
 
 use crate::changes::table_named;
 use crate::faults::row_fault;
 use crate::figures::{answer_figures, summed};
 use crate::{TableRefusal, refused};
-use game_types::Game;
+use fractions::Ratio;
+use game_types::{Effects, Game, Rates};
 use linear_table::{Column, Linear, LinearColumn, SolveAnswer};
 use pivot_solver::solve;
 use plan_base::{Denied, Items, NoMemory, Text};
 use plan_lines::{Figures, Reply};
-use production_table::{Table, TableRow};
+use production_table::{LinearAndFigures, Table, TableRow};
 use std::alloc::Global;
 
 // The labels of some rows.
@@ -56,20 +58,18 @@ struct Told {
 // The names and the figures of a table that the solver answered.
 fn told_of(
     alloc: Global,
-    game: &Game,
     table: &Table,
     linear: &Linear,
+    figures: &[(Effects, Rates, Ratio)],
     answer: &SolveAnswer,
 ) -> Result<Told, NoMemory>
-    requires sound { IsSound game.now }
-    requires table { IsSoundOn game.now table.now }
     ensures names { IfOk result (λ told. (told.name ≡ table.now.name) × (told.labels ≡ labels_of table.now.rows) × (told.columns ≡ column_names linear.now.columns)) }
-    ensures rows { IfOk result (λ told. told.rows ≡ answer_figures game.now table.now.rows answer.now) }
+    ensures rows { IfOk result (λ told. told.rows ≡ known_answer_figures figures.now answer.now) }
 {
     let name = Text::copy(alloc, table.name.as_str())?;
     let labels = labels_of(alloc, table.rows.as_slice())?;
     let columns = column_names(alloc, linear.columns.as_slice())?;
-    let rows = answer_figures(alloc, game, table.rows.as_slice(), answer)?;
+    let rows = answer_figures(alloc, figures, answer)?;
     Ok(Told {
         name,
         labels,
@@ -81,21 +81,19 @@ fn told_of(
 // The reply that tells what the solver says of a table.
 fn solved(
     alloc: Global,
-    game: &Game,
     table: &Table,
     linear: Linear,
+    figures: &[(Effects, Rates, Ratio)],
     answer: SolveAnswer,
 ) -> Result<Reply, NoMemory>
-    requires sound { IsSound game.now }
-    requires table { IsSoundOn game.now table.now }
-    ensures { IfOk result (λ reply. reply ≡ solved game.now table.now linear answer) }
+    ensures { IfOk result (λ reply. reply ≡ solved_with table.now linear answer (known_answer_figures figures.now answer)) }
 {
     let Told {
         name,
         labels,
         columns,
         rows,
-    } = told_of(alloc, game, table, &linear, &answer)?;
+    } = told_of(alloc, table, &linear, figures, &answer)?;
     Ok(Reply::Solved {
         table: name,
         labels,
@@ -107,21 +105,19 @@ fn solved(
     })
 }
 
-// What the solver says of a table's linear form.
+// What the solver says of a table's linear form, with the figures of its rows.
 fn solved_within(
     alloc: Global,
-    game: &Game,
     table: &Table,
     linear: Linear,
+    figures: &[(Effects, Rates, Ratio)],
     budget: u32,
 ) -> Result<Reply, NoMemory>
-    requires sound { IsSound game.now }
-    requires table { IsSoundOn game.now table.now }
     requires formed { IsWellFormed linear }
-    ensures { IfOk result (IsSolved game.now table.now linear budget) }
+    ensures { IfOk result (IsSolvedWith table.now linear figures.now budget) }
 {
     let answer = solve(alloc, &linear, budget)?;
-    let reply = solved(alloc, game, table, linear, answer)?;
+    let reply = solved(alloc, table, linear, figures, answer)?;
     Ok(reply)
 }
 
@@ -158,14 +154,35 @@ pub fn linear_named(
     linear_of(alloc, game, &tables[place])
 }
 
+// The linear form of a table with the figures of its rows, or why it has none.
+fn linear_with_figures(
+    alloc: Global,
+    game: &Game,
+    table: &Table,
+) -> Result<LinearAndFigures, Denied<TableRefusal>>
+    requires sound { IsSound game.now }
+    requires table { IsSoundOn game.now table.now }
+    ensures linear { Gives (linear_outcome game.now table.now) (seen_as (λ made. made.linear) result) }
+    ensures formed { IfOk result (λ made. IsWellFormed made.linear) }
+    ensures figures { IfOk result (λ made. HasFigures game.now table.now.rows made.figures) }
+{
+    match table.to_linear_with_figures(alloc, game) {
+        Ok(made) => Ok(made),
+        Err(fault) => Err(row_fault(alloc, &table.name, fault)),
+    }
+}
+
 // What the solver says of a table, or why it is not asked.
 fn solve_table(alloc: Global, game: &Game, table: &Table, budget: u32) -> Result<Reply, NoMemory>
     requires sound { IsSound game.now }
     requires table { IsSoundOn game.now table.now }
     ensures { IfOk result (IsSolvedWhere game.now table.now budget (linear_outcome game.now table.now)) }
 {
-    match linear_of(alloc, game, table) {
-        Ok(linear) => solved_within(alloc, game, table, linear, budget),
+    match linear_with_figures(alloc, game, table) {
+        Ok(LinearAndFigures { linear, figures }) => {
+            let reply = solved_within(alloc, table, linear, figures.as_slice(), budget)?;
+            Ok(reply)
+        }
         Err(Denied::Refused(refusal)) => Ok(refused(game, refusal, None)),
         Err(Denied::NoMemory) => Err(NoMemory),
     }
