@@ -2,7 +2,7 @@
 ghost use Rattle.game_types.specs.Sound.{IsSound};
 
 use crate::names::good_text;
-use crate::words::{Done, push};
+use crate::words::push;
 use fractions::Ratio;
 use game_types::Game;
 use plan_base::{GoodId, NoMemory};

@@ -5,7 +5,7 @@ ghost use Rattle.production_table.specs.Tables.{IsSoundTable};
 ghost use Rattle.wish_checks.specs.Answers.{IsMet};
 ghost use Rattle.wish_tables.specs.Ends.{HasSoundTable, TriedSoundTable};
 
-use crate::orders::ordered;
+use crate::orders::{ORDERS, ordered};
 use crate::trying::{TableEnd, Trial, try_order};
 use crate::walks::walk_of;
 use game_types::Game;

@@ -97,7 +97,11 @@ pub fn add_surpluses(
 }
 
 /// More goods may go out at no price.
-pub fn add_extra_surpluses(alloc: Global, goods: &[GoodId], table: &mut Table) -> Result<(), WishFault>
+pub fn add_extra_surpluses(
+    alloc: Global,
+    goods: &[GoodId],
+    table: &mut Table,
+) -> Result<(), WishFault>
     requires table { IsSoundTable table.old }
     ensures { IsSoundTable table.new }
 {

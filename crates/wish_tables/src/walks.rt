@@ -45,7 +45,12 @@ fn mark_start(alloc: Global, trial: &Trial<'_>, walk: &mut Walk) -> Result<(), N
 }
 
 /// A walk of so many rows, with further ways or without.
-pub fn walk_of(alloc: Global, trial: &Trial<'_>, most: usize, further: bool) -> Result<Walk, NoMemory>
+pub fn walk_of(
+    alloc: Global,
+    trial: &Trial<'_>,
+    most: usize,
+    further: bool,
+) -> Result<Walk, NoMemory>
     requires { IsSound trial.now.ground.game.now }
 {
     let mut walk = Walk::new(alloc, &trial.ground, most)?;

@@ -1,5 +1,5 @@
 use Rattle.production_table.specs.Tables.{IsSoundTable}
-use Rattle.wish_tables.proofs.building.add_extra_imports.Given as goal
+use Rattle.wish_tables.proofs.outside.add_extra_imports.Given as goal
 
 abbrev pub invariant-loop-good : goal.invariant-loop-good
 invariant-loop-good l = IsSoundTable l.table
