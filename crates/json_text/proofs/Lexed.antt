@@ -1,6 +1,6 @@
 -- Strings, numerals and words from a place to another.
 use Rattle.std.proofs.Common.{◌≡◌, ℕ, zero, suc, ◌+◌, ◌-◌, ◌<◌, ◌≤◌, List, [], ◌∷◌, ◌++◌, length, get_or, drop, take, refl, ap, sym, subst, ◌∙◌, add-one, arith, Bool, true, false, inl, inr, append_assoc, append-nil, Some, None, Result, Ok, Err, lit≤}
-use Rattle.std.specs.Prelude.{IfOk, IfErr, slice_range, ◌⊎◌, ◌≢◌, ◌==◌, ◌&&◌, if◌then◌else◌, nat_lt, nat_le}
+use Rattle.std.specs.Prelude.{IfOk, IfErr, IsErr, IsErrAnd, slice_range, ◌⊎◌, ◌≢◌, ◌==◌, ◌&&◌, if◌then◌else◌, nat_lt, nat_le}
 use Rattle.std.specs.List.{list_all}
 use Rattle.std.proofs.Math.Seq.{drop-cons}
 use Rattle.std.proofs.Math.ListN.{drop_of_length-le}
@@ -403,6 +403,11 @@ ok_then (Err e) h f = tt
 pub err_then : {T E : Type 0} {P Q : E → Type 0} → (r : Result T E) → IfErr r P → ((x : E) → P x → Q x) → IfErr r Q
 err_then (Ok x) h f = tt
 err_then (Err e) h f = f e h
+
+-- what holds of a fault holds of the answer that `?` makes of it
+pub err_at : {T E : Type 0} (P : E → Type 0) (r : Result T E) (x : E) → IsErr r × IsErrAnd r (λ e. e ≡ x) → P x → IfErr r P
+err_at P (Ok y) x h p = tt
+err_at P (Err e) x h p = subst P (sym h.1) p
 
 pub ok_then2 : {T E : Type 0} {P Q R : T → Type 0} → (r : Result T E) → IfOk r P → IfOk r Q → ((x : T) → P x → Q x → R x) → IfOk r R
 ok_then2 (Ok x) h g f = f x h g

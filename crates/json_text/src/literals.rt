@@ -76,28 +76,20 @@ fn minus_end(bytes: &[u8], at: usize) -> Result<(Scalar, usize), JsonFault>
     }
     let byte = bytes[at + 1];
     if byte == b'0' {
-        return match number_end(bytes, at, at + 2, Phase::Zero) {
-            Ok(end) => Ok((Scalar::Number, end)),
-            Err(fault) => Err(fault),
-        };
+        let end = number_end(bytes, at, at + 2, Phase::Zero)?;
+        return Ok((Scalar::Number, end));
     }
     if is_nonzero(byte) {
-        return match number_end(bytes, at, at + 2, Phase::Whole) {
-            Ok(end) => Ok((Scalar::Number, end)),
-            Err(fault) => Err(fault),
-        };
+        let end = number_end(bytes, at, at + 2, Phase::Whole)?;
+        return Ok((Scalar::Number, end));
     }
     if byte == b'i' {
-        return match word_end(bytes, at + 2, b"nf") {
-            Ok(end) => Ok((Scalar::Word, end)),
-            Err(fault) => Err(fault),
-        };
+        let end = word_end(bytes, at + 2, b"nf")?;
+        return Ok((Scalar::Word, end));
     }
     if byte == b'n' {
-        return match word_end(bytes, at + 2, b"an") {
-            Ok(end) => Ok((Scalar::Word, end)),
-            Err(fault) => Err(fault),
-        };
+        let end = word_end(bytes, at + 2, b"an")?;
+        return Ok((Scalar::Word, end));
     }
     Err(not_json(at + 1))
 }
@@ -119,38 +111,28 @@ fn letters_end(bytes: &[u8], at: usize) -> Result<(Scalar, usize), JsonFault>
 {
     let byte = bytes[at];
     if byte == b't' {
-        return match word_end(bytes, at + 1, b"rue") {
-            Ok(end) => Ok((Scalar::True, end)),
-            Err(fault) => Err(fault),
-        };
+        let end = word_end(bytes, at + 1, b"rue")?;
+        return Ok((Scalar::True, end));
     }
     if byte == b'f' {
-        return match word_end(bytes, at + 1, b"alse") {
-            Ok(end) => Ok((Scalar::False, end)),
-            Err(fault) => Err(fault),
-        };
+        let end = word_end(bytes, at + 1, b"alse")?;
+        return Ok((Scalar::False, end));
     }
     if byte == b'i' {
-        return match word_end(bytes, at + 1, b"nf") {
-            Ok(end) => Ok((Scalar::Word, end)),
-            Err(fault) => Err(fault),
-        };
+        let end = word_end(bytes, at + 1, b"nf")?;
+        return Ok((Scalar::Word, end));
     }
     if at + 1 == bytes.len() {
         return Err(not_json(at + 1));
     }
     let second = bytes[at + 1];
     if second == b'u' {
-        return match word_end(bytes, at + 2, b"ll") {
-            Ok(end) => Ok((Scalar::Null, end)),
-            Err(fault) => Err(fault),
-        };
+        let end = word_end(bytes, at + 2, b"ll")?;
+        return Ok((Scalar::Null, end));
     }
     if second == b'a' {
-        return match word_end(bytes, at + 2, b"n") {
-            Ok(end) => Ok((Scalar::Word, end)),
-            Err(fault) => Err(fault),
-        };
+        let end = word_end(bytes, at + 2, b"n")?;
+        return Ok((Scalar::Word, end));
     }
     Err(not_json(at + 1))
 }
@@ -171,14 +153,14 @@ pub fn scalar_end(bytes: &[u8], at: usize) -> Result<(Scalar, usize), JsonFault>
         → from w bytes.now at (value keep n fs) ≡ fault f.code f.at) }
 {
     match class_of(bytes[at]) {
-        Class::Zero => match number_end(bytes, at, at + 1, Phase::Zero) {
-            Ok(end) => Ok((Scalar::Number, end)),
-            Err(fault) => Err(fault),
-        },
-        Class::Digit => match number_end(bytes, at, at + 1, Phase::Whole) {
-            Ok(end) => Ok((Scalar::Number, end)),
-            Err(fault) => Err(fault),
-        },
+        Class::Zero => {
+            let end = number_end(bytes, at, at + 1, Phase::Zero)?;
+            Ok((Scalar::Number, end))
+        }
+        Class::Digit => {
+            let end = number_end(bytes, at, at + 1, Phase::Whole)?;
+            Ok((Scalar::Number, end))
+        }
         Class::Minus => minus_end(bytes, at),
         Class::Letter => letters_end(bytes, at),
         _ => Err(not_json(at)),

@@ -44,34 +44,22 @@ fn owned_tree(alloc: Global, tree: &SpanTree) -> Result<Tree, JsonFault>
             at,
             node: JsonNode::Word,
         }),
-        SpanNode::Number(digits) => match text_of(alloc, digits) {
-            Ok(text) => Ok(Tree {
-                at,
-                node: JsonNode::Number(text),
-            }),
-            Err(fault) => Err(fault),
-        },
-        SpanNode::Str(text) => match owned_text(alloc, text) {
-            Ok(text) => Ok(Tree {
-                at,
-                node: JsonNode::Str(text),
-            }),
-            Err(fault) => Err(fault),
-        },
-        SpanNode::List(elements) => match owned_elements(alloc, elements.as_slice()) {
-            Ok(elements) => Ok(Tree {
-                at,
-                node: JsonNode::List(elements),
-            }),
-            Err(fault) => Err(fault),
-        },
-        SpanNode::Object(members) => match owned_members(alloc, members.as_slice()) {
-            Ok(members) => Ok(Tree {
-                at,
-                node: JsonNode::Object(members),
-            }),
-            Err(fault) => Err(fault),
-        },
+        SpanNode::Number(digits) => Ok(Tree {
+            at,
+            node: JsonNode::Number(text_of(alloc, digits)?),
+        }),
+        SpanNode::Str(text) => Ok(Tree {
+            at,
+            node: JsonNode::Str(owned_text(alloc, text)?),
+        }),
+        SpanNode::List(elements) => Ok(Tree {
+            at,
+            node: JsonNode::List(owned_elements(alloc, elements.as_slice())?),
+        }),
+        SpanNode::Object(members) => Ok(Tree {
+            at,
+            node: JsonNode::Object(owned_members(alloc, members.as_slice())?),
+        }),
         SpanNode::Skipped => Ok(Tree {
             at,
             node: JsonNode::Skipped,
@@ -141,11 +129,9 @@ pub fn read_tree(alloc: Global, bytes: &[u8], wanted: &Wanted) -> Result<Tree, J
     // Want of memory has no place.
     ensures bare { IfErr result IsBare }
 {
-    match read_spans(alloc, bytes, wanted) {
-        Ok(tree) => match owned_tree(alloc, &tree) {
-            Ok(tree) => Ok(tree),
-            Err(fault) => Err(settled(fault)),
-        },
-        Err(fault) => Err(fault),
+    let tree = read_spans(alloc, bytes, wanted)?;
+    match owned_tree(alloc, &tree) {
+        Ok(tree) => Ok(tree),
+        Err(fault) => Err(settled(fault)),
     }
 }

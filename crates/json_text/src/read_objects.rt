@@ -139,15 +139,13 @@ fn member_value<'a>(
     if is_wanted(wanted, marks, depth, key) {
         return read_value(alloc, bytes, at, depth, kept, wanted, marks);
     }
-    match passed_end(bytes, at, depth) {
-        Ok(end) => Ok((
-            SpanTree {
-                at,
-                node: SpanNode::Skipped,
-            },
-            end,
-            kept,
-        )),
-        Err(fault) => Err(fault),
-    }
+    let end = passed_end(bytes, at, depth)?;
+    Ok((
+        SpanTree {
+            at,
+            node: SpanNode::Skipped,
+        },
+        end,
+        kept,
+    ))
 }

@@ -192,10 +192,8 @@ pub fn unescaped(alloc: Global, bytes: &[u8]) -> Result<Text, JsonFault>
     ensures text { IfOk result (λ text. text ≡ lexed Between bytes.now) }
     ensures memory { IfErr result (λ f. f.code ≡ NoMemory) }
 {
-    match unescaped_bytes(alloc, bytes) {
-        Ok(text) => text_of(alloc, text.as_slice()),
-        Err(fault) => Err(fault),
-    }
+    let text = unescaped_bytes(alloc, bytes)?;
+    text_of(alloc, text.as_slice())
 }
 
 /// The string between the quotes at two places, lent where it has no escape.
@@ -221,8 +219,6 @@ pub fn string_text<'a>(
     if plain {
         return Ok(SpanText::Lent(&bytes[start + 1..end]));
     }
-    match unescaped(alloc, &bytes[start + 1..end]) {
-        Ok(text) => Ok(SpanText::Made(text)),
-        Err(fault) => Err(fault),
-    }
+    let text = unescaped(alloc, &bytes[start + 1..end])?;
+    Ok(SpanText::Made(text))
 }
