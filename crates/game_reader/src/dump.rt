@@ -52,10 +52,8 @@ fn finish(alloc: Global, game: Game) -> Result<Game, DumpFault>
     ensures gives { GivesDump (finished game) result }
     ensures sound { IfOk result IsSound }
 {
-    match add_launches(alloc, game) {
-        Ok(game) => split_fluids(alloc, game),
-        Err(fault) => Err(fault),
-    }
+    let game = add_launches(alloc, game)?;
+    split_fluids(alloc, game)
 }
 
 // The game of what a first pass left.
@@ -65,10 +63,8 @@ fn resolve(alloc: Global, draft: Draft) -> Result<Game, DumpFault>
     ensures gives { GivesDump (resolved (draft_seen draft)) result }
     ensures sound { IfOk result IsSound }
 {
-    match link(alloc, draft) {
-        Ok(game) => finish(alloc, game),
-        Err(fault) => Err(fault),
-    }
+    let game = link(alloc, draft)?;
+    finish(alloc, game)
 }
 
 // An answer as the call gives it: of want of memory nothing else is said.
@@ -93,8 +89,6 @@ pub fn read_dump(alloc: Global, bytes: &[u8]) -> Result<Game, DumpFault>
     ensures game { MatchResult result (HasGame bytes.now) (λ fault. fault.code ≢ DumpCode.NoMemory → HasFault bytes.now fault) }
     ensures bare { IfErr result IsBare }
 {
-    match draft_of_bytes(alloc, bytes) {
-        Ok(draft) => settled(alloc, resolve(alloc, draft)),
-        Err(fault) => Err(fault),
-    }
+    let draft = draft_of_bytes(alloc, bytes)?;
+    settled(alloc, resolve(alloc, draft))
 }

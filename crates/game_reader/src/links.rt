@@ -121,36 +121,32 @@ fn link_draft(alloc: Global, draft: Draft) -> Result<Game, DumpFault>
         machines: machine_names,
         techs: tech_names,
     };
-    match link_lists(alloc, &names, items, recipes, sources, machines, techs) {
-        Ok(
-            Lists {
-                items,
-                recipes,
-                sources,
-                machines,
-                techs,
-            },
-        ) => Ok(Game {
-            items,
-            fluids: Items::from_vec(fluids),
-            recipes,
-            sources,
-            machines,
-            techs,
-            character: Character {
-                crafting: Items::from_vec(crafting),
-                mining: Items::from_vec(mining),
-            },
-            item_names: names.items,
-            fluid_names: names.fluids,
-            recipe_names: names.recipes,
-            source_names: names.sources,
-            machine_names: names.machines,
-            tech_names: names.techs,
-            categories,
-        }),
-        Err(fault) => Err(fault),
-    }
+    let Lists {
+        items,
+        recipes,
+        sources,
+        machines,
+        techs,
+    } = link_lists(alloc, &names, items, recipes, sources, machines, techs)?;
+    Ok(Game {
+        items,
+        fluids: Items::from_vec(fluids),
+        recipes,
+        sources,
+        machines,
+        techs,
+        character: Character {
+            crafting: Items::from_vec(crafting),
+            mining: Items::from_vec(mining),
+        },
+        item_names: names.items,
+        fluid_names: names.fluids,
+        recipe_names: names.recipes,
+        source_names: names.sources,
+        machine_names: names.machines,
+        tech_names: names.techs,
+        categories,
+    })
 }
 
 /// The game that a first pass left, with ids in place of names. It is sound, and each fluid is one record.
