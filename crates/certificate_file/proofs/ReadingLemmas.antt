@@ -1,6 +1,6 @@
 -- What a member says is what its object says of it.
 use Rattle.std.proofs.Common.{◌≡◌, ◌∙◌, ℕ, List, refl, sym, subst, codes}
-use Rattle.std.specs.Prelude.{Result, Ok, Err, MatchResult, Some}
+use Rattle.std.specs.Prelude.{Result, Ok, Err, IsErr, IsErrAnd, MatchResult, Some}
 use Rattle.serde_json.specs.Data.{Data, number, unsigned}
 use Rattle.serde_json.specs.Find.{get}
 use Rattle.certificate_file.specs.Reading.{ReadsBy}
@@ -17,6 +17,11 @@ of_member Says key d m x is (n, is_too, says) =
 pub member_gives : {A : Type 0} (Says : Data → A → Type 0) (key : List ℕ) (d m : Data) (r : Result A CertFault) → get key d ≡ Some m → ReadsBy (Says m) r → ReadsBy (λ x. Has key d (λ n. Says n x)) r
 member_gives Says key d m (Ok x) is given = (m, is, given)
 member_gives Says key d m (Err fault) is given = (λ bad x has. given.0 bad x (of_member Says key d m x is has), given.1)
+
+-- what a fault says is what the answer says that `?` makes of it
+pub fault_gives : {A : Type 0} (Says : A → Type 0) (r : Result A CertFault) (fault : CertFault) → IsErr r × IsErrAnd r (λ e. e ≡ fault) → ReadsBy Says (Err fault) → ReadsBy Says r
+fault_gives Says (Ok x) fault h given = absurd h.1
+fault_gives Says (Err e) fault h given = subst (λ (f : CertFault). ReadsBy Says (Err f)) (sym h.1) given
 
 pub certificate_gives : (d m : Data) (r : Result (List CertEntry) CertFault) → get (codes "version") d ≡ Some (number (unsigned 1)) → get (codes "answers") d ≡ Some m → ReadsBy (SaysList SaysEntry m) r → ReadsBy (SaysCertificate d) r
 certificate_gives d m (Ok es) version is given = record { version = version; answers = (m, is, given) }

@@ -117,19 +117,15 @@ fn plan_in(alloc: Global, value: &Value) -> Result<Plan, CertFault>
 fn plan_claim(alloc: Global, plan: &Value) -> Result<Claim, CertFault>
     ensures { ReadsBy (SaysClaim (Some (view plan.now)) None None) result }
 {
-    match plan_in(alloc, plan) {
-        Ok(plan) => Ok(Claim::Planned(plan)),
-        Err(fault) => Err(fault),
-    }
+    let plan = plan_in(alloc, plan)?;
+    Ok(Claim::Planned(plan))
 }
 
 fn infeasible_claim(alloc: Global, prices: &Value) -> Result<Claim, CertFault>
     ensures { ReadsBy (SaysClaim None (Some (view prices.now)) None) result }
 {
-    match fractions_in(alloc, prices) {
-        Ok(prices) => Ok(Claim::Infeasible(prices)),
-        Err(fault) => Err(fault),
-    }
+    let prices = fractions_in(alloc, prices)?;
+    Ok(Claim::Infeasible(prices))
 }
 
 fn open_claim(mark: &Value) -> Result<Claim, CertFault>
@@ -205,10 +201,8 @@ fn entry_in(alloc: Global, entry: &Value) -> Result<CertEntry, CertFault>
         Ok(line) => line,
         Err(fault) => return Err(fault),
     };
-    match claim_in(alloc, entry) {
-        Ok(claim) => Ok(CertEntry { line, claim }),
-        Err(fault) => Err(fault),
-    }
+    let claim = claim_in(alloc, entry)?;
+    Ok(CertEntry { line, claim })
 }
 
 fn entries_of(alloc: Global, values: &[Value]) -> Result<Items<CertEntry>, CertFault>
@@ -281,8 +275,6 @@ fn value_in(alloc: Global, bytes: &[u8]) -> Result<Value, CertFault>
 pub fn read_cert(alloc: Global, bytes: &[u8]) -> Result<Items<CertEntry>, CertFault>
     ensures { MatchResult result (IsCertificate bytes.now) (IsCertFault bytes.now) }
 {
-    match value_in(alloc, bytes) {
-        Ok(value) => certificate_in(alloc, &value),
-        Err(fault) => Err(fault),
-    }
+    let value = value_in(alloc, bytes)?;
+    certificate_in(alloc, &value)
 }
