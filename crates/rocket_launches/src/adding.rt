@@ -257,10 +257,8 @@ fn launched(alloc: Global, game: Game) -> Result<Game, DumpFault>
     ensures { GivesDump (with_launches game) result }
 {
     let mut game = game;
-    match launch(alloc, &mut game) {
-        Ok(()) => Ok(game),
-        Err(fault) => Err(fault),
-    }
+    launch(alloc, &mut game)?;
+    Ok(game)
 }
 
 /// The game with a recipe for each launch behind the recipes of the dump.
