@@ -9,7 +9,7 @@ ghost use Rattle.number_rows.specs.Lowered.{IsLoweredBelow, IsRaised};
 
 use crate::dividing::{exact_quotient, likely_inverse, rest_by, small_quotient};
 use crate::sharing::Shared;
-use crate::tops::{greater, long_combined, product_keeps_within};
+use crate::tops::{cover, long_combined, product_keeps_within};
 
 /// Quotients by a divisor: how great their magnitudes are at most.
 #[derive(Clone, Copy)]
@@ -54,7 +54,7 @@ impl Over {
     {
         Over {
             divisor: self.divisor,
-            bound: greater(self.bound, quotient.unsigned_abs()),
+            bound: cover(self.bound, quotient.unsigned_abs()),
             shift: self.shift,
             inverse: self.inverse,
         }

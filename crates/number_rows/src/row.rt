@@ -22,7 +22,7 @@ use std::mem;
 
 /// A row of fractions. It is kept as whole numbers over one denominator, which take few steps to add and multiply, wherever
 /// these are below 2^62, else as whole numbers of 128 bits, and each as a fraction where these don't fit. No number of a short
-/// row is greater than its bound, and one is as great where it is tight.
+/// row is greater than its bound, and one has as many bits where it is tight.
 #[derive(Drop)]
 pub struct NumberRow {
     pub(crate) short: bool,

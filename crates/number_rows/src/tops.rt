@@ -8,13 +8,13 @@ ghost use Rattle.number_rows.specs.Tops.{top_at, AreWithin, IsCombined, IsScaled
 /// Magnitudes and denominators stay below this.
 pub const LIMIT: u64 = 1 << 62;
 
-/// The greater of two numbers.
-pub fn greater(a: u64, b: u64) -> u64
+/// A number that is no less than two, and has as many bits as the greater of them. It takes one step, and no branch.
+pub fn cover(a: u64, b: u64) -> u64
     ensures first { a ≤ result }
     ensures second { b ≤ result }
     ensures small { a < 2 ^ 62 → b < 2 ^ 62 → result < 2 ^ 62 }
 {
-    if a < b { b } else { a }
+    a | b
 }
 
 // Turns the sign of each number.
@@ -163,7 +163,7 @@ pub fn greatest(tops: &[i64]) -> u64
 {
     let mut most = 0;
     for k in 0..tops.len() {
-        most = greater(most, tops[k].unsigned_abs());
+        most = cover(most, tops[k].unsigned_abs());
     }
     most
 }

@@ -6,7 +6,7 @@ use Rattle.number_rows.proofs.tops.greatest.Goals as goal
 pub loop-k-preserved : goal.loop-k-preserved
 loop-k-preserved c =
     let k = c.loop-k.k in
-    let m = c.greater-most in
+    let m = c.cover-most in
     let small = c.requires k (omega arith) in
     let same : c.unsigned_abs.result ≡ unsigned_abs (top_at c.args.tops.now k) = c.unsigned_abs.ensures.value ∙ ap unsigned_abs (back (top_at c.args.tops.now k) (omega (arith, small))) in (
       within_one c.args.tops.now c.loop-k.most m.result k m.ensures.first (omega (arith, same, m.ensures.second)) c.loop-k.invariant.0,
