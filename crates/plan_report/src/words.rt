@@ -25,23 +25,13 @@ pub fn kind_word(kind: Kind) -> &'static str
 fn needs_quotes(byte: u8) -> bool
     ensures { result ≡ needs_quotes byte }
 {
-    (byte == b' ')
-        | (byte == b'\t')
-        | (byte == b'\n')
-        | (byte == b'\r')
-        | (byte == b'"')
-        | (byte == b'\\')
+    byte == b' ' || byte == b'\t' || byte == b'\n' || byte == b'\r' || byte == b'"' || byte == b'\\'
 }
 
-// Whether no byte needs quotes. Each is looked at, with no branch between them, so that many are looked at at once.
 fn need_no_quotes(bytes: &[u8]) -> bool
     ensures { result ≡ list_all (λ byte. not (needs_quotes byte)) bytes.now }
 {
-    let mut plain = true;
-    for byte in bytes {
-        plain = plain & !needs_quotes(*byte);
-    }
-    plain
+    bytes.iter().all(|byte| !needs_quotes(*byte))
 }
 
 // Whether the word is printed as it is.
