@@ -12,7 +12,7 @@ use planner_core::Planner;
 use session_lines::{Wished, Wishes};
 use std::alloc::Global;
 use wish_answers::{Failure, Found, found_lines};
-use wish_words::{Asked, WordFault, question, read_asked};
+use wish_words::{WishRequest, WordFault, question, read_asked};
 
 // What is said of words that ask for nothing.
 fn said_of(alloc: Global, fault: WordFault<'_>) -> Result<Wished, NoMemory> {
@@ -22,7 +22,7 @@ fn said_of(alloc: Global, fault: WordFault<'_>) -> Result<Wished, NoMemory> {
 }
 
 // Items a second of the belt that the words name, where they name one.
-fn belt_of(shown: &ShownFields, asked: &Asked<'_>) -> Option<Ratio> {
+fn belt_of(shown: &ShownFields, asked: &WishRequest<'_>) -> Option<Ratio> {
     let name = asked.belt?.strip_prefix("item:")?;
     shown_of(shown, Kind::Item, name)?.belt
 }
@@ -41,7 +41,7 @@ fn wished_in(
     alloc: Global,
     planner: &Planner,
     reached: &[bool],
-    asked: &Asked<'_>,
+    asked: &WishRequest<'_>,
     belt: Option<Ratio>,
 ) -> Result<Wished, NoMemory> {
     let mut said = String::new(alloc);
@@ -66,7 +66,7 @@ fn wished<L>(
     alloc: Global,
     planner: &mut Planner,
     shown: &ShownFields,
-    asked: &Asked<'_>,
+    asked: &WishRequest<'_>,
     steps: &mut Steps<L>,
 ) -> Result<Wished, NoMemory>
     ensures stays { planner.new ≡ planner.old }

@@ -6,7 +6,7 @@ use program_runs::{End, whole_file};
 use run_inputs::DUMP_LIMIT;
 use std::alloc::Global;
 use std::rt::Files;
-use wish_words::Asked;
+use wish_words::WishRequest;
 
 // The end by a word that names no belt.
 fn no_belt(alloc: Global, word: &str, why: &str) -> End {
@@ -37,7 +37,11 @@ fn rate_of<R: Files>(rt: &R, alloc: Global, dump: &str, word: &str) -> Result<Op
 /// # Errors
 ///
 /// The end by a word that names no belt.
-pub fn belt_of<R: Files>(rt: &R, alloc: Global, asked: &Asked<'_>) -> Result<Option<Ratio>, End> {
+pub fn belt_of<R: Files>(
+    rt: &R,
+    alloc: Global,
+    asked: &WishRequest<'_>,
+) -> Result<Option<Ratio>, End> {
     match asked.belt {
         Some(word) => rate_of(rt, alloc, asked.dump, word),
         None => Ok(None),

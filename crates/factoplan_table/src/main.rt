@@ -23,10 +23,10 @@ use std::alloc::Global;
 use std::process::ExitCode;
 use std::rt::Files;
 use wish_answers::{Failure, whole_script};
-use wish_words::{Asked, command, read_asked};
+use wish_words::{WishRequest, command, read_asked};
 
 // The files that are asked for, an empty one where no script is.
-fn names_of<'a>(asked: &Asked<'a>) -> Names<'a> {
+fn names_of<'a>(asked: &WishRequest<'a>) -> Names<'a> {
     Names {
         dump: asked.dump,
         script: asked.script.unwrap_or(NO_SCRIPT),
@@ -38,7 +38,7 @@ fn add_lines<L>(
     alloc: Global,
     planner: &mut Planner,
     script: &mut Vec<u8>,
-    asked: &Asked<'_>,
+    asked: &WishRequest<'_>,
     belt: Option<Ratio>,
     said: &mut String,
     steps: &mut Steps<L>,
@@ -68,7 +68,7 @@ fn script_for<L>(
     alloc: Global,
     planner: &mut Planner,
     mut script: Vec<u8>,
-    asked: &Asked<'_>,
+    asked: &WishRequest<'_>,
     belt: Option<Ratio>,
     steps: &mut Steps<L>,
 ) -> Result<Vec<u8>, Unmade> {
@@ -82,7 +82,7 @@ fn script_for<L>(
 // The lines for a wish, with the items a second on the belt that its words name.
 #[derive(Drop)]
 struct WishLines<'a, 'w> {
-    asked: &'a Asked<'w>,
+    asked: &'a WishRequest<'w>,
     belt: Option<Ratio>,
 }
 
@@ -121,7 +121,7 @@ fn written_script<R: Files + Print>(
 fn wish_run<R: Files + Print>(
     rt: &R,
     alloc: Global,
-    asked: &Asked<'_>,
+    asked: &WishRequest<'_>,
     belt: Option<Ratio>,
 ) -> End {
     let names = names_of(asked);
@@ -132,7 +132,7 @@ fn wish_run<R: Files + Print>(
     }
 }
 
-fn asked_run<R: Files + Print>(rt: &R, alloc: Global, asked: &Asked<'_>) -> End {
+fn asked_run<R: Files + Print>(rt: &R, alloc: Global, asked: &WishRequest<'_>) -> End {
     match belt_of(rt, alloc, asked) {
         Ok(belt) => wish_run(rt, alloc, asked, belt),
         Err(end) => end,

@@ -1,6 +1,6 @@
 //! The command that goes on from what is printed.
 use std::alloc::{AllocError, Global};
-use wish_words::Asked;
+use wish_words::WishRequest;
 
 // Whether a byte of a word stands for itself in a shell.
 fn is_plain(byte: u8) -> bool {
@@ -43,7 +43,7 @@ fn shell_word(alloc: Global, word: &str) -> Result<String, AllocError> {
 }
 
 // The file that is to have what is printed: another than the script that is read.
-fn output(asked: &Asked<'_>) -> &'static str {
+fn output(asked: &WishRequest<'_>) -> &'static str {
     match asked.script {
         Some(script) => {
             if script == "wish.txt" {
@@ -61,7 +61,7 @@ fn output(asked: &Asked<'_>) -> &'static str {
 /// # Errors
 ///
 /// `AllocError` where memory could not be had.
-pub fn command_for(alloc: Global, asked: &Asked<'_>) -> Result<String, AllocError> {
+pub fn command_for(alloc: Global, asked: &WishRequest<'_>) -> Result<String, AllocError> {
     let dump = shell_word(alloc, asked.dump)?;
     let output = output(asked);
     format!(in alloc; "factoplan table {dump} --script {output}")

@@ -9,7 +9,7 @@ use std::alloc::Global;
 
 /// What a question asks for, by its first word.
 #[derive(Clone, Copy, Debug, PartialEq, Eq)]
-pub enum Asked {
+pub enum Question {
     Catalog,
     State,
     Flow,
@@ -29,14 +29,14 @@ pub fn front_word(line: &[u8]) -> (&[u8], &[u8]) {
 }
 
 /// What a question asks for whose first word this is, where there is such a question.
-pub fn asked_by(word: &[u8]) -> Option<Asked> {
+pub fn asked_by(word: &[u8]) -> Option<Question> {
     match word {
-        b"?catalog" => Some(Asked::Catalog),
-        b"?state" => Some(Asked::State),
-        b"?flow" => Some(Asked::Flow),
-        b"?why-not" => Some(Asked::WhyNot),
-        b"?limits" => Some(Asked::Limits),
-        b"?wish" => Some(Asked::Wish),
+        b"?catalog" => Some(Question::Catalog),
+        b"?state" => Some(Question::State),
+        b"?flow" => Some(Question::Flow),
+        b"?why-not" => Some(Question::WhyNot),
+        b"?limits" => Some(Question::Limits),
+        b"?wish" => Some(Question::Wish),
         _ => None,
     }
 }

@@ -6,7 +6,7 @@ use crate::flows::push_flow_answer;
 use crate::forced::Forced;
 use crate::limits::push_limits;
 use crate::prices::push_why_not;
-use crate::question_words::{Asked, asked_by, front_word, read_as, unread, unwanted};
+use crate::question_words::{Question, asked_by, front_word, read_as, unread, unwanted};
 use crate::state::push_state;
 use crate::wishes::{Wished, Wishes};
 use catalog_text::{ShownFields, catalog_text};
@@ -162,19 +162,19 @@ fn push_asked<W: Wishes, L>(
     forced: &Forced,
     shown: &ShownFields,
     wishes: &W,
-    asked: Asked,
+    asked: Question,
     words: &[u8],
     steps: &mut Steps<L>,
 ) -> Done
     ensures stays { planner.new ≡ planner.old }
 {
     match asked {
-        Asked::Catalog => push_catalog(alloc, out, planner, shown, words, steps),
-        Asked::State => push_forced(alloc, out, planner, forced, words),
-        Asked::Flow => push_flow(alloc, out, planner, words, steps),
-        Asked::WhyNot => push_reason(alloc, out, planner, words, steps),
-        Asked::Limits => push_rate(alloc, out, planner, words, steps),
-        Asked::Wish => push_wish(alloc, out, planner, shown, wishes, words, steps),
+        Question::Catalog => push_catalog(alloc, out, planner, shown, words, steps),
+        Question::State => push_forced(alloc, out, planner, forced, words),
+        Question::Flow => push_flow(alloc, out, planner, words, steps),
+        Question::WhyNot => push_reason(alloc, out, planner, words, steps),
+        Question::Limits => push_rate(alloc, out, planner, words, steps),
+        Question::Wish => push_wish(alloc, out, planner, shown, wishes, words, steps),
     }
 }
 

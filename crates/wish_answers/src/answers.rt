@@ -18,7 +18,7 @@ use planner_core::Planner;
 use script_lines::{LINE_LIMIT, line_count};
 use std::alloc::Global;
 use wish_setups::{Met, Wish};
-use wish_words::Asked;
+use wish_words::WishRequest;
 
 /// The lines that meet a wish, and how far the planner has come behind them.
 #[derive(Drop)]
@@ -63,7 +63,7 @@ fn found_in(
     alloc: Global,
     planner: &Planner,
     reached: &[bool],
-    asked: &Asked<'_>,
+    asked: &WishRequest<'_>,
     belt: Option<Ratio>,
     command: &str,
     said: &mut String,
@@ -87,7 +87,7 @@ fn check_found(
     alloc: Global,
     planner: &Planner,
     reached: &[bool],
-    asked: &Asked<'_>,
+    asked: &WishRequest<'_>,
     wish: &Wish,
     met: &mut Met,
     said: &mut String,
@@ -145,7 +145,7 @@ pub fn answered_lines<L>(
     alloc: Global,
     planner: &mut Planner,
     before: Progress,
-    asked: &Asked<'_>,
+    asked: &WishRequest<'_>,
     belt: Option<Ratio>,
     command: &str,
     said: &mut String,

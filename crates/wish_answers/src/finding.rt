@@ -14,7 +14,7 @@ use std::alloc::Global;
 use wish_lines::{Notes, more_text, table_text};
 use wish_setups::{Met, Wish, WishFault};
 use wish_tables::{more_rows, wish_table};
-use wish_words::{Asked, AskedMore, NameFault, say_name_fault, say_wish_fault, wish_of};
+use wish_words::{AskedMore, NameFault, WishRequest, say_name_fault, say_wish_fault, wish_of};
 
 /// The lines for a wish, with the wish that the words name and what meets it.
 #[derive(Drop)]
@@ -153,7 +153,7 @@ fn lines_for(
     game: &Game,
     reached: &[bool],
     tables: &[Table],
-    asked: &Asked<'_>,
+    asked: &WishRequest<'_>,
     wish: Wish,
     command: &str,
     said: &mut String,
@@ -184,7 +184,7 @@ pub fn found_lines(
     game: &Game,
     reached: &[bool],
     tables: &[Table],
-    asked: &Asked<'_>,
+    asked: &WishRequest<'_>,
     belt: Option<Ratio>,
     command: &str,
     said: &mut String,

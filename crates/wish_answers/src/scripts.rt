@@ -13,7 +13,7 @@ use fractions::Ratio;
 use plan_base::{NoMemory, Steps};
 use planner_core::Planner;
 use std::alloc::Global;
-use wish_words::Asked;
+use wish_words::WishRequest;
 
 // No line was answered yet.
 const START: Progress = Progress {
@@ -75,7 +75,7 @@ pub fn whole_script<L>(
     alloc: Global,
     planner: &mut Planner,
     script: &mut Vec<u8>,
-    asked: &Asked<'_>,
+    asked: &WishRequest<'_>,
     belt: Option<Ratio>,
     command: &str,
     said: &mut String,

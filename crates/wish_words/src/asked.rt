@@ -64,7 +64,7 @@ pub struct AskedMore<'a> {
 
 /// What the words ask for.
 #[derive(Drop)]
-pub struct Asked<'a> {
+pub struct WishRequest<'a> {
     /// The file of the dump, empty where the words name none.
     pub dump: &'a str,
     pub script: Option<&'a str>,

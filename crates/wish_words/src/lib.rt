@@ -13,7 +13,7 @@ mod saying;
 mod words;
 
 pub use asked::{
-    Asked, AskedBeacon, AskedChoice, AskedImport, AskedMore, AskedSetup, AskedWish, Least,
+    AskedBeacon, AskedChoice, AskedImport, AskedMore, AskedSetup, AskedWish, Least, WishRequest,
 };
 pub use faults::{Wanted, WordFault};
 pub use likeness::{Like, nearest_object};

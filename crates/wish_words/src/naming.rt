@@ -2,7 +2,7 @@
 ghost use Rattle.std.specs.Prelude.{◌≡◌, IfOk};
 ghost use Rattle.game_types.specs.Sound.{IsSound};
 
-use crate::asked::{Asked, AskedBeacon, AskedImport, AskedWish, Least};
+use crate::asked::{AskedBeacon, AskedImport, AskedWish, Least, WishRequest};
 use crate::objects::{
     NameFault, beacon, good, item, machines, module, modules, recipes, wished_good,
 };
@@ -60,7 +60,7 @@ fn all_wants<'a>(
     alloc: Global,
     game: &Game,
     reached: &[bool],
-    asked: &Asked<'a>,
+    asked: &WishRequest<'a>,
     belt: &Option<Ratio>,
 ) -> Result<Items<(GoodId, Ratio)>, NameFault<'a>>
     requires { IsSound game.now }
@@ -140,7 +140,7 @@ pub fn wish_of<'a>(
     alloc: Global,
     game: &Game,
     reached: &[bool],
-    asked: &Asked<'a>,
+    asked: &WishRequest<'a>,
     belt: Option<Ratio>,
 ) -> Result<Wish, NameFault<'a>>
     requires { IsSound game.now }

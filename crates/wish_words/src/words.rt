@@ -1,6 +1,6 @@
 //! How the words are read.
 use crate::asked::{
-    Asked, AskedBeacon, AskedChoice, AskedImport, AskedMore, AskedSetup, AskedWish, Least,
+    AskedBeacon, AskedChoice, AskedImport, AskedMore, AskedSetup, AskedWish, Least, WishRequest,
 };
 use crate::faults::{Wanted, WordFault};
 use crate::rates::{is_writable, read_rate};
@@ -251,7 +251,10 @@ fn check_wishes<'a>(
 /// # Errors
 ///
 /// The first word that can't stand where it does, or `NoMemory`.
-pub fn read_asked<'a>(alloc: Global, matches: &ArgMatches<'a>) -> Result<Asked<'a>, WordFault<'a>> {
+pub fn read_asked<'a>(
+    alloc: Global,
+    matches: &ArgMatches<'a>,
+) -> Result<WishRequest<'a>, WordFault<'a>> {
     let wishes = read_wishes(alloc, matches.get_strs("wish"))?;
     let more = more(matches);
     let belt = matches.get_str("belt");
@@ -260,7 +263,7 @@ pub fn read_asked<'a>(alloc: Global, matches: &ArgMatches<'a>) -> Result<Asked<'
     let by = words_of(alloc, matches.get_strs("by"))?;
     let setup = setup(alloc, matches)?;
     let choice = choice(alloc, matches)?;
-    Ok(Asked {
+    Ok(WishRequest {
         dump: matches.get_str("dump").unwrap_or(""),
         script: matches.get_str("script"),
         table: matches.get_str("table").unwrap_or("wish"),
