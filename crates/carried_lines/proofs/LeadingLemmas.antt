@@ -4,7 +4,7 @@ use Rattle.std.specs.Prelude.{◌||◌}
 use Rattle.std.proofs.lemmas.List.{append_assoc, length-append}
 use Rattle.planner_core.specs.Lines.{IsSessionOf, Planned}
 use Rattle.plan_lines.specs.declared.reply.Reply.{Reply}
-use Rattle.script_lines.specs.Lines.{lines_of}
+use Rattle.plan_io.specs.Lines.{lines_of}
 use Rattle.script_reader.specs.Lines.{command_of_line}
 use Rattle.line_answers.specs.Answers.{Answered, IsReply, Reading, is_refusal, is_refusal_reply, solved_in}
 use Rattle.line_answers.specs.Sessions.{IsSession}

@@ -4,7 +4,7 @@ use Rattle.linear_table.specs.declared.SolveAnswer.{SolveAnswer}
 use Rattle.linear_table.specs.declared.SolveAnswer.TheVariants.{Planned as Plan}
 use Rattle.plan_lines.specs.declared.reply.Reply.{Reply}
 use Rattle.planner_core.specs.Lines.{Planned}
-use Rattle.script_lines.specs.Lines.{lines_of}
+use Rattle.plan_io.specs.Lines.{lines_of}
 use Rattle.line_answers.specs.Answers.{Answered, IsAnswered, is_refusal, solved_in}
 use Rattle.line_answers.specs.Sessions.{IsSession, some_refused}
 use Rattle.carried_lines.specs.declared.stepping.Progress.{Progress}

@@ -3,7 +3,7 @@ ghost use Rattle.std.specs.Prelude.{◌≡◌, ◌≤◌, ◌+◌, IfOk, IfSome,
 ghost use Rattle.game_types.specs.Sound.{IsSound};
 ghost use Rattle.state_changes.specs.States.{State};
 ghost use Rattle.planner_core.specs.Lines.{IsSessionOf};
-ghost use Rattle.script_lines.specs.Lines.{lines_of};
+ghost use Rattle.plan_io.specs.Lines.{lines_of};
 ghost use Rattle.line_answers.specs.Answers.{is_refusal_reply, solved_in};
 ghost use Rattle.carried_lines.specs.Leading.{is_plan, AnswersSo, Continues, TellsReply};
 
@@ -14,7 +14,7 @@ use plan_base::{NoMemory, Steps};
 use plan_lines::Reply;
 use plan_report::print_reply;
 use planner_core::Planner;
-use script_lines::Lines;
+use plan_io::Lines;
 use std::alloc::Global;
 
 /// How far a planner has come with the lines of a script: how many it has answered, and whether the last was answered by a plan.

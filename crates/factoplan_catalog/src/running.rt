@@ -7,7 +7,7 @@ use program_runs::{
     End, Names, Work, carry_line, close_batch, end_by, end_of_run, whole_file, with_loaded, written,
 };
 use run_inputs::{DUMP_LIMIT, Long, Status};
-use script_lines::{Lines, has_many_lines};
+use plan_io::{Lines, has_many_lines};
 use std::alloc::Global;
 use std::rt::Files;
 

@@ -9,7 +9,7 @@ use planner_core::Planner;
 use program_runs::{End, Names, Work, end_by};
 use report_json::line_text;
 use run_inputs::{Long, Status};
-use script_lines::{Lines, has_many_lines};
+use plan_io::{Lines, has_many_lines};
 use std::alloc::Global;
 use std::io;
 use std::io::Write;

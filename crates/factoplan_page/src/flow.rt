@@ -12,7 +12,7 @@ use plan_lines::{Command, Figures, RefusalCode, Reply};
 use planner_core::Planner;
 use production_table::Table;
 use program_runs::{LINES, carry_line, close_batch};
-use script_lines::{split_line, trim_return};
+use plan_io::{split_line, trim_return};
 use std::alloc::Global;
 
 // The most exchanges of columns.

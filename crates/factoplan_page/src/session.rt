@@ -12,7 +12,7 @@ use plan_pages::Page;
 use planner_core::Planner;
 use production_table::Table;
 use program_runs::{LINES, answered};
-use script_lines::{split_line, trim_return};
+use plan_io::{split_line, trim_return};
 use std::alloc::Global;
 use std::str::from_utf8;
 

@@ -8,13 +8,13 @@ use Rattle.linear_table.specs.declared.SolveAnswer.{SolveAnswer}
 use Rattle.certificate_file.specs.declared.CertEntry.{CertEntry}
 use Rattle.state_changes.specs.States.{first_state}
 use Rattle.planner_core.specs.Lines.{first_planned}
-use Rattle.script_lines.specs.Lines.{lines_of}
+use Rattle.plan_io.specs.Lines.{lines_of}
 use Rattle.script_runner.specs.Certificates.{CertifiesAll, EndsProof}
 use Rattle.script_runner.specs.Checks.{EndsCheck, JudgesAll, JudgesSome}
 use Rattle.script_runner.specs.Leaves.{Leaves}
 use Rattle.script_runner.specs.Scripts.{EndsScript, IsMeant, IsTooLong, Tells}
-use Rattle.script_lines.specs.declared.ends.ScriptEnd.{ScriptEnd}
-use Rattle.script_lines.specs.declared.ends.ScriptEnd.TheVariants as script
+use Rattle.plan_io.specs.declared.ends.ScriptEnd.{ScriptEnd}
+use Rattle.plan_io.specs.declared.ends.ScriptEnd.TheVariants as script
 use Rattle.script_runner.specs.Trials.{form_count, proved_count, tally_line}
 use Rattle.run_inputs.specs.declared.status.Status.{Status}
 use Rattle.run_inputs.specs.declared.status.Status.TheVariants.{Done, SomeRefused, BadWords, BadDump, ReadFault, WriteFault, NoMemory, TooLong, BadCert}

@@ -15,10 +15,10 @@ use Rattle.certificate_file.specs.declared.CertFault.TheVariants as of_cert
 use Rattle.state_changes.specs.States.{first_state}
 use Rattle.planner_core.specs.Lines.{IsSessionOf, Planned, first_planned}
 use Rattle.script_runner.specs.Certificates.{EndsProof}
-use Rattle.script_lines.specs.Lines.{lines_of}
+use Rattle.plan_io.specs.Lines.{lines_of}
 use Rattle.script_runner.specs.Rechecks.{IsProof}
 use Rattle.script_runner.specs.Scripts.{IsTooLong}
-use Rattle.script_lines.specs.declared.ends.ScriptEnd.TheVariants as script_end
+use Rattle.plan_io.specs.declared.ends.ScriptEnd.TheVariants as script_end
 use Rattle.script_runner.proofs.RecheckLemmas.{ends_done}
 use Rattle.run_inputs.specs.declared.status.Status.{Status}
 use Rattle.run_inputs.specs.declared.status.Status.TheVariants.{Done, SomeRefused, BadWords, BadDump, ReadFault, WriteFault, NoMemory, TooLong, BadCert}

@@ -6,7 +6,7 @@ use Rattle.linear_table.specs.declared.SolveAnswer.{SolveAnswer}
 use Rattle.certificate_file.specs.declared.CertEntry.{CertEntry}
 use Rattle.state_changes.specs.States.{first_state}
 use Rattle.planner_core.specs.Lines.{Planned, first_planned}
-use Rattle.script_lines.specs.Lines.{lines_of}
+use Rattle.plan_io.specs.Lines.{lines_of}
 use Rattle.line_answers.specs.Answers.{Answered}
 use Rattle.script_runner.specs.Certificates.{certificate_line, entries_of}
 use Rattle.line_answers.specs.Sessions.{IsSession, report, solutions}

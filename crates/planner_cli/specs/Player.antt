@@ -5,7 +5,7 @@ use Rattle.plan_io.specs.Store.{Shelf}
 use Rattle.game_types.specs.declared.games.Game.{Game}
 use Rattle.state_changes.specs.States.{first_state}
 use Rattle.planner_core.specs.Lines.{Planned, first_planned}
-use Rattle.script_lines.specs.Lines.{lines_of}
+use Rattle.plan_io.specs.Lines.{lines_of}
 use Rattle.line_answers.specs.Answers.{Answered}
 use Rattle.line_answers.specs.Sessions.{IsSession}
 use Rattle.cli_words.specs.Words.{Asked, Check, FileNames, Files}

@@ -8,10 +8,9 @@ ghost use Rattle.run_inputs.specs.Keeping.{KeepsSink};
 use line_answers::Listener;
 use linear_table::SolveAnswer;
 use plan_base::Steps;
-use plan_io::Sink;
+use plan_io::{ScriptEnd, Sink};
 use planner_core::Planner;
 use run_inputs::Ready;
-use script_lines::ScriptEnd;
 use script_runner::{prove_script, run_script};
 use std::alloc::Global;
 

@@ -15,12 +15,11 @@ use crate::answer::answer;
 use line_answers::Listener;
 use linear_table::SolveAnswer;
 use plan_base::Steps;
-use plan_io::{Sink, Store};
+use plan_io::{Sink, Store, has_many_lines};
 use planner_core::Planner;
 use run_inputs::{
     Ready, Status, is_answered, make_ready, read_entries, read_files, status_of, tell, tell_steps,
 };
-use script_lines::has_many_lines;
 use script_runner::{check_lines, tell_many_lines};
 use std::alloc::Global;
 

@@ -1,7 +1,7 @@
 -- An early end that has no line of its own.
 use Rattle.std.proofs.Common.{◌≢◌, [], ℕ, List, false, refl}
 use Rattle.std.specs.Prelude.{Option}
-use Rattle.script_lines.specs.Writing.{Adds}
+use Rattle.plan_io.specs.Writing.{Adds}
 use Rattle.run_inputs.specs.declared.status.Status.{Status}
 use Rattle.run_inputs.specs.declared.status.Status.TheVariants.{Done, SomeRefused, BadWords, BadDump, ReadFault, WriteFault, NoMemory, TooLong, BadCert}
 use Rattle.run_inputs.specs.Early.{Tells}

@@ -5,7 +5,7 @@ use Rattle.game_types.specs.declared.games.Game.{Game}
 use Rattle.run_inputs.specs.declared.status.Status.{Status}
 use Rattle.run_inputs.specs.declared.status.Status.TheVariants.{Done, BadDump, ReadFault, WriteFault, NoMemory, TooLong}
 use Rattle.run_inputs.specs.declared.status.Long.TheVariants.{DumpBytes, ScriptBytes, ScriptLines}
-use Rattle.script_lines.specs.Lines.{lines_of}
+use Rattle.plan_io.specs.Lines.{lines_of}
 use Rattle.run_inputs.specs.Inputs.{IsBase, IsInput}
 use Rattle.cli_words.specs.Words.{Asked, FileMode, FileNames, Files, Check}
 

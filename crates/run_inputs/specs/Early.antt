@@ -7,8 +7,8 @@ use Rattle.craft_reader.specs.declared.fault.DumpCode.TheVariants as of_dump
 use Rattle.game_reader.specs.Games.{HasFault}
 use Rattle.certificate_file.specs.declared.CertFault.{CertFault}
 use Rattle.certificate_file.specs.declared.CertFault.TheVariants as of_cert
-use Rattle.script_lines.specs.Lines.{lines_of}
-use Rattle.script_lines.specs.Writing.{Adds}
+use Rattle.plan_io.specs.Lines.{lines_of}
+use Rattle.plan_io.specs.Writing.{Adds}
 use Rattle.run_inputs.specs.declared.status.Status.{Status}
 use Rattle.run_inputs.specs.declared.status.Status.TheVariants.{BadWords, BadDump, ReadFault, WriteFault, NoMemory, TooLong, BadCert}
 use Rattle.run_inputs.specs.declared.status.Long.{Long}

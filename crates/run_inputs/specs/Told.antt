@@ -1,8 +1,8 @@
 -- How a run ends whose script was answered, and the line of its steps.
 use Rattle.std.specs.Prelude.{◌≡◌, ◌++◌, ℕ, Bool, true, false, List, [], Option, codes, decimal}
-use Rattle.script_lines.specs.Writing.{Adds}
-use Rattle.script_lines.specs.declared.ends.ScriptEnd.{ScriptEnd}
-use Rattle.script_lines.specs.declared.ends.ScriptEnd.TheVariants as script
+use Rattle.plan_io.specs.Writing.{Adds}
+use Rattle.plan_io.specs.declared.ends.ScriptEnd.{ScriptEnd}
+use Rattle.plan_io.specs.declared.ends.ScriptEnd.TheVariants as script
 use Rattle.run_inputs.specs.declared.status.Status.{Status}
 use Rattle.run_inputs.specs.declared.status.Status.TheVariants.{Done, SomeRefused, WriteFault, NoMemory, TooLong}
 use Rattle.run_inputs.specs.declared.status.Long.TheVariants.{ScriptLines}

@@ -5,7 +5,7 @@ ghost use Rattle.run_inputs.specs.Exit.{exit_of};
 
 use certificate_file::CertFault;
 use craft_reader::DumpFault;
-use script_lines::ScriptEnd;
+use plan_io::ScriptEnd;
 
 /// How a run ended.
 #[derive(Debug, Drop)]

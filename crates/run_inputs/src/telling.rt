@@ -8,8 +8,7 @@ use crate::bad_dump::fault_line;
 use crate::status::{Long, Status, status_of};
 use certificate_file::CertFault;
 use craft_reader::DumpFault;
-use plan_io::Sink;
-use script_lines::{ScriptEnd, write_all};
+use plan_io::{ScriptEnd, Sink, write_all};
 use std::alloc::Global;
 
 fn long_line(long: Long) -> &'static [u8]

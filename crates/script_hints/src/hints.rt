@@ -8,7 +8,7 @@ use plan_base::{NoMemory, Text};
 use plan_lines::Reply;
 use planner_core::Planner;
 use run_hints::{dump_name, empty_hint, script_name};
-use script_lines::Line;
+use plan_io::Line;
 use std::alloc::Global;
 
 // The names of the files of a run.

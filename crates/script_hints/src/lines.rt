@@ -8,7 +8,7 @@ use plan_lines::{Detail, RefusalCode, Reply};
 use planner_core::Planner;
 use planner_tables::linear_named;
 use run_hints::{refused_hint, short_hint};
-use script_lines::{Lines, has_many_lines};
+use plan_io::{Lines, has_many_lines};
 use std::alloc::Global;
 
 // A line, and the script that has it.
@@ -141,7 +141,7 @@ pub fn tell_reply(
     planner: &Planner,
     name: &str,
     script: &[u8],
-    line: script_lines::Line<'_>,
+    line: plan_io::Line<'_>,
     reply: &Reply,
     telling: &mut Telling,
 ) -> Result<(), NoMemory> {

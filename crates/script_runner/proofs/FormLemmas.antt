@@ -7,14 +7,14 @@ use Rattle.planner_core.specs.Lines.{Planned}
 use Rattle.script_reader.specs.declared.fault.ScriptFault.{ScriptFault}
 use Rattle.script_reader.specs.declared.fault.ScriptFault.TheVariants as fault
 use Rattle.script_reader.specs.Reading.{Answers}
-use Rattle.script_lines.specs.declared.ends.ScriptEnd.{ScriptEnd}
-use Rattle.script_lines.specs.declared.ends.ScriptEnd.TheVariants.{Done, NoMemory, SomeRefused, TooManyLines, WriteFault}
+use Rattle.plan_io.specs.declared.ends.ScriptEnd.{ScriptEnd}
+use Rattle.plan_io.specs.declared.ends.ScriptEnd.TheVariants.{Done, NoMemory, SomeRefused, TooManyLines, WriteFault}
 use Rattle.line_answers.specs.Answers.{is_no_memory}
 use Rattle.script_runner.specs.Leaves.{Leaves}
-use Rattle.script_lines.specs.Lines.{lines_of}
+use Rattle.plan_io.specs.Lines.{lines_of}
 use Rattle.script_runner.specs.Scripts.{EndsScript, is_cut}
 use Rattle.script_runner.specs.TrialLines.{TellsMany}
-use Rattle.script_lines.specs.Writing.{AppendsFront}
+use Rattle.plan_io.specs.Writing.{AppendsFront}
 
 pub ends_long : (first : Planned) (script : List ℕ) (solved : List SolveAnswer) (before after : Option (List ℕ)) (steps : ℕ) → solved ≡ [] → 100_000 < length (lines_of script) → Appends before after (codes "too long script lines\n")
     → Leaves (EndsScript first script solved) is_cut before after steps steps TooManyLines

@@ -14,16 +14,16 @@ use Rattle.certificate_file.specs.declared.CertEntry.{CertEntry}
 use Rattle.line_answers.specs.Answers.{Answered, AnswersLine, solved_in}
 use Rattle.script_runner.specs.Certificates.{CertifiesAll, EndsProof, IsEntered, IsEnteredInPart, end_of, entries_of, entry_for, entry_of}
 use Rattle.script_runner.specs.Leaves.{Leaves}
-use Rattle.script_lines.specs.Lines.{lines_of}
+use Rattle.plan_io.specs.Lines.{lines_of}
 use Rattle.script_runner.specs.Scripts.{is_cut}
 use Rattle.line_answers.specs.Sessions.{IsSession, report, work}
 use Rattle.script_runner.specs.TrialLines.{TellsMany}
-use Rattle.script_lines.specs.Writing.{Adds, AppendsFront}
-use Rattle.script_lines.specs.declared.ends.ScriptEnd.{ScriptEnd}
-use Rattle.script_lines.specs.declared.ends.ScriptEnd.TheVariants.{Done, SomeRefused, TooManyLines, WriteFault, NoMemory}
+use Rattle.plan_io.specs.Writing.{Adds, AppendsFront}
+use Rattle.plan_io.specs.declared.ends.ScriptEnd.{ScriptEnd}
+use Rattle.plan_io.specs.declared.ends.ScriptEnd.TheVariants.{Done, SomeRefused, TooManyLines, WriteFault, NoMemory}
 use Rattle.script_runner.proofs.CertificateLemmas.{have_lines, newline_says}
 use Rattle.script_runner.proofs.SoFarLemmas.{SoFar, all_taken, line_left, next_answers, so_far_first, so_far_next}
-use Rattle.script_lines.proofs.WritingLemmas.{appends_none, front_after}
+use Rattle.plan_io.proofs.WritingLemmas.{appends_none, front_after}
 
 one_kept : {X : Type 0} (o : Option X) → cons_option o [] ≡ option_to_list o
 one_kept None = refl

@@ -10,11 +10,11 @@ use Rattle.planner_core.specs.Lines.{IsSessionOf, Planned}
 use Rattle.certificate_file.specs.Said.{IsCertificate}
 use Rattle.script_runner.specs.Certificates.{CertifiesAll, EndsProof}
 use Rattle.script_runner.specs.Checks.{EndsCheck}
-use Rattle.script_lines.specs.Lines.{lines_of}
+use Rattle.plan_io.specs.Lines.{lines_of}
 use Rattle.script_runner.specs.Rechecks.{AreProvedButWide, IsNeverWide, IsProof, wide_count}
 use Rattle.script_runner.specs.Trials.{IsTrial, Judged, form_count, is_passed, proved_count, some_said_refused}
-use Rattle.script_lines.specs.declared.ends.ScriptEnd.{ScriptEnd}
-use Rattle.script_lines.specs.declared.ends.ScriptEnd.TheVariants.{Done, SomeRefused, TooManyLines, WriteFault, NoMemory}
+use Rattle.plan_io.specs.declared.ends.ScriptEnd.{ScriptEnd}
+use Rattle.plan_io.specs.declared.ends.ScriptEnd.TheVariants.{Done, SomeRefused, TooManyLines, WriteFault, NoMemory}
 use Rattle.script_runner.proofs.PairLemmas.{recheck_fine}
 
 certified_fine : (base : State) (first : Planned) (script certificate : List ℕ) (solved : List SolveAnswer) (entries : List CertEntry) (steps : ℕ) (judged : List Judged) (last : Planned) → IsSessionOf base first

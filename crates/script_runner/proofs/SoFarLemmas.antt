@@ -5,15 +5,15 @@ use Rattle.std.specs.Io.KnownBytes.{Appends}
 use Rattle.std.proofs.lemmas.List.{take-append-drop, length-append}
 use Rattle.linear_table.specs.declared.SolveAnswer.{SolveAnswer}
 use Rattle.planner_core.specs.Lines.{Planned}
-use Rattle.script_lines.specs.declared.ends.ScriptEnd.TheVariants.{Done, SomeRefused, NoMemory, WriteFault}
+use Rattle.plan_io.specs.declared.ends.ScriptEnd.TheVariants.{Done, SomeRefused, NoMemory, WriteFault}
 use Rattle.line_answers.specs.Answers.{Answered, AnswersLine, IsAnswered, solved_in}
 use Rattle.script_runner.specs.Leaves.{Leaves}
-use Rattle.script_lines.specs.Lines.{lines_of}
+use Rattle.plan_io.specs.Lines.{lines_of}
 use Rattle.script_runner.specs.Scripts.{EndsScript, TellsAll, TellsSome, is_cut}
 use Rattle.line_answers.specs.Sessions.{IsSession, report, solutions, some_refused, work}
-use Rattle.script_lines.specs.Writing.{AppendsFront}
+use Rattle.plan_io.specs.Writing.{AppendsFront}
 use Rattle.line_answers.proofs.SessionLemmas.{refused_more, report_more, session_first, session_more, solved_more, work_more}
-use Rattle.script_lines.proofs.WritingLemmas.{appends_both, appends_none, front_after}
+use Rattle.plan_io.proofs.WritingLemmas.{appends_both, appends_none, front_after}
 
 -- so many of the first lines are answered, from the first planner on to this one
 pub record SoFar (first now : Planned) (script rest : List ℕ) (count : ℕ) (refused : Bool) (found : List SolveAnswer) (before after : Option (List ℕ)) (old new : ℕ) : Type 0 where

@@ -11,16 +11,16 @@ use Rattle.planner_core.specs.Lines.{Planned}
 use Rattle.certificate_file.specs.declared.CertEntry.{CertEntry}
 use Rattle.script_runner.specs.Checks.{EndsCheck, JudgesAll, JudgesSome}
 use Rattle.script_runner.specs.Leaves.{Leaves}
-use Rattle.script_lines.specs.Lines.{lines_of}
+use Rattle.plan_io.specs.Lines.{lines_of}
 use Rattle.script_runner.specs.Scripts.{is_cut}
 use Rattle.script_runner.specs.TrialLines.{IsTallyTold, JudgesLine, TellsTally}
 use Rattle.script_runner.specs.Trials.{IsJudged, IsTrial, Judged, form_count, is_form, is_passed, is_said_refused, is_shown, judged_text, judged_work, proved_count, some_said_refused, tally_line, trial_text, trial_work}
-use Rattle.script_lines.specs.Writing.{Adds, AppendsFront}
-use Rattle.script_lines.specs.declared.ends.ScriptEnd.{ScriptEnd}
-use Rattle.script_lines.specs.declared.ends.ScriptEnd.TheVariants.{Done, SomeRefused, TooManyLines, WriteFault, NoMemory}
+use Rattle.plan_io.specs.Writing.{Adds, AppendsFront}
+use Rattle.plan_io.specs.declared.ends.ScriptEnd.{ScriptEnd}
+use Rattle.plan_io.specs.declared.ends.ScriptEnd.TheVariants.{Done, SomeRefused, TooManyLines, WriteFault, NoMemory}
 use Rattle.script_runner.specs.declared.trial.Note.{Note}
 use Rattle.script_runner.proofs.SoFarLemmas.{all_taken, drop_next}
-use Rattle.script_lines.proofs.WritingLemmas.{appends_both, appends_none, front_after}
+use Rattle.plan_io.proofs.WritingLemmas.{appends_both, appends_none, front_after}
 
 -- ---- one more line
 pub trial_more : (entries : List CertEntry) (number : ℕ) (first now : Planned) (lines : List (List ℕ)) (judged : List Judged) (a : Judged) (line : List ℕ) (next : Planned) → IsTrial entries number first lines judged now → IsJudged entries a

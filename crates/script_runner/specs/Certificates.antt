@@ -11,8 +11,8 @@ use Rattle.certificate_file.specs.declared.Claim.{Claim}
 use Rattle.certificate_file.specs.declared.Claim.TheVariants as claims
 use Rattle.line_answers.specs.Answers.{Answered, solved_in}
 use Rattle.script_runner.specs.Scripts.{IsTooLong, TellsAll, TellsSome}
-use Rattle.script_lines.specs.declared.ends.ScriptEnd.{ScriptEnd}
-use Rattle.script_lines.specs.declared.ends.ScriptEnd.TheVariants.{Done, SomeRefused, TooManyLines, WriteFault, NoMemory}
+use Rattle.plan_io.specs.declared.ends.ScriptEnd.{ScriptEnd}
+use Rattle.plan_io.specs.declared.ends.ScriptEnd.TheVariants.{Done, SomeRefused, TooManyLines, WriteFault, NoMemory}
 
 -- what an answer claims: the plan or the prices; nothing, where the solver came to no answer
 abbrev pub claim_of : SolveAnswer → Claim

@@ -1,6 +1,6 @@
 -- What is left behind in a sink and in a counter of steps.
 use Rattle.std.specs.Prelude.{ℕ, ◌+◌, ◌≤◌, Bool, List, Option}
-use Rattle.script_lines.specs.Writing.{Adds}
+use Rattle.plan_io.specs.Writing.{Adds}
 
 -- One of the endings that are meant was come to: its text was written, or a front of it where the ending is that writing
 -- was cut off, and no more steps were taken than it takes.

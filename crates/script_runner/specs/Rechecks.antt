@@ -8,9 +8,9 @@ use Rattle.planner_core.specs.Lines.{IsSessionOf, Planned}
 use Rattle.certificate_file.specs.Said.{IsCertificate}
 use Rattle.certificate_file.specs.declared.CertEntry.{CertEntry}
 use Rattle.script_runner.specs.Certificates.{EndsProof}
-use Rattle.script_lines.specs.Lines.{lines_of}
+use Rattle.plan_io.specs.Lines.{lines_of}
 use Rattle.script_runner.specs.Trials.{IsTrial, Judged, form_count, proved_count, some_said_refused}
-use Rattle.script_lines.specs.declared.ends.ScriptEnd.TheVariants.{Done}
+use Rattle.plan_io.specs.declared.ends.ScriptEnd.TheVariants.{Done}
 use Rattle.script_runner.specs.declared.verdict.Verdict.{Verdict}
 use Rattle.script_runner.specs.declared.verdict.Verdict.TheVariants.{Rejected}
 

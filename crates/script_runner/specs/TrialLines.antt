@@ -9,9 +9,9 @@ use Rattle.certificate_file.specs.declared.Claim.{Claim}
 use Rattle.line_answers.specs.Answers.{Reading}
 use Rattle.script_runner.specs.Trials.{IsJudged, IsJudgedBy, Judged, is_form, is_said_refused, is_shown, is_passed, judged_work, said_text, table_asked, tally_line}
 use Rattle.script_runner.specs.Scripts.{is_cut}
-use Rattle.script_lines.specs.Writing.{Adds, AppendsFront}
-use Rattle.script_lines.specs.declared.ends.ScriptEnd.{ScriptEnd}
-use Rattle.script_lines.specs.declared.ends.ScriptEnd.TheVariants.{Done, SomeRefused, TooManyLines, WriteFault, NoMemory}
+use Rattle.plan_io.specs.Writing.{Adds, AppendsFront}
+use Rattle.plan_io.specs.declared.ends.ScriptEnd.{ScriptEnd}
+use Rattle.plan_io.specs.declared.ends.ScriptEnd.TheVariants.{Done, SomeRefused, TooManyLines, WriteFault, NoMemory}
 use Rattle.script_runner.specs.declared.trial.Note.{Note}
 use Rattle.script_runner.specs.declared.verdict.Verdict.{Verdict}
 

@@ -13,7 +13,7 @@ use plan_base::{NoMemory, Steps, Text};
 use plan_lines::Reply;
 use plan_report::print_reply;
 use planner_core::Planner;
-use script_lines::Line;
+use plan_io::Line;
 use std::alloc::Global;
 
 /// What a line was answered.

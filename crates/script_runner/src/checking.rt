@@ -5,7 +5,7 @@ ghost use Rattle.state_changes.specs.States.{State};
 ghost use Rattle.planner_core.specs.Lines.{IsSessionOf};
 ghost use Rattle.script_runner.specs.Checks.{EndsCheck};
 ghost use Rattle.script_runner.specs.Leaves.{Leaves};
-ghost use Rattle.script_lines.specs.Lines.{lines_of};
+ghost use Rattle.plan_io.specs.Lines.{lines_of};
 ghost use Rattle.script_runner.specs.Scripts.{is_cut};
 ghost use Rattle.script_runner.specs.TrialLines.{TellsTally};
 
@@ -13,9 +13,8 @@ use crate::trial::judge_line;
 use certificate_file::CertEntry;
 use line_answers::Listener;
 use plan_base::Steps;
-use plan_io::Sink;
+use plan_io::{Lines, ScriptEnd, Sink, write_all};
 use planner_core::Planner;
-use script_lines::{Lines, ScriptEnd, write_all};
 use std::alloc::Global;
 
 fn one_if(test: bool) -> u32

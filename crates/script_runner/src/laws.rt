@@ -12,13 +12,13 @@ ghost use Rattle.plan_lines.specs.declared.command.Command.{Command};
 ghost use Rattle.script_runner.specs.Alike.{AreAlike};
 ghost use Rattle.line_answers.specs.Answers.{Answered};
 ghost use Rattle.script_runner.specs.Checks.{EndsCheck};
-ghost use Rattle.script_lines.specs.Lines.{lines_of};
+ghost use Rattle.plan_io.specs.Lines.{lines_of};
 ghost use Rattle.script_runner.specs.Plans.{SolvesRightly};
 ghost use Rattle.script_runner.specs.Rechecks.{AreProvedButWide, IsNeverWide, IsProof};
 ghost use Rattle.line_answers.specs.Sessions.{IsSession};
 ghost use Rattle.script_runner.specs.Trials.{IsTrial, Judged};
-ghost use Rattle.script_lines.specs.declared.ends.ScriptEnd.{ScriptEnd};
-ghost use Rattle.script_lines.specs.declared.ends.ScriptEnd.TheVariants as script_ends;
+ghost use Rattle.plan_io.specs.declared.ends.ScriptEnd.{ScriptEnd};
+ghost use Rattle.plan_io.specs.declared.ends.ScriptEnd.TheVariants as script_ends;
 
 /// If the first planner of a session grew from a base, so did every planner of it, and the state of each is what the edits
 /// that are active there give afresh on the base.

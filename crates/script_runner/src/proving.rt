@@ -2,12 +2,12 @@
 ghost use Rattle.std.specs.Prelude.{◌≡◌, ◌≤◌, ◌++◌, ◌∷◌, [], codes, MatchResult, IfOk, OnOk, OnErr, length, option_map, option_to_list};
 ghost use Rattle.std.specs.Io.KnownBytes.{Appends};
 ghost use Rattle.plan_io.specs.Causes.{HasCause, Rose};
-ghost use Rattle.script_lines.specs.Writing.{AppendsFront};
+ghost use Rattle.plan_io.specs.Writing.{AppendsFront};
 ghost use Rattle.state_changes.specs.States.{State};
 ghost use Rattle.planner_core.specs.Lines.{IsSessionOf};
 ghost use Rattle.script_runner.specs.Certificates.{claim_of, end_of, EndsProof, entry_for, IsEntered, IsEnteredInPart};
 ghost use Rattle.script_runner.specs.Leaves.{Leaves};
-ghost use Rattle.script_lines.specs.Lines.{lines_of};
+ghost use Rattle.plan_io.specs.Lines.{lines_of};
 ghost use Rattle.script_runner.specs.Scripts.{is_cut};
 
 use crate::answer::answer_line;
@@ -18,9 +18,8 @@ use fractions::Ratio;
 use line_answers::Listener;
 use linear_table::{Plan, SolveAnswer};
 use plan_base::{Items, NoMemory, Steps, Text};
-use plan_io::{Failed, Sink};
+use plan_io::{Failed, Lines, ScriptEnd, Sink, has_many_lines, write_all};
 use planner_core::Planner;
-use script_lines::{Lines, ScriptEnd, has_many_lines, write_all};
 use state_changes::put;
 use std::alloc::Global;
 

@@ -4,7 +4,7 @@ ghost use Rattle.plan_io.specs.Causes.{Rose};
 ghost use Rattle.state_changes.specs.States.{State};
 ghost use Rattle.planner_core.specs.Lines.{IsSessionOf};
 ghost use Rattle.script_runner.specs.Leaves.{Leaves};
-ghost use Rattle.script_lines.specs.Lines.{lines_of};
+ghost use Rattle.plan_io.specs.Lines.{lines_of};
 ghost use Rattle.script_runner.specs.Scripts.{is_cut, EndsScript};
 
 use crate::answer::answer_line;
@@ -12,9 +12,8 @@ use crate::solutions::keep;
 use line_answers::Listener;
 use linear_table::SolveAnswer;
 use plan_base::Steps;
-use plan_io::Sink;
+use plan_io::{Lines, ScriptEnd, Sink, write_all};
 use planner_core::Planner;
-use script_lines::{Lines, ScriptEnd, write_all};
 use std::alloc::Global;
 
 /// Answers each line, and writes its reply before the next line is answered.

@@ -11,9 +11,8 @@ use crate::report::answer_lines;
 use line_answers::Listener;
 use linear_table::SolveAnswer;
 use plan_base::Steps;
-use plan_io::Sink;
+use plan_io::{ScriptEnd, Sink, has_many_lines, write_all};
 use planner_core::Planner;
-use script_lines::{ScriptEnd, has_many_lines, write_all};
 use std::alloc::Global;
 
 /// Tells that a script has more lines than it may.

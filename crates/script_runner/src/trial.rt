@@ -20,7 +20,7 @@ use plan_base::{NoMemory, Steps, Text};
 use plan_lines::{Command, Reply};
 use plan_report::print_reply;
 use planner_core::{Planner, Posed};
-use script_lines::Line;
+use plan_io::Line;
 use std::alloc::Global;
 
 /// What a line comes to.

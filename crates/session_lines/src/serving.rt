@@ -5,9 +5,8 @@ ghost use Rattle.std.specs.Io.{ReadsAtMost};
 use crate::session::{BYTES, Session, SessionEnd, answer};
 use crate::wishes::Wishes;
 use plan_base::Steps;
-use plan_io::Sink;
+use plan_io::{Sink, trim_return, write_all};
 use planner_core::Planner;
-use script_lines::{trim_return, write_all};
 use std::alloc::{AllocError, Global};
 use std::io::Read;
 

@@ -2,7 +2,7 @@
 ghost use Rattle.std.specs.Prelude.{◌≡◌, ◌≤◌, ◌+◌, true, false, IfOk, None, OnOk, length, string_bytes};
 ghost use Rattle.state_changes.specs.States.{State};
 ghost use Rattle.planner_core.specs.Lines.{IsSessionOf};
-ghost use Rattle.script_lines.specs.Lines.{lines_of};
+ghost use Rattle.plan_io.specs.Lines.{lines_of};
 ghost use Rattle.planning_state.specs.Worlds.{is_reached};
 ghost use Rattle.carried_lines.specs.Leading.{Continues};
 ghost use Rattle.carried_lines.specs.Marks.{MarksOnly};
@@ -15,7 +15,7 @@ use carried_lines::{Progress, reached_nodes, step_lines};
 use fractions::Ratio;
 use plan_base::Steps;
 use planner_core::Planner;
-use script_lines::{LINE_LIMIT, line_count};
+use plan_io::{LINE_LIMIT, line_count};
 use std::alloc::Global;
 use wish_setups::{Met, Wish};
 use wish_words::WishRequest;

@@ -2,7 +2,7 @@
 ghost use Rattle.std.specs.Prelude.{◌≡◌, OnOk, IfOk, length, string_bytes};
 ghost use Rattle.state_changes.specs.States.{State};
 ghost use Rattle.planner_core.specs.Lines.{IsSessionOf};
-ghost use Rattle.script_lines.specs.Lines.{lines_of};
+ghost use Rattle.plan_io.specs.Lines.{lines_of};
 ghost use Rattle.carried_lines.specs.Leading.{Continues, LeadsToPlan, ends_within, joined};
 ghost use Rattle.carried_lines.specs.declared.stepping.Progress.{Progress};
 

@@ -1,5 +1,5 @@
 use Rattle.std.proofs.Common.{arith, refl}
-use Rattle.script_lines.proofs.WritingLemmas.{appends_none}
+use Rattle.plan_io.proofs.WritingLemmas.{appends_none}
 use Rattle.run_inputs.proofs.ToldLemmas.{tells_itself}
 use Rattle.run_inputs.proofs.telling.tell.Goals as goal
 

@@ -1,5 +1,5 @@
 use Rattle.std.proofs.Common.{◌≡◌, ◌∙◌, ℕ, List, ap, length, refl, subst, false, string_bytes}
-use Rattle.script_lines.specs.Lines.{lines_of}
+use Rattle.plan_io.specs.Lines.{lines_of}
 use Rattle.carried_lines.specs.Leading.{Continues, joined}
 use Rattle.carried_lines.specs.declared.stepping.Progress.{Progress}
 use Rattle.carried_lines.proofs.JoinedLemmas.{leads_to_plan}

@@ -2,9 +2,10 @@
 ghost use Rattle.std.specs.Prelude.{◌≡◌, ◌≤◌, OnOk, OnErr};
 ghost use Rattle.std.specs.Io.KnownBytes.{Appends};
 ghost use Rattle.plan_io.specs.Causes.{HasCause};
-ghost use Rattle.script_lines.specs.Writing.{AppendsFront};
+ghost use Rattle.plan_io.specs.Writing.{AppendsFront};
 
-use plan_io::{Failed, Sink};
+use crate::sink::Sink;
+use crate::store::Failed;
 
 /// Writes all bytes, or a front of them where the sink failed.
 pub fn write_all<K: Sink>(out: &mut K, bytes: &[u8]) -> Result<(), Failed>

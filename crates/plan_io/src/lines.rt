@@ -1,6 +1,6 @@
 //! The lines of a script.
 ghost use Rattle.std.specs.Prelude.{◌≡◌, ◌<◌, ◌≤◌, ◌+◌, ◌∷◌, ◌==◌, [], IfNone, IfSome, false, true, length, position};
-ghost use Rattle.script_lines.specs.Lines.{cut_lines, lines_of, without_return};
+ghost use Rattle.plan_io.specs.Lines.{cut_lines, lines_of, without_return};
 
 /// The most lines that a script may have.
 pub const LINE_LIMIT: usize = 100_000;

@@ -1,6 +1,6 @@
 use Rattle.std.proofs.Common.{◌≡◌, ◌+◌, ◌≤◌, length}
-use Rattle.script_lines.specs.Lines.{cut_lines}
-use Rattle.script_lines.proofs.lines.line_count.Given as goal
+use Rattle.plan_io.specs.Lines.{cut_lines}
+use Rattle.plan_io.proofs.lines.line_count.Given as goal
 
 abbrev pub invariant-loop-rest : goal.invariant-loop-rest
 invariant-loop-rest l = record {

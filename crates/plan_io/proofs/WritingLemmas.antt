@@ -5,7 +5,7 @@ use Rattle.std.specs.Io.KnownBytes.{Appends, Keeps}
 use Rattle.std.proofs.lemmas.List.{take-append-drop}
 use Rattle.std.proofs.Math.Seq.{take-add, take-length}
 use Rattle.std.proofs.lemmas.Grind.{common_steps}
-use Rattle.script_lines.specs.Writing.{AppendsFront}
+use Rattle.plan_io.specs.Writing.{AppendsFront}
 
 -- nothing was written
 pub appends_none : (known : Option (List ℕ)) → Appends known known []

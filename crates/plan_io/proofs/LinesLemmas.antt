@@ -3,8 +3,8 @@ use Rattle.std.proofs.Common.{◌≡◌, ◌<◌, ◌≤◌, ◌+◌, ◌-◌, �
 use Rattle.std.specs.Prelude.{Some, None, position, ◌==◌}
 use Rattle.std.specs.List.{position_or_len}
 use Rattle.std.proofs.lemmas.List.Quantifiers.{position-Some}
-use Rattle.script_lines.specs.Lines.{cut_lines, lines_of}
-use Rattle.script_lines.proofs.WritingLemmas.{rest_is_drop}
+use Rattle.plan_io.specs.Lines.{cut_lines, lines_of}
+use Rattle.plan_io.proofs.WritingLemmas.{rest_is_drop}
 
 cut_at : (bytes : List ℕ) (i : ℕ) → i < length bytes → (get_or bytes i 0 == 10) ≡ true → ((k : ℕ) → k < i → (get_or bytes k 0 == 10) ≡ false)
     → cut_lines bytes ≡ take i bytes ∷ cut_lines (drop (suc i) bytes)

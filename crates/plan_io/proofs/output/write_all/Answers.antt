@@ -1,6 +1,6 @@
 use Rattle.std.proofs.Common.{arith, length-drop}
-use Rattle.script_lines.proofs.WritingLemmas.{appends_piece, front_kept, on_err_always}
-use Rattle.script_lines.proofs.output.write_all.Goals as goal
+use Rattle.plan_io.proofs.WritingLemmas.{appends_piece, front_kept, on_err_always}
+use Rattle.plan_io.proofs.output.write_all.Goals as goal
 
 pub returns-in_err-done-clause-err : goal.returns-in_err-done-clause-err
 returns-in_err-done-clause-err g c =
