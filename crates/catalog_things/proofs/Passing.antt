@@ -10,7 +10,7 @@ use Rattle.std.proofs.lemmas.List.Elements.{All-nil}
 use Rattle.game_types.specs.declared.games.Game.{Game}
 use Rattle.game_types.specs.declared.setups.Activity.{Activity}
 use Rattle.game_types.specs.Sound.{IsSoundActivity, IsSoundSetup}
-use Rattle.node_lists.specs.Members.{node}
+use Rattle.graph_store.specs.Members.{node}
 use Rattle.catalog_things.specs.Choices.{bare_row, passing}
 
 pub bare_sound : (g : Game) (machine : EntityId) (activity : Activity) → machine.0 < length g.machines → IsSoundActivity g activity → IsSoundSetup g (bare_row machine activity)

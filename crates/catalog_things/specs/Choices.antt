@@ -31,8 +31,8 @@ use Rattle.power_rows.specs.Power.{checked_power}
 use Rattle.research_rows.specs.Research.{checked_lab}
 use Rattle.table_rows.specs.declared.faults.SetupFault.{SetupFault}
 use Rattle.table_rows.specs.declared.faults.SetupFault.TheVariants.{Power as PowerRefused}
-use Rattle.node_lists.specs.Lists.{list_at}
-use Rattle.node_lists.specs.Members.{node, those}
+use Rattle.graph_store.specs.Lists.{list_at}
+use Rattle.graph_store.specs.Members.{node, those}
 use Rattle.depend_index.specs.declared.index.Index.{Index}
 use Rattle.depend_index.specs.Goods.{first_machine}
 

@@ -16,7 +16,7 @@ use Rattle.game_types.specs.declared.goods.Module.{Module}
 use Rattle.game_types.specs.declared.machinery.MachineKind.{MachineKind}
 use Rattle.game_types.specs.declared.machinery.MachineKind.TheVariants.{Reactor}
 use Rattle.game_types.specs.declared.setups.Activity.TheVariants.{Generate}
-use Rattle.node_lists.specs.Members.{those}
+use Rattle.graph_store.specs.Members.{those}
 use Rattle.depend_index.specs.Goods.{first_machine, putters, variants}
 use Rattle.serde_json.specs.Data.{Members, no_members}
 use Rattle.catalog_members.specs.Members.{with_amount, with_id_where, with_ids, with_object}

@@ -2,7 +2,7 @@
 ghost use Rattle.std.specs.Prelude.{◌≡◌, ◌+◌, ◌≤◌, ◌<◌, ◌^◌, ◌++◌, ◌∷◌, [], IfOk, OnOk, length, if◌then◌else◌};
 ghost use Rattle.game_types.specs.Sound.{IsSound, IsSoundActivity};
 ghost use Rattle.depend_index.specs.Goods.{first_machine};
-ghost use Rattle.node_lists.specs.Members.{node as node_of};
+ghost use Rattle.graph_store.specs.Members.{node as node_of};
 ghost use Rattle.catalog_things.specs.Choices.{bare_row, does_power, does_in, machines_for};
 
 use depend_index::first_machine;

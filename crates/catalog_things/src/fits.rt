@@ -4,7 +4,7 @@ ghost use Rattle.catalog_things.specs.Choices.{fits_among, fits_by_itself, fits_
 
 use depend_index::Index;
 use game_types::{Game, Part, is_within};
-use node_lists::list_of;
+use graph_store::list_of;
 use plan_base::{GoodId, NoMemory, NodeId};
 use std::alloc::Global;
 

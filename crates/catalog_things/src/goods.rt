@@ -15,7 +15,7 @@ use catalog_members::{Members, put_amount, put_id_where, put_ids, put_object};
 use depend_index::{Index, first_machine};
 use fractions::{Ratio, is_zero};
 use game_types::{Activity, Bonus, Fluid, Fuel, Game, Item, Machine, MachineKind, Module};
-use node_lists::{Test, list_of, those};
+use graph_store::{Test, list_of, those};
 use plan_base::{EntityId, GoodId, Kind, NoMemory, NodeId};
 use serde_json::Map;
 use std::alloc::Global;

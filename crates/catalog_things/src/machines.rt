@@ -19,7 +19,7 @@ use catalog_members::{
 };
 use depend_index::Index;
 use game_types::{Allowed, Energy, Game, Machine, MachineKind};
-use node_lists::list_of;
+use graph_store::list_of;
 use plan_base::{EntityId, GoodId, Kind, NoMemory, NodeId, RecipeId, Text};
 use std::alloc::Global;
 

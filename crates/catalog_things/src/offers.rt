@@ -5,7 +5,7 @@ ghost use Rattle.catalog_things.specs.Choices.{burns, fuels_of, may_hold, module
 
 use depend_index::first_fluid;
 use game_types::{Allowed, Energy, Fuel, Game, Item, Module, first_refused, takes_fuel};
-use node_lists::{Test, those};
+use graph_store::{Test, those};
 use plan_base::{NoMemory, NodeId};
 use std::alloc::Global;
 

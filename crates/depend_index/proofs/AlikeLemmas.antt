@@ -33,14 +33,14 @@ use Rattle.depend_index.specs.Indexed.{IsIndex}
 use Rattle.depend_index.specs.Machines.{burning_fluids, is_machine, placers}
 use Rattle.depend_index.specs.Kinds.{crafts_all_of, crafts_alone, has_category, is_drill_of, is_fuel_of, is_lab, is_recipe, takes}
 use Rattle.depend_index.specs.Coolest.{AreSorted}
-use Rattle.node_lists.specs.Lists.{has_node, list_at, AreLists, HoldThose, Widen}
+use Rattle.graph_store.specs.Lists.{has_node, list_at, AreLists, HoldThose, Widen}
 use Rattle.depend_index.specs.Marks.{AreMarks}
-use Rattle.node_lists.specs.Words.{AreWords}
+use Rattle.graph_store.specs.Words.{AreWords}
 use Rattle.depend_index.specs.Goods.{first_machine, first_recipe, first_source, first_tech, good_count, leavers, putters, puts_out, variants}
-use Rattle.node_lists.specs.Members.{passes, those}
+use Rattle.graph_store.specs.Members.{passes, those}
 use Rattle.depend_index.specs.declared.index.Index.{Index}
-use Rattle.node_lists.proofs.AmongLemmas.{at_those, below_those}
-use Rattle.node_lists.proofs.OrderLemmas.{those_same}
+use Rattle.graph_store.proofs.AmongLemmas.{at_those, below_those}
+use Rattle.graph_store.proofs.OrderLemmas.{those_same}
 use Rattle.data_edit.proofs.GameKept.{same_game}
 
 -- ---- games alike

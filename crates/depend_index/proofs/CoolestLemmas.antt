@@ -16,15 +16,15 @@ use Rattle.game_types.specs.Temperatures.{is_cool_enough, is_cooler, is_fit_vari
 use Rattle.game_types.specs.declared.games.Game.{Game}
 use Rattle.game_types.specs.declared.goods.Fluid.{Fluid}
 use Rattle.depend_index.specs.Coolest.{AreCoolestFirst, AreSorted, IsCoolestFirst, temperature_in, temperature_of}
-use Rattle.node_lists.specs.Lists.{has_node, is_among, list_at, number_at, HoldInOrder}
+use Rattle.graph_store.specs.Lists.{has_node, is_among, list_at, number_at, HoldInOrder}
 use Rattle.depend_index.specs.Indexed.{IsIndex}
 use Rattle.depend_index.specs.Goods.{good_count, variants}
-use Rattle.node_lists.specs.Members.{node, passes, those}
+use Rattle.graph_store.specs.Members.{node, passes, those}
 use Rattle.depend_index.specs.declared.index.Index.{Index}
-use Rattle.node_lists.proofs.AmongLemmas.{at_those, below_those}
-use Rattle.node_lists.proofs.CommonLemmas.{has_filtered, number_is}
-use Rattle.node_lists.proofs.OrderLemmas.{in_order_those, numbers_of}
-use Rattle.node_lists.proofs.Walks.{at_self}
+use Rattle.graph_store.proofs.AmongLemmas.{at_those, below_those}
+use Rattle.graph_store.proofs.CommonLemmas.{has_filtered, number_is}
+use Rattle.graph_store.proofs.OrderLemmas.{in_order_those, numbers_of}
+use Rattle.graph_store.proofs.Walks.{at_self}
 
 -- ---- the order of temperatures
 pub compared_cooler : (x y : Fraction) → is_lt (compared x y) ≡ is_cooler x y

@@ -7,7 +7,7 @@ use Rattle.plan_base.proofs.Walks.{next, drop_all}
 use Rattle.plan_base.proofs.Bools.{or_false}
 use Rattle.game_types.specs.declared.recipes.Recipe.{Recipe}
 use Rattle.depend_index.specs.Kinds.{has_category}
-use Rattle.node_lists.specs.Lists.{is_among}
+use Rattle.graph_store.specs.Lists.{is_among}
 
 either_assoc : (a b c : Bool) → ((a || b) || c) ≡ (a || (b || c))
 either_assoc true b c = refl

@@ -4,7 +4,7 @@ use Rattle.std.specs.Prelude.{◌==◌, ◌||◌}
 use Rattle.std.proofs.lemmas.Bool.{or_right}
 use Rattle.plan_base.proofs.Walks.{next, drop_all}
 use Rattle.plan_base.proofs.Bools.{or_false}
-use Rattle.node_lists.specs.Lists.{is_among}
+use Rattle.graph_store.specs.Lists.{is_among}
 use Rattle.depend_index.specs.Marks.{AreMarks}
 
 -- the marks so far, with those that are to come

@@ -8,8 +8,8 @@ use Rattle.plan_base.specs.declared.ids.NodeId.{NodeId}
 use Rattle.plan_base.proofs.Walks.{next, drop_all}
 use Rattle.plan_base.proofs.Bools.{or_false}
 use Rattle.data_edit.specs.declared.edits.Edit.{Edit}
-use Rattle.node_lists.specs.Lists.{has_node, list_at, Rise, Widen}
-use Rattle.node_lists.proofs.PutLemmas.{widen_more, widen_same}
+use Rattle.graph_store.specs.Lists.{has_node, list_at, Rise, Widen}
+use Rattle.graph_store.proofs.PutLemmas.{widen_more, widen_same}
 
 -- both of two numbers are these
 pub same_pair : (a b c d : ℕ) → ((a == b) && (c == d)) ≡ true → (a ≡ b) × (c ≡ d)

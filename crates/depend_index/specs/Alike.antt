@@ -4,7 +4,7 @@ use Rattle.std.specs.Prelude.{ℕ, ◌≡◌, ◌==◌, ◌&&◌, Bool, false, L
 use Rattle.std.specs.List.{list_any}
 use Rattle.game_types.specs.Making.{gives}
 use Rattle.game_types.specs.declared.games.Game.{Game}
-use Rattle.node_lists.specs.Members.{passes}
+use Rattle.graph_store.specs.Members.{passes}
 use Rattle.data_edit.specs.Names.{KeepsGame}
 use Rattle.data_edit.specs.declared.edits.Edit.{Edit}
 use Rattle.data_edit.specs.declared.edits.Edit.TheVariants.{SetIngredient, DropIngredient, SetProduct, DropProduct, SetUnlock, SetTime, SetEnabled, Forbid, Permit, Grant, Revoke}

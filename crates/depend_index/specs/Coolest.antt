@@ -5,7 +5,7 @@ use Rattle.fractions.specs.Fraction.{Fraction, zero_fraction}
 use Rattle.plan_base.specs.declared.ids.NodeId.{NodeId}
 use Rattle.game_types.specs.Temperatures.{is_cooler}
 use Rattle.game_types.specs.declared.goods.Fluid.{Fluid}
-use Rattle.node_lists.specs.Lists.{has_node, list_at, number_at}
+use Rattle.graph_store.specs.Lists.{has_node, list_at, number_at}
 
 -- the temperature of a fluid; 0 where there is none
 abbrev pub temperature_in : Option Fluid → Fraction

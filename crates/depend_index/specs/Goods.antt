@@ -9,7 +9,7 @@ use Rattle.game_types.specs.Nodes.{shape_of}
 use Rattle.game_types.specs.declared.games.Game.{Game}
 use Rattle.game_types.specs.declared.machinery.MachineKind.{MachineKind}
 use Rattle.game_types.specs.declared.machinery.MachineKind.TheVariants.{Pump, Boiler}
-use Rattle.node_lists.specs.Members.{those}
+use Rattle.graph_store.specs.Members.{those}
 
 -- the number of the first node of each kind
 abbrev pub first_recipe : Game → ℕ

@@ -5,14 +5,14 @@ use Rattle.std.specs.List.{list_any}
 use Rattle.game_types.specs.Making.{gives}
 use Rattle.game_types.specs.declared.games.Game.{Game}
 use Rattle.depend_index.specs.declared.index.Index.{Index}
-use Rattle.node_lists.specs.Members.{those}
+use Rattle.graph_store.specs.Members.{those}
 use Rattle.depend_index.specs.Goods.{first_machine, first_recipe, first_source, first_tech, good_count, leavers, putters, variants}
 use Rattle.depend_index.specs.Machines.{burning_fluids, placers}
 use Rattle.depend_index.specs.Kinds.{crafts_all_of, crafts_alone, is_drill_of, is_fuel_of, is_lab, takes}
 use Rattle.depend_index.specs.Coolest.{AreSorted}
-use Rattle.node_lists.specs.Lists.{AreAllLists, AreLists, HoldThose}
+use Rattle.graph_store.specs.Lists.{AreAllLists, AreLists, HoldThose}
 use Rattle.depend_index.specs.Marks.{AreMarks}
-use Rattle.node_lists.specs.Words.{AreWords}
+use Rattle.graph_store.specs.Words.{AreWords}
 
 pub record IsIndex (g : Game) (index : Index) : Type 0 where
   pub leavers : AreLists (leavers g) (good_count g) index.leavers.items

@@ -6,7 +6,7 @@ use Rattle.plan_base.specs.declared.ids.EntityId.{EntityId}
 use Rattle.plan_base.specs.declared.ids.GoodId.{GoodId}
 use Rattle.fractions.specs.Signs.{is_positive}
 use Rattle.game_types.specs.declared.games.Game.{Game}
-use Rattle.node_lists.specs.Members.{those}
+use Rattle.graph_store.specs.Members.{those}
 
 abbrev pub is_machine : Option EntityId → ℕ → Bool
 is_machine None number = false

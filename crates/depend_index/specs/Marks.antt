@@ -1,6 +1,6 @@
 -- Marks by number.
 use Rattle.std.specs.Prelude.{ℕ, ◌≡◌, ◌<◌, Bool, false, List, length, slice_index_or}
-use Rattle.node_lists.specs.Lists.{is_among}
+use Rattle.graph_store.specs.Lists.{is_among}
 
 -- each mark says whether its number is among these
 abbrev pub AreMarks : List ℕ → List Bool → Type 0

@@ -3,7 +3,7 @@ ghost use Rattle.std.specs.Prelude.{◌≡◌, ◌<◌, ◌==◌, IfOk, length};
 ghost use Rattle.std.specs.List.{list_any};
 ghost use Rattle.game_types.specs.Making.{gives};
 ghost use Rattle.game_types.specs.Sound.{IsSound};
-ghost use Rattle.node_lists.specs.Members.{those};
+ghost use Rattle.graph_store.specs.Members.{those};
 ghost use Rattle.depend_index.specs.Indexed.{IsIndex};
 ghost use Rattle.depend_index.specs.Goods.{first_recipe, good_count, unlockers};
 
@@ -11,7 +11,7 @@ use crate::index::Index;
 use crate::places::{first_recipe, first_tech};
 use crate::products::is_expected;
 use game_types::{Game, Product, Recipe, Tech};
-use node_lists::{Test, those_at};
+use graph_store::{Test, those_at};
 use plan_base::{NoMemory, NodeId, RecipeId};
 use std::alloc::Global;
 

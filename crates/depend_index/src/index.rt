@@ -3,13 +3,13 @@ ghost use Rattle.std.specs.Prelude.{◌≡◌, ◌+◌, ◌==◌, IfOk, false, l
 ghost use Rattle.std.specs.List.{list_any};
 ghost use Rattle.game_types.specs.Making.{gives};
 ghost use Rattle.game_types.specs.Sound.{IsSound};
-ghost use Rattle.node_lists.specs.Members.{those};
+ghost use Rattle.graph_store.specs.Members.{those};
 ghost use Rattle.depend_index.specs.Goods.{first_machine, first_recipe, first_source, first_tech, good_count, leavers, putters, variants};
 ghost use Rattle.depend_index.specs.Machines.{burning_fluids, placers};
 ghost use Rattle.depend_index.specs.Kinds.{crafts_all_of, crafts_alone, is_drill_of, is_fuel_of, is_lab, takes};
-ghost use Rattle.node_lists.specs.Lists.{AreAllLists, AreLists, HoldThose};
+ghost use Rattle.graph_store.specs.Lists.{AreAllLists, AreLists, HoldThose};
 ghost use Rattle.depend_index.specs.Marks.{AreMarks};
-ghost use Rattle.node_lists.specs.Words.{AreWords};
+ghost use Rattle.graph_store.specs.Words.{AreWords};
 ghost use Rattle.depend_index.specs.Coolest.{AreSorted};
 
 use crate::kinds::{all_labs, burning_fluids};

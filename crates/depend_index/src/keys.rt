@@ -7,12 +7,12 @@ ghost use Rattle.game_types.specs.Temperatures.{is_good};
 ghost use Rattle.depend_index.specs.Goods.{puts_out};
 ghost use Rattle.depend_index.specs.Machines.{is_machine};
 ghost use Rattle.depend_index.specs.Kinds.{is_fuel_of};
-ghost use Rattle.node_lists.specs.Lists.{is_among};
+ghost use Rattle.graph_store.specs.Lists.{is_among};
 
 use crate::products::is_expected;
 use fractions::is_positive;
 use game_types::{Fluid, Fuel, Item, Machine, MachineKind, Product, Recipe, Source, Tech};
-use node_lists::Keys;
+use graph_store::Keys;
 use plan_base::{EntityId, GoodId, NoMemory, RecipeId};
 use std::alloc::Global;
 

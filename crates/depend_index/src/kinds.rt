@@ -5,12 +5,12 @@ ghost use Rattle.game_types.specs.Sound.{IsSound};
 ghost use Rattle.depend_index.specs.Goods.{first_machine};
 ghost use Rattle.depend_index.specs.Kinds.{is_lab};
 ghost use Rattle.depend_index.specs.Machines.{burning_fluids};
-ghost use Rattle.node_lists.specs.Members.{those};
+ghost use Rattle.graph_store.specs.Members.{those};
 
 use crate::places::{first_fluid, first_machine};
 use fractions::is_positive;
 use game_types::{Fluid, Game, Machine, MachineKind};
-use node_lists::{Test, those};
+use graph_store::{Test, those};
 use plan_base::{NoMemory, NodeId};
 use std::alloc::Global;
 

@@ -3,12 +3,12 @@ ghost use Rattle.std.specs.Prelude.{◌+◌, ◌==◌, IfOk, length, true};
 ghost use Rattle.std.specs.List.{list_any};
 ghost use Rattle.game_types.specs.Making.{gives};
 ghost use Rattle.game_types.specs.Sound.{IsSound};
-ghost use Rattle.node_lists.specs.Members.{those};
+ghost use Rattle.graph_store.specs.Members.{those};
 ghost use Rattle.depend_index.specs.Goods.{first_machine, first_recipe, first_source, first_tech, good_count, leavers, putters, variants};
 ghost use Rattle.depend_index.specs.Machines.{placers};
 ghost use Rattle.depend_index.specs.Kinds.{crafts_all_of, crafts_alone, is_drill_of, is_fuel_of, takes};
-ghost use Rattle.node_lists.specs.Lists.{AreAllLists, AreLists, HoldThose};
-ghost use Rattle.node_lists.specs.Words.{AreWords};
+ghost use Rattle.graph_store.specs.Lists.{AreAllLists, AreLists, HoldThose};
+ghost use Rattle.graph_store.specs.Words.{AreWords};
 ghost use Rattle.depend_index.specs.Coolest.{AreSorted};
 
 use crate::keys::{Burnt, Given, Placed, Unlocked};
@@ -18,7 +18,7 @@ use crate::places::{
 };
 use crate::temperatures::sorted_lists;
 use game_types::Game;
-use node_lists::{all_lists_of, lists_of, words_of_all};
+use graph_store::{all_lists_of, lists_of, words_of_all};
 use plan_base::{NoMemory, NodeId};
 use std::alloc::Global;
 

@@ -3,11 +3,11 @@ ghost use Rattle.std.specs.Prelude.{◌≡◌, ℕ, ◌==◌, ◌&&◌, IfOk, sl
 ghost use Rattle.std.specs.Option.{option_copied};
 ghost use Rattle.depend_index.specs.Machines.{names_good};
 ghost use Rattle.depend_index.specs.Kinds.{crafts_all_of, crafts_alone, has_category, is_drill_of, takes};
-ghost use Rattle.node_lists.specs.Lists.{is_among};
+ghost use Rattle.graph_store.specs.Lists.{is_among};
 
 use crate::keys::{copied, one_number};
 use game_types::{Machine, MachineKind, Recipe, holds};
-use node_lists::Keys;
+use graph_store::Keys;
 use plan_base::{GoodId, NoMemory, RecipeId};
 use std::alloc::Global;
 

@@ -7,11 +7,11 @@ ghost use Rattle.game_types.specs.Nodes.{shape_of};
 ghost use Rattle.game_types.specs.declared.games.Game.{Game};
 ghost use Rattle.depend_index.specs.Alike.{AlikeBut, is_of_product, is_of_unlock};
 ghost use Rattle.depend_index.specs.Indexed.{IsIndex};
-ghost use Rattle.node_lists.specs.Lists.{Rise, Widen, has_node, list_at};
+ghost use Rattle.graph_store.specs.Lists.{Rise, Widen, has_node, list_at};
 
 use crate::index::Index;
 use data_edit::Edit;
-use node_lists::put_node_at;
+use graph_store::put_node_at;
 use plan_base::{GoodId, Kind, NoMemory, NodeId, RecipeId, Shape, TechId};
 
 // Notes that a recipe may give a good. What names nothing is passed over.

@@ -3,7 +3,7 @@ ghost use Rattle.std.specs.Prelude.{◌≡◌, ℕ, ◌<◌, ◌≤◌, None, tr
 ghost use Rattle.std.specs.Ordering.{is_lt};
 ghost use Rattle.game_types.specs.Temperatures.{is_cooler, is_within};
 ghost use Rattle.depend_index.specs.Coolest.{AreCoolestFirst, AreSorted, IsCoolestFirst, temperature_of};
-ghost use Rattle.node_lists.specs.Lists.{has_node, number_at};
+ghost use Rattle.graph_store.specs.Lists.{has_node, number_at};
 
 use fractions::Ratio;
 use game_types::{Fluid, is_within};

@@ -17,7 +17,7 @@ use Rattle.data_edit.specs.declared.edits.Edit.{Edit}
 use Rattle.data_edit.specs.declared.edits.Edit.TheVariants.{SetIngredient, DropIngredient, SetProduct, DropProduct, SetUnlock, SetTime, SetEnabled, Forbid, Permit, Grant, Revoke}
 use Rattle.data_edit.proofs.EffectLaw.{effect_law}
 use Rattle.data_edit.proofs.GameKept.{edit_keeps_game}
-use Rattle.node_lists.specs.Members.{passes}
+use Rattle.graph_store.specs.Members.{passes}
 use Rattle.depend_index.specs.Alike.{AlikeBut, is_of_product, is_of_unlock}
 use Rattle.depend_rows.proofs.TouchLemmas.{any-with_entry, any-without, other_product, switched}
 

@@ -5,8 +5,8 @@ use Rattle.std.specs.List.{list_any}
 use Rattle.std.proofs.lemmas.Bool.Decides.{nat_tests}
 use Rattle.game_types.specs.Temperatures.{is_base, is_good}
 use Rattle.game_types.specs.declared.games.Game.{Game}
-use Rattle.node_lists.specs.Members.{node, those}
-use Rattle.node_lists.specs.Lists.{list_at}
+use Rattle.graph_store.specs.Members.{node, those}
+use Rattle.graph_store.specs.Lists.{list_at}
 use Rattle.depend_index.specs.Goods.{good_count, variants}
 use Rattle.depend_index.specs.Indexed.{IsIndex}
 use Rattle.depend_index.specs.declared.index.Index.{Index}

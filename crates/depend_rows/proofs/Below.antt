@@ -25,7 +25,7 @@ use Rattle.game_types.specs.declared.recipes.Part.{Part}
 use Rattle.game_types.specs.declared.recipes.Recipe.{Recipe}
 use Rattle.game_types.specs.declared.recipes.Source.{Source}
 use Rattle.game_types.specs.declared.research.Tech.{Tech}
-use Rattle.node_lists.specs.Members.{named, node, those}
+use Rattle.graph_store.specs.Members.{named, node, those}
 use Rattle.depend_rows.specs.Members.{all_of, any_of, character_where, good_node, group_where, row_with}
 use Rattle.depend_index.specs.Goods.{first_recipe, first_source, first_machine, first_tech, good_count, leavers, putters, variants, unlockers}
 use Rattle.depend_rows.specs.Goods.{bounded_group, bounded_groups, crafters_by, fits, free_good, givers, good_row, ingredients, is_free, makers, crafters, recipe_row, miners, fluid_group, source_row}

@@ -8,11 +8,11 @@ use Rattle.game_types.specs.declared.machinery.MachineKind.TheVariants.{Crafter,
 use Rattle.game_types.specs.declared.machinery.Machine.{Machine}
 use Rattle.game_types.specs.declared.recipes.Recipe.{Recipe}
 use Rattle.game_types.specs.declared.recipes.Source.{Source}
-use Rattle.node_lists.specs.Members.{those}
+use Rattle.graph_store.specs.Members.{those}
 use Rattle.depend_index.specs.Kinds.{crafts_all_of, crafts_alone, has_category, is_drill_of}
-use Rattle.node_lists.specs.Lists.{is_among, HoldInOrder}
+use Rattle.graph_store.specs.Lists.{is_among, HoldInOrder}
 use Rattle.depend_index.proofs.KeyLemmas.{is_among-append}
-use Rattle.node_lists.proofs.OrderLemmas.{among_either, in_order_those, numbers_of, those_same}
+use Rattle.graph_store.proofs.OrderLemmas.{among_either, in_order_those, numbers_of, those_same}
 
 by_fixing : (of same : Bool) → (of && not (not same)) ≡ ((of && false) || (same && of))
 by_fixing true true = refl

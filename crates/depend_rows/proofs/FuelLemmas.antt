@@ -9,13 +9,13 @@ use Rattle.game_types.specs.Making.{holds}
 use Rattle.fractions.specs.Signs.{is_positive}
 use Rattle.game_types.specs.declared.goods.Fuel.{Fuel}
 use Rattle.game_types.specs.declared.goods.Item.{Item}
-use Rattle.node_lists.specs.Members.{those}
+use Rattle.graph_store.specs.Members.{those}
 use Rattle.depend_index.specs.Kinds.{is_fuel_of}
 use Rattle.depend_rows.specs.Machines.{is_fuel_in}
-use Rattle.node_lists.specs.Lists.{is_among, list_at, numbers_at, AreAllLists, HoldInOrder}
+use Rattle.graph_store.specs.Lists.{is_among, list_at, numbers_at, AreAllLists, HoldInOrder}
 use Rattle.depend_rows.proofs.CraftLemmas.{none_of}
 use Rattle.depend_index.proofs.KeyLemmas.{is_among-append}
-use Rattle.node_lists.proofs.OrderLemmas.{among_either, in_order_those, numbers_of, those_same}
+use Rattle.graph_store.proofs.OrderLemmas.{among_either, in_order_those, numbers_of, those_same}
 
 pub numbers_more : (lists : List (Vec NodeId Global)) (ks : List ℕ) (i x : ℕ) (numbers new : List ℕ) → i < length ks → x ≡ get_or ks i x → new ≡ numbers ++ map (λ n. n.0) (list_at lists x)
     → numbers ++ numbers_at lists (drop i ks) ≡ numbers_at lists ks → new ++ numbers_at lists (drop (i + 1) ks) ≡ numbers_at lists ks

@@ -11,13 +11,13 @@ use Rattle.plan_base.specs.declared.ids.NodeId.{NodeId}
 use Rattle.game_types.specs.declared.machinery.Machine.{Machine}
 use Rattle.game_types.specs.declared.machinery.MachineKind.{MachineKind}
 use Rattle.game_types.specs.declared.machinery.MachineKind.TheVariants.{Crafter, Drill, Pump, Boiler, Generator, BurnerGenerator, Solar, Reactor, Lab, Beacon}
-use Rattle.node_lists.specs.Members.{node, those}
+use Rattle.graph_store.specs.Members.{node, those}
 use Rattle.depend_index.specs.Machines.{names_good}
 use Rattle.depend_rows.specs.Machines.{researches}
 use Rattle.depend_index.specs.Kinds.{takes}
-use Rattle.node_lists.specs.Lists.{has_node, is_in_all, list_at, AreCommon, AreLists, Rise}
-use Rattle.node_lists.proofs.NumbersLemmas.{Rising, rising_above}
-use Rattle.node_lists.proofs.OrderLemmas.{in_order_those, numbers_of, those_rise, those_rising}
+use Rattle.graph_store.specs.Lists.{has_node, is_in_all, list_at, AreCommon, AreLists, Rise}
+use Rattle.graph_store.proofs.NumbersLemmas.{Rising, rising_above}
+use Rattle.graph_store.proofs.OrderLemmas.{in_order_those, numbers_of, those_rise, those_rising}
 
 -- ---- the numbers of those that pass a test
 -- the thing of a number

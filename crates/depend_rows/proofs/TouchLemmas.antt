@@ -39,8 +39,8 @@ use Rattle.data_edit.specs.declared.edits.Edit.{Edit}
 use Rattle.data_edit.specs.declared.edits.Edit.TheVariants.{SetIngredient, DropIngredient, SetProduct, DropProduct, SetUnlock, SetTime, SetEnabled, Forbid, Permit, Grant, Revoke}
 use Rattle.data_edit.proofs.EffectLaw.{effect_law}
 use Rattle.plan_base.proofs.Places.{with_at-nil, with_at-zero, with_at-suc, length-with_at}
-use Rattle.node_lists.proofs.OrderLemmas.{those_same}
-use Rattle.node_lists.specs.Members.{node, those}
+use Rattle.graph_store.proofs.OrderLemmas.{those_same}
+use Rattle.graph_store.specs.Members.{node, those}
 use Rattle.depend_index.specs.Goods.{first_recipe, first_source, first_machine, first_tech, leavers, putters, variants, unlockers}
 use Rattle.depend_rows.specs.Goods.{bounded_groups, crafters_by, fits, givers, good_row, ingredients, makers, crafters, recipe_row, miners, source_row}
 use Rattle.depend_index.specs.Machines.{placers, burning_fluids}

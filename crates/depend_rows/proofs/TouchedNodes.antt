@@ -11,7 +11,7 @@ use Rattle.plan_base.specs.declared.ids.NodeId.{NodeId}
 use Rattle.plan_base.specs.declared.shape.Shape.{Shape}
 use Rattle.graph_store.specs.Rows.{has_node}
 use Rattle.data_edit.specs.declared.edits.Edit.{Edit}
-use Rattle.node_lists.specs.Members.{node}
+use Rattle.graph_store.specs.Members.{node}
 use Rattle.depend_rows.specs.Touched.{numbers_below, touched_by, touched_by_all, touched_numbers}
 
 -- ---- nodes of a stretch of numbers that pass a test

@@ -13,7 +13,7 @@ use Rattle.game_types.specs.declared.games.Game.{Game}
 use Rattle.game_types.specs.declared.recipes.Part.{Part}
 use Rattle.game_types.specs.declared.recipes.Recipe.{Recipe}
 use Rattle.game_types.specs.declared.recipes.Source.{Source}
-use Rattle.node_lists.specs.Members.{named, those}
+use Rattle.graph_store.specs.Members.{named, those}
 use Rattle.depend_index.specs.Goods.{first_machine, first_recipe, first_source, good_count, leavers, putters, unlockers, variants}
 use Rattle.depend_rows.specs.Members.{all_of, any_of, character_where, good_node, group_where, row_with}
 

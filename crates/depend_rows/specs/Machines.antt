@@ -17,7 +17,7 @@ use Rattle.game_types.specs.declared.machinery.Machine.{Machine}
 use Rattle.game_types.specs.declared.machinery.MachineKind.{MachineKind}
 use Rattle.game_types.specs.declared.machinery.MachineKind.TheVariants.{Boiler, Generator, BurnerGenerator, Solar, Reactor, Lab}
 use Rattle.game_types.specs.declared.research.Tech.{Tech}
-use Rattle.node_lists.specs.Members.{named, those}
+use Rattle.graph_store.specs.Members.{named, those}
 use Rattle.depend_rows.specs.Members.{all_of, any_of, good_node, group_where, row_with}
 use Rattle.depend_index.specs.Goods.{first_machine, first_tech, good_count}
 use Rattle.depend_index.specs.Machines.{burning_fluids, names_good, placers}

@@ -5,7 +5,7 @@ use Rattle.plan_base.specs.declared.ids.NodeId.{NodeId}
 use Rattle.plan_base.specs.declared.ids.GoodId.{GoodId}
 use Rattle.graph_store.specs.declared.Group.{Group}
 use Rattle.graph_store.specs.declared.Row.{Row}
-use Rattle.node_lists.specs.Members.{node}
+use Rattle.graph_store.specs.Members.{node}
 
 -- the character, where it does something itself
 abbrev pub character_where : Bool → List NodeId

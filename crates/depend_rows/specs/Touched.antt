@@ -12,7 +12,7 @@ use Rattle.data_edit.specs.declared.books.Book.{Book}
 use Rattle.data_edit.specs.declared.edits.Edit.{Edit}
 use Rattle.data_edit.specs.declared.edits.Edit.TheVariants.{SetIngredient, DropIngredient, SetProduct, DropProduct, SetUnlock, SetTime, SetEnabled, Forbid, Permit, Grant, Revoke}
 use Rattle.data_edit.specs.Edits.{effect}
-use Rattle.node_lists.specs.Members.{named, node}
+use Rattle.graph_store.specs.Members.{named, node}
 use Rattle.depend_rows.specs.Rows.{row_of}
 
 -- the node of a recipe, of a good; an id that names nothing has none

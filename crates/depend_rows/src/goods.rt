@@ -3,15 +3,14 @@ ghost use Rattle.std.specs.Prelude.{◌≡◌, ◌<◌, ◌++◌, IfOk, OnOk, le
 ghost use Rattle.game_types.specs.Sound.{IsSound};
 ghost use Rattle.depend_index.specs.Indexed.{IsIndex};
 ghost use Rattle.game_types.specs.Temperatures.{is_base};
-ghost use Rattle.node_lists.specs.Lists.{list_at};
+ghost use Rattle.graph_store.specs.Lists.{list_at};
 ghost use Rattle.depend_index.specs.Goods.{good_count, leavers, putters, variants};
 ghost use Rattle.depend_rows.specs.Goods.{givers, good_row, makers};
 
 use crate::members::{any_of, row_with};
 use depend_index::{Index, recipes_giving};
 use game_types::Game;
-use graph_store::Row;
-use node_lists::{list_at, list_of};
+use graph_store::{Row, list_at, list_of};
 use plan_base::{NoMemory, NodeId};
 use std::alloc::Global;
 

@@ -4,7 +4,7 @@ ghost use Rattle.std.specs.List.{filter_map};
 ghost use Rattle.game_types.specs.Temperatures.{fits_alone, fluid_at, is_fit_variant};
 ghost use Rattle.game_types.specs.Sound.{IsGood, IsSound, IsSoundRecipe};
 ghost use Rattle.depend_index.specs.Indexed.{IsIndex};
-ghost use Rattle.node_lists.specs.Members.{named, those};
+ghost use Rattle.graph_store.specs.Members.{named, those};
 ghost use Rattle.depend_index.specs.Goods.{good_count};
 ghost use Rattle.depend_rows.specs.Goods.{bounded_group, fits, free_good, ingredients, is_free};
 
@@ -12,8 +12,7 @@ use crate::goods::is_base;
 use crate::members::{any_of, put_found};
 use depend_index::{Index, first_fluid, good_count, numbers_within};
 use game_types::{Game, Part, Recipe, is_within};
-use graph_store::Group;
-use node_lists::{in_order, list_of, named};
+use graph_store::{Group, in_order, list_of, named};
 use plan_base::{GoodId, NoMemory, NodeId};
 use std::alloc::Global;
 

@@ -4,17 +4,16 @@ ghost use Rattle.std.specs.List.{cons_option};
 ghost use Rattle.fractions.specs.Fraction.{Fraction};
 ghost use Rattle.game_types.specs.declared.machinery.Energy.TheVariants.{Burner};
 ghost use Rattle.game_types.specs.Sound.{IsFluid, IsSound, IsSoundEnergy, IsSoundKind, IsSoundMachine};
-ghost use Rattle.node_lists.specs.Members.{those};
+ghost use Rattle.graph_store.specs.Members.{those};
 ghost use Rattle.depend_rows.specs.Members.{any_of, row_with};
 ghost use Rattle.depend_index.specs.Indexed.{IsIndex};
-ghost use Rattle.node_lists.specs.Lists.{numbers_at, HoldInOrder};
+ghost use Rattle.graph_store.specs.Lists.{numbers_at, HoldInOrder};
 ghost use Rattle.depend_rows.specs.Machines.{electricity_row, energy_groups, fluid_or_burning, fuels_taken, heat_row, input_groups, is_fuel_in, machine_row, makes_electricity, makes_heat};
 
 use crate::members::{all_of_good, all_of_node, any_of, put_found, row_with};
 use depend_index::{Index, first_machine};
 use game_types::{Energy, Game, Machine, MachineKind};
-use graph_store::{Group, Row};
-use node_lists::{Test, distinct, in_order, list_at, push_list, those};
+use graph_store::{Group, Row, Test, distinct, in_order, list_at, push_list, those};
 use plan_base::{GoodId, NoMemory, NodeId};
 use std::alloc::Global;
 

@@ -8,8 +8,7 @@ use crate::members::{all_of, any_of, row_with};
 use depend_index::{Index, first_machine, first_tech, good_count};
 use fractions::Ratio;
 use game_types::{Game, Tech};
-use graph_store::Row;
-use node_lists::{in_each, named};
+use graph_store::{Row, in_each, named};
 use plan_base::{GoodId, NoMemory, NodeId, TechId};
 use std::alloc::Global;
 

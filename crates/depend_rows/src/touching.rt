@@ -12,7 +12,7 @@ ghost use Rattle.depend_index.specs.Alike.{AlikeBut};
 ghost use Rattle.depend_rows.specs.Touched.{TouchesAll, good_node_in, numbers_below, recipe_node, touched_by, touched_by_all, touched_numbers};
 
 use data_edit::Edit;
-use node_lists::named;
+use graph_store::named;
 use plan_base::{GoodId, Kind, NoMemory, NodeId, RecipeId, Shape};
 use std::alloc::Global;
 

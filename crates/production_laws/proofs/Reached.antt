@@ -15,7 +15,7 @@ use Rattle.game_types.specs.declared.games.Game.{Game}
 use Rattle.game_types.specs.declared.goods.Item.{Item}
 use Rattle.game_types.specs.declared.recipes.Recipe.{Recipe}
 use Rattle.graph_store.specs.declared.Row.{Row}
-use Rattle.node_lists.specs.Members.{named, node}
+use Rattle.graph_store.specs.Members.{named, node}
 use Rattle.depend_index.specs.Goods.{first_machine, first_recipe, good_count}
 use Rattle.depend_rows.specs.Goods.{bounded_groups, crafters, ingredients, recipe_row}
 use Rattle.depend_rows.specs.Rows.{row_of, rows_of}

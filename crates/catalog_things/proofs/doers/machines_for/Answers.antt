@@ -1,6 +1,6 @@
 use Rattle.std.proofs.Common.{◌≡◌, ◌+◌, ◌++◌, ◌∷◌, [], ◌∙◌, Bool, ap, arith}
 use Rattle.std.specs.Prelude.{if◌then◌else◌}
-use Rattle.node_lists.specs.Members.{node}
+use Rattle.graph_store.specs.Members.{node}
 use Rattle.catalog_things.specs.Choices.{does_in}
 use Rattle.catalog_things.proofs.Passing.{passing-more}
 use Rattle.catalog_things.proofs.doers.machines_for.Goals as goal

@@ -1,7 +1,7 @@
 use Rattle.std.proofs.Common.{◌∙◌, List, Vec, ap}
 use Rattle.std.specs.Global.{Global}
 use Rattle.plan_base.specs.declared.ids.NodeId.{NodeId}
-use Rattle.node_lists.specs.Lists.{list_at}
+use Rattle.graph_store.specs.Lists.{list_at}
 use Rattle.catalog_things.proofs.goods.variants_of.Goals as goal
 
 pub returns : goal.returns

@@ -1,7 +1,7 @@
 use Rattle.std.proofs.Common.{◌∙◌, [], ap, arith}
-use Rattle.node_lists.specs.Lists.{is_among}
+use Rattle.graph_store.specs.Lists.{is_among}
 use Rattle.depend_index.proofs.KeyLemmas.{is_among-map}
-use Rattle.node_lists.proofs.Walks.{appended_all}
+use Rattle.graph_store.proofs.Walks.{appended_all}
 use Rattle.depend_index.proofs.keys.numbers_of_recipes.Goals as goal
 
 pub returns : goal.returns

@@ -1,5 +1,5 @@
 use Rattle.std.proofs.Common.{[]}
-use Rattle.node_lists.proofs.Walks.{Appended}
+use Rattle.graph_store.proofs.Walks.{Appended}
 use Rattle.depend_index.proofs.keys.numbers_of_recipes.Given as goal
 
 abbrev pub invariant-loop-recipe : goal.invariant-loop-recipe

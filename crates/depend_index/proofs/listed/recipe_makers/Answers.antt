@@ -1,7 +1,7 @@
 use Rattle.game_types.specs.Making.{gives}
 use Rattle.game_types.specs.declared.recipes.Recipe.{Recipe}
 use Rattle.depend_index.specs.Goods.{first_recipe, good_count}
-use Rattle.node_lists.proofs.AmongLemmas.{hold_all}
+use Rattle.graph_store.proofs.AmongLemmas.{hold_all}
 use Rattle.depend_index.proofs.listed.recipe_makers.Goals as goal
 
 pub returns : goal.returns

@@ -3,7 +3,7 @@ use Rattle.std.specs.Prelude.{◌==◌}
 use Rattle.std.specs.List.{list_any}
 use Rattle.game_types.specs.declared.research.Tech.{Tech}
 use Rattle.depend_index.specs.Goods.{first_tech}
-use Rattle.node_lists.proofs.AmongLemmas.{hold_all}
+use Rattle.graph_store.proofs.AmongLemmas.{hold_all}
 use Rattle.depend_index.proofs.listed.unlockers.Goals as goal
 
 pub returns : goal.returns

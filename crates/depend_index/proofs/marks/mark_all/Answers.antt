@@ -1,6 +1,6 @@
 use Rattle.std.proofs.Common.{◌≡◌, ◌+◌, arith, Bool, List, get_or, subst, sym}
 use Rattle.depend_index.proofs.MarkLemmas.{marked_more, marked_past, marked_last, MarkedSoFar}
-use Rattle.node_lists.proofs.Walks.{at_self}
+use Rattle.graph_store.proofs.Walks.{at_self}
 use Rattle.depend_index.proofs.marks.mark_all.Goals.{then-place-marks, else-place-marks}
 use Rattle.depend_index.proofs.marks.mark_all.Goals as goal
 

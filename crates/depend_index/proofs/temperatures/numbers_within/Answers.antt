@@ -1,7 +1,7 @@
 use Rattle.std.proofs.Common.{◌∙◌, arith, get_or, sym}
-use Rattle.node_lists.specs.Members.{node}
+use Rattle.graph_store.specs.Members.{node}
 use Rattle.depend_index.proofs.CoolestLemmas.{within_first, within_stop}
-use Rattle.node_lists.proofs.Walks.{at_self}
+use Rattle.graph_store.proofs.Walks.{at_self}
 use Rattle.depend_index.proofs.temperatures.numbers_within.Goals as goal
 
 pub loop-place-init : goal.loop-place-init

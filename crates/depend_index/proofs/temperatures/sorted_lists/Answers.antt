@@ -2,7 +2,7 @@ use Rattle.std.proofs.Common.{List, subst}
 use Rattle.plan_base.specs.declared.ids.NodeId.{NodeId}
 use Rattle.depend_index.specs.Coolest.{IsCoolestFirst}
 use Rattle.depend_index.proofs.CoolestLemmas.{sorted_more}
-use Rattle.node_lists.proofs.Listing.{list_is}
+use Rattle.graph_store.proofs.Listing.{list_is}
 use Rattle.depend_index.proofs.temperatures.sorted_lists.Goals as goal
 
 pub loop-list-preserved : goal.loop-list-preserved

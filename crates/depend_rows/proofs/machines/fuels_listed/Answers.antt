@@ -1,7 +1,7 @@
 use Rattle.std.proofs.Common.{subst, arith, get_or, List, ℕ}
-use Rattle.node_lists.specs.Lists.{HoldInOrder}
+use Rattle.graph_store.specs.Lists.{HoldInOrder}
 use Rattle.depend_rows.proofs.FuelLemmas.{numbers_more, numbers_last}
-use Rattle.node_lists.proofs.Walks.{at_self}
+use Rattle.graph_store.proofs.Walks.{at_self}
 use Rattle.depend_rows.proofs.machines.fuels_listed.Goals as goal
 
 pub loop-category-preserved : goal.loop-category-preserved

@@ -1,5 +1,5 @@
 use Rattle.std.proofs.Common.{◌≡◌, ◌++◌, drop}
-use Rattle.node_lists.specs.Lists.{numbers_at}
+use Rattle.graph_store.specs.Lists.{numbers_at}
 use Rattle.depend_rows.proofs.machines.fuels_listed.Given as goal
 
 abbrev pub invariant-loop-category : goal.invariant-loop-category

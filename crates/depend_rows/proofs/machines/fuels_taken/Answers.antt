@@ -1,5 +1,5 @@
 use Rattle.std.proofs.Common.{◌∙◌, ap}
-use Rattle.node_lists.specs.Lists.{is_among, numbers_at, HoldInOrder}
+use Rattle.graph_store.specs.Lists.{is_among, numbers_at, HoldInOrder}
 use Rattle.depend_rows.proofs.FuelLemmas.{fuels_union}
 use Rattle.depend_rows.proofs.machines.fuels_taken.Goals as goal
 

@@ -1,9 +1,9 @@
 use Rattle.std.proofs.Common.{◌∙◌, ◌++◌, ap}
 use Rattle.depend_index.specs.Goods.{first_machine}
-use Rattle.node_lists.specs.Members.{those}
+use Rattle.graph_store.specs.Members.{those}
 use Rattle.depend_index.specs.Kinds.{crafts_all_of}
-use Rattle.node_lists.specs.Lists.{list_at}
-use Rattle.node_lists.proofs.OrderLemmas.{numbers_of}
+use Rattle.graph_store.specs.Lists.{list_at}
+use Rattle.graph_store.proofs.OrderLemmas.{numbers_of}
 use Rattle.depend_rows.proofs.CraftLemmas.{crafters_union}
 use Rattle.depend_rows.proofs.recipes.machines_crafting.Goals as goal
 

@@ -1,5 +1,5 @@
 use Rattle.std.proofs.Common.{◌∙◌, ap, sym, subst, Some}
-use Rattle.node_lists.proofs.Walks.{there_at}
+use Rattle.graph_store.proofs.Walks.{there_at}
 use Rattle.game_types.specs.Lookups.{recipe_at, no_recipe}
 use Rattle.game_types.specs.Sound.{IsSoundRecipe}
 use Rattle.depend_rows.proofs.rows.recipe_at.Goals as goal

@@ -1,5 +1,5 @@
 use Rattle.std.proofs.Common.{[]}
-use Rattle.node_lists.proofs.Walks.{Appended}
+use Rattle.graph_store.proofs.Walks.{Appended}
 use Rattle.depend_rows.proofs.techs.goods_of_parts.Given as goal
 
 abbrev pub invariant-loop-part : goal.invariant-loop-part

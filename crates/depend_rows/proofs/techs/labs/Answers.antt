@@ -7,9 +7,9 @@ use Rattle.plan_base.specs.declared.ids.NodeId.{NodeId}
 use Rattle.fractions.specs.Fraction.{Fraction}
 use Rattle.depend_index.specs.Goods.{first_machine}
 use Rattle.depend_rows.specs.Machines.{labs}
-use Rattle.node_lists.specs.Lists.{list_at, AreCommon, Rise}
+use Rattle.graph_store.specs.Lists.{list_at, AreCommon, Rise}
 use Rattle.depend_rows.proofs.LabLemmas.{common_labs, lists_rise}
-use Rattle.node_lists.proofs.Walks.{numbers_below}
+use Rattle.graph_store.proofs.Walks.{numbers_below}
 use Rattle.depend_rows.proofs.techs.labs.Goals as goal
 
 pub in_each-requires-clause-rise : goal.in_each-requires-clause-rise

@@ -1,5 +1,5 @@
 use Rattle.std.proofs.Common.{length}
-use Rattle.node_lists.proofs.Walks.{numbers_below}
+use Rattle.graph_store.proofs.Walks.{numbers_below}
 use Rattle.depend_rows.proofs.techs.prerequisites.Goals as goal
 
 pub named-requires-clause-numbers : goal.named-requires-clause-numbers

@@ -4,7 +4,7 @@ use Rattle.plan_base.specs.declared.ids.GoodId.{GoodId}
 use Rattle.fractions.specs.Fraction.{Fraction}
 use Rattle.depend_index.specs.Goods.{good_count}
 use Rattle.depend_rows.specs.Machines.{science_packs}
-use Rattle.node_lists.proofs.Walks.{numbers_below}
+use Rattle.graph_store.proofs.Walks.{numbers_below}
 use Rattle.depend_rows.proofs.techs.science_packs.Goals as goal
 
 pub named-requires-clause-numbers : goal.named-requires-clause-numbers

@@ -1,0 +1,7 @@
+use Rattle.std.proofs.Common.{[], ◌+◌}
+use Rattle.graph_store.specs.Members.{node}
+use Rattle.graph_store.proofs.Walks.{Appended}
+use Rattle.graph_store.proofs.numbers.named.Given as goal
+
+abbrev pub invariant-loop-number : goal.invariant-loop-number
+invariant-loop-number l = Appended (λ k. node (l.first + k)) [] l.all l.number-index l.nodes.items

@@ -1,5 +1,0 @@
-use Rattle.node_lists.proofs.Listing.{NoneSoFar}
-use Rattle.node_lists.proofs.lists.end_of_keys.Given as goal
-
-abbrev pub invariant-loop-thing : goal.invariant-loop-thing
-invariant-loop-thing g l = NoneSoFar (g.K.Keys.about l.keys) l.things l.thing-index l.end

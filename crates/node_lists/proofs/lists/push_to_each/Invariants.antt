@@ -1,5 +1,0 @@
-use Rattle.node_lists.proofs.Listing.{PushedSoFar}
-use Rattle.node_lists.proofs.lists.push_to_each.Given as goal
-
-abbrev pub invariant-loop-number : goal.invariant-loop-number
-invariant-loop-number l = PushedSoFar l.numbers l.node l.initial.lists l.number-index l.lists

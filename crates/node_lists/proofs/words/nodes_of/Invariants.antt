@@ -1,5 +1,0 @@
-use Rattle.node_lists.proofs.WordLemmas.{WordsListed}
-use Rattle.node_lists.proofs.words.nodes_of.Given as goal
-
-abbrev pub invariant-loop-place : goal.invariant-loop-place
-invariant-loop-place l = WordsListed l.first l.words l.place l.nodes.items
