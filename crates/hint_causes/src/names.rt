@@ -7,7 +7,7 @@ use plan_base::{Kind, NoMemory, NodeId, Text};
 use plan_report::kind_word;
 use production_table::Table;
 use std::alloc::Global;
-use word_likeness::{Likeness, nearest};
+use line_causes::{Likeness, nearest};
 
 /// The commands of a script.
 const COMMANDS: [&str; 35] = [

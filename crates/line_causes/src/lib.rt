@@ -6,9 +6,11 @@
 mod cause_texts;
 mod causes;
 mod forms;
+mod likeness;
 mod words;
 
 pub use cause_texts::cause_text;
 pub use causes::{Cause, Short, code_of, code_words};
 pub use forms::{Slot, form_of, slot_code};
+pub use likeness::{Likeness, edits_between, nearest};
 pub use words::{LineWord, QuoteFault, Unread, words_of};

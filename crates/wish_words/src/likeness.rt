@@ -5,7 +5,7 @@ use game_types::Game;
 use plan_base::{Kind, NoMemory, Text};
 use std::alloc::Global;
 use wish_lines::names_of;
-use word_likeness::nearest;
+use line_causes::nearest;
 
 /// A name that is like a word, with its kind, and how many edits lead from the word to it.
 #[derive(Drop)]

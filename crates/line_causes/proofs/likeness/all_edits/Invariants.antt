@@ -1,6 +1,6 @@
 use Rattle.std.proofs.Common.{◌≡◌, ℕ, List, ◌++◌, drop, map}
-use Rattle.word_likeness.specs.Likeness.{edits, plain}
-use Rattle.word_likeness.proofs.all_edits.Given as goal
+use Rattle.line_causes.specs.Likeness.{edits, plain}
+use Rattle.line_causes.proofs.likeness.all_edits.Given as goal
 
 abbrev pub invariant-loop-name : goal.invariant-loop-name
 invariant-loop-name l =

@@ -5,7 +5,7 @@
 ghost use Rattle.std.specs.Prelude.{◌≡◌, ◌≤◌, ◌<◌, ◌/◌, ◌↔◌, length, map, nat_lt, IfOk};
 ghost use Rattle.std.specs.Bool.{IsTrue};
 ghost use Rattle.std.specs.List.{IsFirstBest};
-ghost use Rattle.word_likeness.specs.Likeness.{IsNearest, edits, plain, plain_byte};
+ghost use Rattle.line_causes.specs.Likeness.{IsNearest, edits, plain, plain_byte};
 
 use plan_base::{NoMemory, Text};
 use std::alloc::Global;

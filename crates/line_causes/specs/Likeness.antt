@@ -3,7 +3,7 @@ use Rattle.std.specs.Prelude.{◌≡◌, ℕ, List, [], length, map, Bool, ◌==
 use Rattle.std.specs.Char.{to_ascii_lowercase}
 use Rattle.std.specs.List.{IsFirstBest}
 use Rattle.strsim.specs.Edits.{levenshtein_row}
-use Rattle.word_likeness.specs.declared.Likeness.{Likeness}
+use Rattle.line_causes.specs.declared.likeness.Likeness.{Likeness}
 
 -- a byte as it is compared: a small letter for a capital, a dash for a blank or an underscore
 abbrev pub plain_byte : ℕ → ℕ
