@@ -1,6 +1,6 @@
 //! What is said of a run on standard error.
 
-use cli_words::{PlainWords, plain_words};
+use run_inputs::{PlainWords, plain_words};
 use plan_base::Text;
 use planner_cli::Status;
 use program_runs::said_of;

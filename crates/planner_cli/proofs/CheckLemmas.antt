@@ -17,7 +17,7 @@ use Rattle.run_inputs.specs.Certs.{EndsReadingCert}
 use Rattle.run_inputs.specs.Early.{EndsEarly, IsTold}
 use Rattle.run_inputs.specs.Ready.{IsReady}
 use Rattle.run_inputs.specs.Told.{status_of}
-use Rattle.cli_words.specs.Words.{FileNames, Files, Check, Run}
+use Rattle.run_inputs.specs.Words.{FileNames, Files, Check, Run}
 use Rattle.planner_cli.proofs.EndingLemmas.{base_for, begins_told, first_for}
 
 -- the store tells what it told before

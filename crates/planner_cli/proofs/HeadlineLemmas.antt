@@ -22,7 +22,7 @@ use Rattle.run_inputs.specs.declared.status.Long.TheVariants.{DumpBytes, ScriptB
 use Rattle.run_inputs.specs.Early.{is_cut}
 use Rattle.run_inputs.specs.Inputs.{IsBase, IsCert, IsScript}
 use Rattle.run_inputs.specs.Told.{is_answered, steps_line}
-use Rattle.cli_words.specs.Words.{Asked, Check, FileNames, Files, Prove, Run, Sample}
+use Rattle.run_inputs.specs.Words.{Asked, Check, FileNames, Files, Prove, Run, Sample}
 use Rattle.planner_cli.specs.Ending.{Answers, EndsChecked, EndsRun, in_answers, in_line, in_sample_answers, in_sample_line, in_steps, lines_told, no_sample_told, no_steps, nothing_told, sample_lines_told}
 use Rattle.planner_cli.specs.Headline.{AreToldLines, ChecksOfGame, IsHeadline, IsTold, TellsNothing, TellsOfGame, TellsOfRun}
 use Rattle.planner_cli.proofs.FactLemmas.{check_headline, headline}

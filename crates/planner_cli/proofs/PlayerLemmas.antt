@@ -9,7 +9,7 @@ use Rattle.script_runner.specs.Leaves.{Leaves}
 use Rattle.plan_io.specs.Lines.{lines_of}
 use Rattle.line_answers.specs.Sessions.{IsSession}
 use Rattle.plan_io.specs.Writing.{Adds}
-use Rattle.cli_words.specs.Words.{Asked, Check, FileNames, Files, Prove, Run, Sample}
+use Rattle.run_inputs.specs.Words.{Asked, Check, FileNames, Files, Prove, Run, Sample}
 use Rattle.run_inputs.specs.Early.{is_cut}
 use Rattle.run_inputs.specs.declared.status.Status.{Status}
 use Rattle.run_inputs.specs.declared.status.Status.TheVariants.{Done, SomeRefused}

@@ -29,7 +29,7 @@ use Rattle.planner_cli.specs.Ending.{ChecksCert, EndsRun}
 use Rattle.run_inputs.specs.Inputs.{IsBase, IsCert, IsInput, IsScript}
 use Rattle.run_inputs.specs.Reading.{IsContent}
 use Rattle.planner_cli.specs.Rechecks.{ChecksNoWide, HasSameFiles, IsProved, Side}
-use Rattle.cli_words.specs.Words.{Check, Files}
+use Rattle.run_inputs.specs.Words.{Check, Files}
 
 -- a dump has one game, and none where it has a fault
 pub record OneGame : Type 0 where

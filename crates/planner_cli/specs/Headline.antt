@@ -11,7 +11,7 @@ use Rattle.line_answers.specs.Answers.{Answered}
 use Rattle.script_runner.specs.Certificates.{certificate_line, entries_of}
 use Rattle.line_answers.specs.Sessions.{IsSession, report, solutions}
 use Rattle.script_runner.specs.Trials.{IsTrial, Judged, form_count, proved_count, tally_line, trial_text}
-use Rattle.cli_words.specs.Words.{Asked, Check, Files, Prove, Sample}
+use Rattle.run_inputs.specs.Words.{Asked, Check, Files, Prove, Sample}
 use Rattle.run_inputs.specs.Early.{line_of}
 use Rattle.run_inputs.specs.Inputs.{IsBase, IsCert, IsScript}
 use Rattle.run_inputs.specs.Told.{steps_line}

@@ -8,7 +8,7 @@ use Rattle.planner_core.specs.Lines.{Planned, first_planned}
 use Rattle.plan_io.specs.Lines.{lines_of}
 use Rattle.line_answers.specs.Answers.{Answered}
 use Rattle.line_answers.specs.Sessions.{IsSession}
-use Rattle.cli_words.specs.Words.{Asked, Check, FileNames, Files}
+use Rattle.run_inputs.specs.Words.{Asked, Check, FileNames, Files}
 use Rattle.run_inputs.specs.Inputs.{IsBase, IsScript}
 use Rattle.run_inputs.specs.declared.status.Status.{Status}
 use Rattle.run_inputs.specs.declared.status.Status.TheVariants.{Done, SomeRefused}

@@ -9,7 +9,7 @@ use Rattle.script_runner.specs.Rechecks.{IsNeverWide}
 use Rattle.run_inputs.specs.declared.status.Status.TheVariants.{Done}
 use Rattle.planner_cli.specs.Ending.{EndsRun}
 use Rattle.run_inputs.specs.Inputs.{IsBase, IsCert, IsScript}
-use Rattle.cli_words.specs.Words.{Check, FileNames, Files, Prove}
+use Rattle.run_inputs.specs.Words.{Check, FileNames, Files, Prove}
 
 -- what a run is asked for, and the files that it finds
 pub record Side : Type 0 where

@@ -1,21 +1,20 @@
 // From the words to the status of the run.
 ghost use Rattle.std.specs.Prelude.{◌≡◌, ◌≤◌, ◌-◌, [], Some};
 ghost use Rattle.script_runner.specs.Leaves.{Leaves};
-ghost use Rattle.cli_words.specs.AskedWords.{asked_seen, IsMadeSize};
+ghost use Rattle.run_inputs.specs.AskedWords.{asked_seen, IsMadeSize};
 ghost use Rattle.run_inputs.specs.Begun.{BeginsFiles};
 ghost use Rattle.run_inputs.specs.Early.{is_cut};
 ghost use Rattle.planner_cli.specs.Ending.{EndsRun};
 ghost use Rattle.planner_cli.specs.Headline.{TellsOfRun};
 ghost use Rattle.run_inputs.specs.Keeping.{KeepsSink, KeepsSlots, KeepsStore};
-ghost use Rattle.cli_words.specs.Words.{asked_of};
+ghost use Rattle.run_inputs.specs.Words.{asked_of};
 
 use crate::modes::{check_files, run_files, run_sample};
-use cli_words::{Asked, FileMode, WordsFault, plain_words, read_words};
+use run_inputs::{Asked, FileMode, Status, WordsFault, plain_words, read_words, tell};
 use line_answers::Listener;
 use linear_table::SolveAnswer;
 use plan_base::{Steps, Text};
 use plan_io::{Sink, Store};
-use run_inputs::{Status, tell};
 use std::alloc::Global;
 
 // Does what the words ask for. What the solver answers is kept in `solved`.

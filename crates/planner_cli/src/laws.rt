@@ -5,7 +5,7 @@ ghost use Rattle.run_inputs.specs.declared.status.Status.{Status as AnyStatus};
 ghost use Rattle.run_inputs.specs.declared.status.Status.TheVariants as statuses;
 ghost use Rattle.planner_cli.specs.Ending.{EndsRun};
 ghost use Rattle.planner_cli.specs.Rechecks.{ChecksNoWide, HasSameFiles, IsProved, Side};
-ghost use Rattle.cli_words.specs.Words.{Check, Files};
+ghost use Rattle.run_inputs.specs.Words.{Check, Files};
 
 use game_reader::one_game;
 

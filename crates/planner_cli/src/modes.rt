@@ -9,7 +9,7 @@ ghost use Rattle.planner_cli.specs.Ending.{EndsRun, answering};
 ghost use Rattle.run_inputs.specs.Ready.{IsReady};
 ghost use Rattle.run_inputs.specs.Inputs.{IsScript};
 ghost use Rattle.run_inputs.specs.Keeping.{KeepsSink, KeepsSlots, KeepsStore};
-ghost use Rattle.cli_words.specs.Words.{Check, FileNames, Files, Run, Sample};
+ghost use Rattle.run_inputs.specs.Words.{Check, FileNames, Files, Run, Sample};
 
 use crate::answer::answer;
 use line_answers::Listener;

@@ -2,7 +2,7 @@
 use Rattle.std.proofs.Common.{◌≡◌, ◌∙◌, ◌+◌, ◌∷◌, [], ℕ, suc, Bool, true, false, List, ap, sym, refl, codes, option_map, arith}
 use Rattle.std.specs.Prelude.{Option, Some, None, drop, if◌then◌else◌}
 use Rattle.std.specs.Str.{bytes_eq}
-use Rattle.cli_words.specs.Words.{ThreeWords, is_option, plain_words, three_in, three_of}
+use Rattle.run_inputs.specs.Words.{ThreeWords, is_option, plain_words, three_in, three_of}
 use Rattle.std.specs.List.{position_or_len, slice_get}
 use Rattle.std.proofs.lemmas.Option.{same_Some, none-some}
 use Rattle.run_hints.specs.Names.{dump_name, is_dashes, script_name, without_dashes}

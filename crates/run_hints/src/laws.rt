@@ -1,6 +1,6 @@
 //! What the hints say of the run, and how much that is.
 ghost use Rattle.std.specs.Prelude.{◌≡◌, ◌⊎◌, ℕ, List, [], Option, Some, true};
-ghost use Rattle.cli_words.specs.Words.{ThreeWords, three_of};
+ghost use Rattle.run_inputs.specs.Words.{ThreeWords, three_of};
 ghost use Rattle.run_inputs.specs.declared.status.Status.{Status};
 ghost use Rattle.run_hints.specs.Hints.{IsLine, hint_line, hint_of, is_unbroken};
 ghost use Rattle.run_hints.specs.Names.{dump_name, script_name};

@@ -14,7 +14,7 @@ use Rattle.run_inputs.specs.Begun.{BeginsFiles, BeginsOne, CallsUnder, status_so
 use Rattle.run_inputs.specs.Early.{EndsEarly, EndsLoading, EndsReading}
 use Rattle.run_inputs.specs.Ready.{IsReady}
 use Rattle.run_inputs.specs.Inputs.{IsBase, IsInput}
-use Rattle.cli_words.specs.Words.{FileNames, Files, Run}
+use Rattle.run_inputs.specs.Words.{FileNames, Files, Run}
 
 -- ---- a result that is this fault
 pub so_far : {T : Type 0} (r : Result T Status) (early : Status) → IsErr r × IsErrAnd r (λ e. e ≡ early) → status_so_far r ≡ early

@@ -7,7 +7,7 @@ use Rattle.run_inputs.specs.declared.status.Status.TheVariants.{Done, BadDump, R
 use Rattle.run_inputs.specs.declared.status.Long.TheVariants.{DumpBytes, ScriptBytes, ScriptLines}
 use Rattle.plan_io.specs.Lines.{lines_of}
 use Rattle.run_inputs.specs.Inputs.{IsBase, IsInput}
-use Rattle.cli_words.specs.Words.{Asked, FileMode, FileNames, Files, Check}
+use Rattle.run_inputs.specs.Words.{Asked, FileMode, FileNames, Files, Check}
 
 -- one file was begun, that of this name
 pub record BeginsOne (shelf : Shelf) (name : List ℕ) (old new : Begun) : Type 0 where

@@ -16,7 +16,7 @@ use Rattle.run_inputs.specs.declared.status.Long.TheVariants.{DumpBytes, ScriptB
 use Rattle.run_inputs.specs.BadDump.{fault_line}
 use Rattle.run_inputs.specs.Base.{HasManyMembers, load_work, members_fault}
 use Rattle.run_inputs.specs.Inputs.{IsBadCert, IsBase, IsDump, IsLong, IsLongCert, IsLongDump, IsLongScript, IsScript}
-use Rattle.cli_words.specs.Words.{Asked, Files}
+use Rattle.run_inputs.specs.Words.{Asked, Files}
 
 -- Why a dump has no base: the first fault of reading it, or its members. How many steps are taken where those are too many is
 -- not said.

@@ -9,7 +9,7 @@ use Rattle.certificate_file.specs.declared.CertFault.TheVariants.{NoMemory}
 use Rattle.sample_maker.specs.Texts.{sample_dump, sample_script}
 use Rattle.run_inputs.specs.Base.{HasBase}
 use Rattle.run_inputs.specs.Reading.{IsContent}
-use Rattle.cli_words.specs.Words.{Asked, Files, Sample, Check}
+use Rattle.run_inputs.specs.Words.{Asked, Files, Sample, Check}
 
 -- a file of that name that is within its limit, and one that is not
 pub record IsInput (shelf : Shelf) (name : List ℕ) (limit : ℕ) (bytes : List ℕ) : Type 0 where

@@ -9,3 +9,6 @@ pub mod Keeping
 pub mod Reading
 pub mod Ready
 pub mod Told
+pub mod AskedWords
+pub mod Command
+pub mod Words

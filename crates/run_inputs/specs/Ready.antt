@@ -5,7 +5,7 @@ use Rattle.game_types.specs.declared.games.Game.{Game}
 use Rattle.planner_core.specs.Lines.{Planned, first_planned}
 use Rattle.run_inputs.specs.Base.{load_work}
 use Rattle.run_inputs.specs.Inputs.{IsBase, IsScript}
-use Rattle.cli_words.specs.Words.{Asked}
+use Rattle.run_inputs.specs.Words.{Asked}
 
 -- a planner of the game of the dump, which has taken so many steps to load, and the script that it is to answer
 pub record IsReady (shelf : Shelf) (asked : Option Asked) (first : Planned) (script : List ℕ) (work : ℕ) : Type 0 where

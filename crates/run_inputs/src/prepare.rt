@@ -6,7 +6,7 @@ ghost use Rattle.run_inputs.specs.Begun.{BeginsFiles, status_so_far};
 ghost use Rattle.run_inputs.specs.Early.{EndsEarly, EndsLoading};
 ghost use Rattle.run_inputs.specs.Ready.{IsReady};
 ghost use Rattle.run_inputs.specs.Keeping.{KeepsSlots, KeepsStore};
-ghost use Rattle.cli_words.specs.Words.{Files, Run, Sample};
+ghost use Rattle.run_inputs.specs.Words.{Files, Run, Sample};
 
 use crate::input::read_input;
 use crate::load::load;

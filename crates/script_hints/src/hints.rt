@@ -1,7 +1,7 @@
 //! Who hears of the lines of a run for this.
 use crate::lines::tell_reply;
 use crate::room::Telling;
-use cli_words::{PlainWords, plain_words};
+use run_inputs::{PlainWords, plain_words};
 use hint_causes::is_bare;
 use line_answers::Listener;
 use plan_base::{NoMemory, Text};

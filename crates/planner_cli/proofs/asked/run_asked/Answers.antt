@@ -2,12 +2,12 @@ use Rattle.std.proofs.Common.{◌≡◌, ◌-◌, ◌∙◌, [], List, ap, refl,
 use Rattle.std.specs.Prelude.{Some}
 use Rattle.linear_table.specs.declared.SolveAnswer.{SolveAnswer}
 use Rattle.script_runner.specs.Leaves.{Leaves}
-use Rattle.cli_words.specs.AskedWords.{asked_seen, mode_seen}
+use Rattle.run_inputs.specs.AskedWords.{asked_seen, mode_seen}
 use Rattle.run_inputs.specs.Begun.{BeginsFiles}
 use Rattle.run_inputs.specs.Early.{is_cut}
 use Rattle.planner_cli.specs.Ending.{EndsRun}
-use Rattle.cli_words.specs.Words.{Asked, Check, FileNames, Files, Prove, Run, Sample}
-use Rattle.cli_words.specs.declared.words.FileMode.{FileMode as ModeWords}
+use Rattle.run_inputs.specs.Words.{Asked, Check, FileNames, Files, Prove, Run, Sample}
+use Rattle.run_inputs.specs.declared.words.FileMode.{FileMode as ModeWords}
 use Rattle.planner_cli.proofs.asked.run_asked.Goals as goal
 
 pub returns-in-Run-clause-leaves : goal.returns-in-Run-clause-leaves

@@ -1,5 +1,5 @@
 use Rattle.std.proofs.Common.{◌-◌}
-use Rattle.cli_words.specs.Words.{asked_of}
+use Rattle.run_inputs.specs.Words.{asked_of}
 use Rattle.planner_cli.proofs.HeadlineLemmas.{with_headline}
 use Rattle.planner_cli.proofs.asked.run_words.Goals as goal
 

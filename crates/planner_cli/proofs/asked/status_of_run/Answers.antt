@@ -1,11 +1,11 @@
 use Rattle.std.proofs.Common.{◌≡◌, ◌-◌, arith, refl, subst, sym}
 use Rattle.std.specs.Prelude.{None, Option, Some}
 use Rattle.script_runner.specs.Leaves.{Leaves}
-use Rattle.cli_words.specs.AskedWords.{asked_seen, plain_seen}
+use Rattle.run_inputs.specs.AskedWords.{asked_seen, plain_seen}
 use Rattle.run_inputs.specs.Begun.{BeginsFiles}
 use Rattle.run_inputs.specs.Early.{is_cut}
 use Rattle.planner_cli.specs.Ending.{EndsRun}
-use Rattle.cli_words.specs.Words.{Asked, asked_of}
+use Rattle.run_inputs.specs.Words.{Asked, asked_of}
 use Rattle.run_inputs.specs.declared.status.Status.TheVariants.{BadWords, NoMemory}
 use Rattle.planner_cli.proofs.EndingLemmas.{asked_from, begins_nothing, begins_told, leaves_told}
 use Rattle.planner_cli.proofs.asked.status_of_run.Goals as goal

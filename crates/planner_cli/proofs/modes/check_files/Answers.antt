@@ -7,7 +7,7 @@ use Rattle.run_inputs.specs.Early.{is_cut}
 use Rattle.planner_cli.specs.Ending.{EndsRun}
 use Rattle.run_inputs.specs.Ready.{IsReady}
 use Rattle.run_inputs.specs.Inputs.{IsScript}
-use Rattle.cli_words.specs.Words.{Check, FileNames, Files, Run}
+use Rattle.run_inputs.specs.Words.{Check, FileNames, Files, Run}
 use Rattle.run_inputs.specs.declared.status.Status.TheVariants.{Done}
 use Rattle.planner_cli.proofs.CheckLemmas.{kept}
 use Rattle.planner_cli.proofs.EndingLemmas.{begins_early, begins_told, early_files, is_no_cut, leaves_told}

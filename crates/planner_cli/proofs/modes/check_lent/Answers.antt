@@ -2,7 +2,7 @@ use Rattle.std.proofs.Common.{[], List, refl, subst, sym}
 use Rattle.std.specs.Prelude.{Some}
 use Rattle.certificate_file.specs.declared.CertEntry.{CertEntry}
 use Rattle.run_inputs.specs.Inputs.{IsCert}
-use Rattle.cli_words.specs.Words.{Check, Files}
+use Rattle.run_inputs.specs.Words.{Check, Files}
 use Rattle.planner_cli.proofs.CheckLemmas.{cert_begins_checked, cert_begins_early, cert_begins_many, cert_early, cert_no_cut}
 use Rattle.planner_cli.proofs.EndingLemmas.{leaves_checked, leaves_many, leaves_told}
 use Rattle.planner_cli.proofs.modes.check_lent.Goals as goal

@@ -2,7 +2,7 @@ use Rattle.std.proofs.Common.{◌-◌, ℕ, List, subst, sym}
 use Rattle.std.specs.Prelude.{Some}
 use Rattle.run_inputs.specs.Ready.{IsReady}
 use Rattle.run_inputs.specs.Inputs.{IsScript}
-use Rattle.cli_words.specs.Words.{Files, Run}
+use Rattle.run_inputs.specs.Words.{Files, Run}
 use Rattle.planner_cli.proofs.modes.check_ready.Goals as goal
 
 pub returns-clause-leaves : goal.returns-clause-leaves

@@ -1,6 +1,6 @@
 use Rattle.std.specs.Prelude.{Some}
 use Rattle.planner_cli.specs.Ending.{answering}
-use Rattle.cli_words.specs.Words.{Files}
+use Rattle.run_inputs.specs.Words.{Files}
 use Rattle.planner_cli.proofs.EndingLemmas.{begins_both, begins_early, begins_told, early_files, is_no_cut, leaves_files, leaves_told}
 use Rattle.planner_cli.proofs.modes.run_files.Goals as goal
 

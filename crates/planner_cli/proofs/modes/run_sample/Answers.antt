@@ -1,7 +1,7 @@
 use Rattle.std.proofs.Common.{◌≡◌, ◌-◌, ◌∙◌, ap₂, sym, subst, ℕ}
 use Rattle.std.specs.Prelude.{Some}
 use Rattle.run_inputs.specs.Told.{TellsSteps}
-use Rattle.cli_words.specs.Words.{Sample}
+use Rattle.run_inputs.specs.Words.{Sample}
 use Rattle.planner_cli.proofs.EndingLemmas.{early_sample, keeps_both, leaves_sample, leaves_told, leaves_unanswered}
 use Rattle.planner_cli.proofs.modes.run_sample.Goals as goal
 

@@ -1,5 +1,5 @@
 use Rattle.std.proofs.Common.{arith, ◌∙◌}
-use Rattle.cli_words.specs.Words.{FileNames}
+use Rattle.run_inputs.specs.Words.{FileNames}
 use Rattle.run_inputs.proofs.PrepareLemmas.{base_begins, base_early, based, dump_begins, dump_early, ends_by, script_begins, script_begun, script_read, script_ready}
 use Rattle.run_inputs.proofs.prepare.read_files.Goals as goal
 

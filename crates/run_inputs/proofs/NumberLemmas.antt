@@ -8,7 +8,7 @@ use Rattle.std.proofs.lemmas.Bool.{and_from, and_parts}
 use Rattle.fractions.specs.Split.{is_whole}
 use Rattle.fractions.proofs.Grammar.{whole_sound, whole_found}
 use Rattle.script_reader.specs.Fields.{WritesCount}
-use Rattle.cli_words.specs.Words.{are_digits, number_in}
+use Rattle.run_inputs.specs.Words.{are_digits, number_in}
 
 below : (a b : ℕ) → nat_lt a b ≡ true → a < b
 below a b e = grind (arith, nat_tests, e)

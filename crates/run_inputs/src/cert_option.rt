@@ -1,7 +1,7 @@
 // The option that names a certificate.
 ghost use Rattle.std.specs.Prelude.{◌≡◌, ◌++◌, IfOk, OnOk, Some, option_map};
-ghost use Rattle.cli_words.specs.AskedWords.{found_seen, plain_seen};
-ghost use Rattle.cli_words.specs.Words.{cert_here, is_option, is_value, taken, value_first, value_within, without_cert};
+ghost use Rattle.run_inputs.specs.AskedWords.{found_seen, plain_seen};
+ghost use Rattle.run_inputs.specs.Words.{cert_here, is_option, is_value, taken, value_first, value_within, without_cert};
 
 use plan_base::{NoMemory, Text};
 use std::alloc::Global;

@@ -3,7 +3,7 @@ use Rattle.std.proofs.Common.{◌≡◌, ◌∙◌, ◌<◌, ◌≤◌, ◌+◌,
 use Rattle.std.specs.Prelude.{Option, Some, None}
 use Rattle.std.specs.Str.{bytes_eq}
 use Rattle.std.proofs.lemmas.Grind.{common_steps}
-use Rattle.cli_words.specs.Words.{Plain, behind, cert_here, plain, taken, taken_or}
+use Rattle.run_inputs.specs.Words.{Plain, behind, cert_here, plain, taken, taken_or}
 
 -- ---- copies of words behind others
 pub copied_next : (front words : List (List ℕ)) (k : ℕ) (word : List ℕ) → k < length words → word ≡ get_or words k word → front ++ drop k words ≡ (front ++ word ∷ []) ++ drop (k + 1) words

@@ -1,3 +1,0 @@
-pub mod AskedWords
-pub mod Command
-pub mod Words
