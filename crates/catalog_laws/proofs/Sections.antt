@@ -10,7 +10,7 @@ use Rattle.game_types.specs.Nodes.{shape_of}
 use Rattle.depend_index.specs.declared.index.Index.{Index}
 use Rattle.state_changes.specs.States.{State}
 use Rattle.planning_state.specs.Worlds.{rank_of}
-use Rattle.planner_questions.specs.Told.{mask_of, places_of}
+use Rattle.planner_core.specs.Told.{mask_of, places_of}
 use Rattle.serde_json.specs.Data.{Data}
 use Rattle.serde_json.specs.Written.{compact_text}
 use Rattle.catalog_members.specs.Members.{id_text, id_value, items_tree}

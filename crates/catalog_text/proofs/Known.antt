@@ -12,7 +12,7 @@ use Rattle.game_types.specs.declared.games.Game.{Game}
 use Rattle.depend_index.specs.declared.index.Index.{Index}
 use Rattle.state_changes.specs.States.{State}
 use Rattle.planning_state.specs.Worlds.{rank_of}
-use Rattle.planner_questions.specs.Told.{mask_of, places_of}
+use Rattle.planner_core.specs.Told.{mask_of, places_of}
 use Rattle.catalog_text.specs.declared.fields.Shown.{Shown}
 use Rattle.serde_json.specs.Data.{Data}
 use Rattle.catalog_members.specs.Texts.{IsTextOf}

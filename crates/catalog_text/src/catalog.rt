@@ -12,8 +12,7 @@ use catalog_members::id_text;
 use depend_index::Index;
 use game_types::Game;
 use plan_base::{Kind, NoMemory, NodeId, Steps};
-use planner_core::Planner;
-use planner_questions::milestones_of;
+use planner_core::{Planner, milestones_of};
 use serde_json::Value;
 use std::alloc::Global;
 

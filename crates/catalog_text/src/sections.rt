@@ -6,7 +6,7 @@ ghost use Rattle.game_types.specs.Nodes.{shape_of};
 ghost use Rattle.game_types.specs.Sound.{IsSound};
 ghost use Rattle.depend_index.specs.Indexed.{IsIndex};
 ghost use Rattle.state_changes.specs.States.{State};
-ghost use Rattle.planner_questions.specs.Told.{mask_of, places_of};
+ghost use Rattle.planner_core.specs.Told.{mask_of, places_of};
 ghost use Rattle.serde_json.specs.Written.{comma_if};
 ghost use Rattle.catalog_things.specs.Nodes.{thing_node};
 ghost use Rattle.catalog_text.specs.Catalog.{AreSources, WritesSection, WritesThing, WritesThings};
@@ -18,8 +18,7 @@ use catalog_things::thing_node;
 use depend_index::Index;
 use game_types::Game;
 use plan_base::{Kind, NoMemory, NodeId, Steps};
-use planner_core::Planner;
-use planner_questions::{mask_of, places_of, rank_of};
+use planner_core::{Planner, mask_of, places_of, rank_of};
 use std::alloc::Global;
 
 /// What a catalog is written from, beside the planner.

@@ -1,3 +1,5 @@
 pub mod StepLemmas
 pub mod PosingLemmas
 pub mod ListLemmas
+pub mod Staying
+pub mod Telling

@@ -2,3 +2,4 @@ pub mod Lines
 pub mod Planners
 pub mod Posing
 pub mod Replies
+pub mod Told

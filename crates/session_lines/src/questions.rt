@@ -13,8 +13,7 @@ use catalog_text::{ShownFields, catalog_text};
 use line_answers::reading_of;
 use plan_base::{NoMemory, Steps, Text};
 use plan_lines::{Command, RefusalCode, Reply};
-use planner_core::Planner;
-use planner_questions::{ask_rate, ask_solve};
+use planner_core::{Planner, ask_rate, ask_solve};
 use std::alloc::Global;
 
 // The reply to the `solve` that a question stands for.

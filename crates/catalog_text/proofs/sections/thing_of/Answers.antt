@@ -3,7 +3,7 @@ use Rattle.plan_base.specs.Shape.{node_count}
 use Rattle.game_types.specs.Nodes.{shape_of}
 use Rattle.game_types.specs.declared.games.Game.{Game}
 use Rattle.planner_core.specs.Lines.{Planned}
-use Rattle.planner_questions.specs.Told.{mask_of, places_of}
+use Rattle.planner_core.specs.Told.{mask_of, places_of}
 use Rattle.catalog_things.specs.Nodes.{thing_node}
 use Rattle.catalog_text.proofs.sections.thing_of.Goals as goal
 

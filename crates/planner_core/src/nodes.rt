@@ -5,13 +5,13 @@ ghost use Rattle.game_types.specs.Nodes.{find_node, shape_of};
 ghost use Rattle.game_types.specs.Sound.{IsSound};
 ghost use Rattle.planning_state.specs.Worlds.{rank_of};
 ghost use Rattle.planner_core.specs.Lines.{is_free};
-ghost use Rattle.planner_questions.specs.Told.{mask_of, place_of, places_of, told_mask, told_milestones, told_rank};
+ghost use Rattle.planner_core.specs.Told.{mask_of, place_of, places_of, told_mask, told_milestones, told_rank};
 
 use crate::asking::{ask_mask, ask_milestones, ask_rank};
 use game_types::Game;
 use plan_base::{Kind, NoMemory, NodeId, Steps, Text};
 use plan_lines::{Object, Reply};
-use planner_core::Planner;
+use crate::planner::Planner;
 use std::alloc::Global;
 
 // A node that is there, as a script names it.

@@ -5,7 +5,7 @@ ghost use Rattle.planner_core.specs.Lines.{IsStep};
 
 use plan_base::{NoMemory, Steps, Text};
 use plan_lines::{Command, Object, Reply};
-use planner_core::Planner;
+use crate::planner::Planner;
 
 /// At which rank a node is reached.
 ///

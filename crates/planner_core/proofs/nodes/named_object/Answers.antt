@@ -1,5 +1,5 @@
-use Rattle.planner_questions.proofs.Telling.{named_again}
-use Rattle.planner_questions.proofs.nodes.named_object.Goals as goal
+use Rattle.planner_core.proofs.Telling.{named_again}
+use Rattle.planner_core.proofs.nodes.named_object.Goals as goal
 
 pub returns : goal.returns
 returns c =

@@ -17,7 +17,7 @@ use Rattle.state_changes.specs.States.{State}
 use Rattle.planning_state.specs.Worlds.{is_reached, mask_in, rank_of}
 use Rattle.planner_core.specs.Replies.{AboutNode, mask_reply, refused_as}
 use Rattle.planner_core.specs.Lines.{Held, IsStep, IsStepIn, Planned, is_free}
-use Rattle.planner_questions.specs.Told.{mask_of, mask_where, told_mask, told_milestones, told_rank}
+use Rattle.planner_core.specs.Told.{mask_of, mask_where, told_mask, told_milestones, told_rank}
 
 -- a node that is named is asked about
 about : (g : Game) (object : Object) (found : Option NodeId) (node : NodeId) (ask : NodeId → Reply → Type 0) (answer : Reply) → found ≡ Some node → AboutNode g (known object found) ask answer → ask node answer

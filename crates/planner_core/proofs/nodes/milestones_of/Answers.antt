@@ -1,6 +1,6 @@
 use Rattle.std.proofs.lemmas.Result.{IfOk-weaker}
-use Rattle.planner_questions.proofs.Telling.{milestones_found, milestones_hidden}
-use Rattle.planner_questions.proofs.nodes.milestones_of.Goals as goal
+use Rattle.planner_core.proofs.Telling.{milestones_found, milestones_hidden}
+use Rattle.planner_core.proofs.nodes.milestones_of.Goals as goal
 
 pub returns-clause-milestones : goal.returns-clause-milestones
 returns-clause-milestones g c =
