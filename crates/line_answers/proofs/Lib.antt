@@ -1,2 +1,5 @@
 pub mod ReadingLemmas
 pub mod SessionLemmas
+pub mod LeadingLemmas
+pub mod JoinedLemmas
+pub mod MarkLemmas

@@ -1,2 +1,4 @@
 pub mod Answers
 pub mod Sessions
+pub mod Leading
+pub mod Marks

@@ -7,7 +7,7 @@ use Rattle.planner_core.specs.Lines.{Planned}
 use Rattle.plan_io.specs.Lines.{lines_of}
 use Rattle.line_answers.specs.Answers.{Answered, IsAnswered, is_refusal, solved_in}
 use Rattle.line_answers.specs.Sessions.{IsSession, some_refused}
-use Rattle.carried_lines.specs.declared.stepping.Progress.{Progress}
+use Rattle.line_answers.specs.declared.stepping.Progress.{Progress}
 
 -- whether the solver's answer is a plan
 abbrev pub is_plan : Option SolveAnswer → Bool

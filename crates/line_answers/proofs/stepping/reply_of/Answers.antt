@@ -1,6 +1,6 @@
 use Rattle.std.proofs.lemmas.Result.{IfOk-weaker}
-use Rattle.carried_lines.proofs.LeadingLemmas.{tells_reply}
-use Rattle.carried_lines.proofs.stepping.reply_of.Goals as goal
+use Rattle.line_answers.proofs.LeadingLemmas.{tells_reply}
+use Rattle.line_answers.proofs.stepping.reply_of.Goals as goal
 
 pub returns-clause-answered : goal.returns-clause-answered
 returns-clause-answered g c =

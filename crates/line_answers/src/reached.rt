@@ -1,7 +1,7 @@
 //! What a planner reaches.
 ghost use Rattle.std.specs.Prelude.{◌≡◌, ℕ, Bool, true, All, IfOk, IfSome};
 ghost use Rattle.planning_state.specs.Worlds.{is_reached};
-ghost use Rattle.carried_lines.specs.Marks.{ListsOnly, MarksOnly};
+ghost use Rattle.line_answers.specs.Marks.{ListsOnly, MarksOnly};
 
 use plan_base::{Kind, NoMemory, NodeId, Steps};
 use plan_lines::{Command, Reply};

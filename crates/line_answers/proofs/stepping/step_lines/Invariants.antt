@@ -1,8 +1,8 @@
 use Rattle.std.proofs.Common.{◌≡◌, length}
 use Rattle.state_changes.specs.States.{State}
 use Rattle.planner_core.specs.Lines.{IsSessionOf}
-use Rattle.carried_lines.proofs.LeadingLemmas.{SoFar}
-use Rattle.carried_lines.proofs.stepping.step_lines.Given as goal
+use Rattle.line_answers.proofs.LeadingLemmas.{SoFar}
+use Rattle.line_answers.proofs.stepping.step_lines.Given as goal
 
 abbrev pub invariant-loop-line : goal.invariant-loop-line
 invariant-loop-line g l = record {

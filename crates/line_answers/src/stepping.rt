@@ -5,10 +5,11 @@ ghost use Rattle.state_changes.specs.States.{State};
 ghost use Rattle.planner_core.specs.Lines.{IsSessionOf};
 ghost use Rattle.plan_io.specs.Lines.{lines_of};
 ghost use Rattle.line_answers.specs.Answers.{is_refusal_reply, solved_in};
-ghost use Rattle.carried_lines.specs.Leading.{is_plan, AnswersSo, Continues, TellsReply};
+ghost use Rattle.line_answers.specs.Leading.{is_plan, AnswersSo, Continues, TellsReply};
 
 use game_types::Game;
-use line_answers::{is_refusal, reading_of, reply_to};
+use crate::reading::reading_of;
+use crate::reply::{is_refusal, reply_to};
 use linear_table::SolveAnswer;
 use plan_base::{NoMemory, Steps};
 use plan_lines::Reply;

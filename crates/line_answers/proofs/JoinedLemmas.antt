@@ -6,9 +6,9 @@ use Rattle.std.proofs.lemmas.Bool.{not-false, not-true}
 use native.Mathlib.Numerals.{unary_clauses}
 use Rattle.planner_core.specs.Lines.{Planned}
 use Rattle.plan_io.specs.Lines.{cut_lines, lines_of, onto_first, without_return}
-use Rattle.carried_lines.specs.Leading.{Accepted, Continues, LeadsToPlan, ends_within, joined}
-use Rattle.carried_lines.specs.declared.stepping.Progress.{Progress}
-use Rattle.carried_lines.proofs.LeadingLemmas.{accepted_start}
+use Rattle.line_answers.specs.Leading.{Accepted, Continues, LeadsToPlan, ends_within, joined}
+use Rattle.line_answers.specs.declared.stepping.Progress.{Progress}
+use Rattle.line_answers.proofs.LeadingLemmas.{accepted_start}
 
 -- ---- the end of a text
 abbrev is_open : Option ℕ → Bool

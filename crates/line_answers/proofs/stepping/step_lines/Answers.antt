@@ -1,8 +1,8 @@
 use Rattle.std.proofs.Common.{◌≡◌, ◌+◌, ◌∙◌, ℕ, Bool, ap, subst, sym}
-use Rattle.carried_lines.specs.Leading.{AnswersSo}
-use Rattle.carried_lines.specs.declared.stepping.Progress.{Progress}
-use Rattle.carried_lines.proofs.LeadingLemmas.{so_far_continues, so_far_counted, so_far_first, so_far_next}
-use Rattle.carried_lines.proofs.stepping.step_lines.Goals as goal
+use Rattle.line_answers.specs.Leading.{AnswersSo}
+use Rattle.line_answers.specs.declared.stepping.Progress.{Progress}
+use Rattle.line_answers.proofs.LeadingLemmas.{so_far_continues, so_far_counted, so_far_first, so_far_next}
+use Rattle.line_answers.proofs.stepping.step_lines.Goals as goal
 
 pub loop-line-init : goal.loop-line-init
 loop-line-init g c = record {

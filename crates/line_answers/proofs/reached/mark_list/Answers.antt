@@ -1,7 +1,7 @@
 use Rattle.std.proofs.Common.{◌≡◌, All, subst, sym, true}
-use Rattle.carried_lines.specs.Marks.{ListsOnly}
-use Rattle.carried_lines.proofs.MarkLemmas.{listed}
-use Rattle.carried_lines.proofs.reached.mark_list.Goals as goal
+use Rattle.line_answers.specs.Marks.{ListsOnly}
+use Rattle.line_answers.proofs.MarkLemmas.{listed}
+use Rattle.line_answers.proofs.reached.mark_list.Goals as goal
 
 pub returns-in-List : goal.returns-in-List
 returns-in-List c = λ test lists only.

@@ -1,7 +1,7 @@
 use Rattle.std.proofs.Common.{subst}
 use Rattle.planning_state.specs.Worlds.{is_reached}
-use Rattle.carried_lines.proofs.MarkLemmas.{list_lists, list_stays}
-use Rattle.carried_lines.proofs.reached.mark_reached.Goals as goal
+use Rattle.line_answers.proofs.MarkLemmas.{list_lists, list_stays}
+use Rattle.line_answers.proofs.reached.mark_reached.Goals as goal
 
 pub returns-clause-same : goal.returns-clause-same
 returns-clause-same g c = list_stays 0 c.args.planner.now c.step.new.self c.args.kind c.in_ok-reply.reply c.in_ok-reply.ensures.reply

@@ -16,7 +16,7 @@ use Rattle.plan_lines.specs.declared.reply.Reply.{Reply}
 use Rattle.plan_lines.specs.declared.reply.Reply.TheVariants as replies
 use Rattle.plan_lines.specs.declared.command.Command.TheVariants as command
 use Rattle.planner_core.specs.Lines.{Held, IsStep, IsStepIn, Planned}
-use Rattle.carried_lines.specs.Marks.{ListsOnly, MarksOnly}
+use Rattle.line_answers.specs.Marks.{ListsOnly, MarksOnly}
 
 pub marks_set : (test : ℕ → Bool) (marks : List Bool) (place : ℕ) → test place ≡ true → MarksOnly test marks → MarksOnly test (set marks place true)
 marks_set test marks place passes only node is = by_test (node == place) refl

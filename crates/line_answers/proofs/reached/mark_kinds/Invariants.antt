@@ -1,7 +1,7 @@
 use Rattle.std.proofs.Common.{◌≡◌}
 use Rattle.planning_state.specs.Worlds.{is_reached}
-use Rattle.carried_lines.specs.Marks.{MarksOnly}
-use Rattle.carried_lines.proofs.reached.mark_kinds.Given as goal
+use Rattle.line_answers.specs.Marks.{MarksOnly}
+use Rattle.line_answers.proofs.reached.mark_kinds.Given as goal
 
 abbrev pub invariant-loop-kind : goal.invariant-loop-kind
 invariant-loop-kind g l = record {

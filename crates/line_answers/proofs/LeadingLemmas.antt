@@ -10,8 +10,8 @@ use Rattle.line_answers.specs.Answers.{Answered, IsReply, Reading, is_refusal, i
 use Rattle.line_answers.specs.Sessions.{IsSession}
 use Rattle.line_answers.proofs.SessionLemmas.{refused_more, session_first, session_more}
 use Rattle.state_changes.specs.States.{State}
-use Rattle.carried_lines.specs.Leading.{Accepted, AnswersSo, Continues, TellsReply, ends_planned, is_plan}
-use Rattle.carried_lines.specs.declared.stepping.Progress.{Progress}
+use Rattle.line_answers.specs.Leading.{Accepted, AnswersSo, Continues, TellsReply, ends_planned, is_plan}
+use Rattle.line_answers.specs.declared.stepping.Progress.{Progress}
 
 pub tells_reply : (number : ℕ) (line : List ℕ) (reading : Reading) (before after : Planned) (reply : Reply) → command_of_line line reading → IsReply number before reading after reply
     → ((base : State) → IsSessionOf base before → IsSessionOf base after) → TellsReply number line before after reply

@@ -1,5 +1,5 @@
-use Rattle.carried_lines.proofs.LeadingLemmas.{answers_so}
-use Rattle.carried_lines.proofs.stepping.seen_line.Goals as goal
+use Rattle.line_answers.proofs.LeadingLemmas.{answers_so}
+use Rattle.line_answers.proofs.stepping.seen_line.Goals as goal
 
 pub returns-clause-answered : goal.returns-clause-answered
 returns-clause-answered g c =

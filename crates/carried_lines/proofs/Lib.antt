@@ -1,3 +1,0 @@
-pub mod LeadingLemmas
-pub mod JoinedLemmas
-pub mod MarkLemmas
