@@ -4,7 +4,7 @@ use Rattle.planner_core.specs.Lines.{Planned}
 use Rattle.plan_lines.specs.declared.reply.Reply.{Reply}
 use Rattle.plan_lines.specs.declared.reply.Reply.TheVariants as replies
 use Rattle.script_reader.specs.Lines.{command_of_line}
-use Rattle.line_answers.specs.Answers.{is_refusal_reply, IsReply, Reading}
+use Rattle.script_runner.specs.Answers.{is_refusal_reply, IsReply, Reading}
 use Rattle.report_json.specs.Lines.{IsJsonLine, line_value}
 
 -- Blank lines and comments, to which nothing is replied, have no text. To every other line the reply is written, as an object of JSON.

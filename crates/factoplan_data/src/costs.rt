@@ -5,7 +5,7 @@ use crate::estimates::costs_of;
 use crate::fault::{PlanFault, end_by_fault};
 use crate::lines::carry_out;
 use crate::texts::{csv_text, json_text};
-use line_answers::reached_nodes;
+use script_runner::reached_nodes;
 use game_types::Game;
 use plan_base::{NoMemory, Steps};
 use planner_core::Planner;

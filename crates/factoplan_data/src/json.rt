@@ -2,7 +2,7 @@
 ghost use Rattle.std.specs.Prelude.{◌≡◌, IfOk, string_bytes};
 ghost use Rattle.factoplan_data.specs.Told.{IsToldAs, TellsLine};
 
-use line_answers::{is_refusal, reading_of, reply_to};
+use script_runner::{is_refusal, reading_of, reply_to};
 use plan_base::{NoMemory, Steps};
 use plan_lines::Reply;
 use planner_core::Planner;

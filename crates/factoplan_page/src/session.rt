@@ -5,7 +5,7 @@ ghost use Rattle.planner_tables.specs.Effects.{AreSoundTables, IsSoundOn};
 use crate::fault::PageFault;
 use crate::tables::{linear_form, place_of, with_form};
 use game_types::Game;
-use line_answers::is_refusal;
+use script_runner::is_refusal;
 use plan_base::{NoMemory, Steps};
 use plan_lines::Reply;
 use plan_pages::Page;

@@ -2,7 +2,7 @@
 ghost use Rattle.std.specs.Prelude.{◌≡◌};
 
 use crate::words::push_words;
-use line_answers::reached_nodes;
+use script_runner::reached_nodes;
 use catalog_text::{ShownFields, shown_of};
 use clap::ArgMatches;
 use fractions::Ratio;

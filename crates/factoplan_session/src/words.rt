@@ -1,7 +1,7 @@
 //! The words of a question.
 ghost use Rattle.std.specs.Prelude.{◌≤◌, length};
 
-use line_answers::reading_of;
+use script_runner::reading_of;
 use plan_base::{NoMemory, Text};
 use plan_lines::Command;
 use std::alloc::Global;

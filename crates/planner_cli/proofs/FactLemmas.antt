@@ -34,13 +34,13 @@ use Rattle.planner_core.specs.declared.posing.Posed.TheVariants as posed
 use Rattle.script_runner.specs.Verdicts.{IsPlanVerdict, IsVerdict, claim_at}
 use Rattle.script_runner.specs.declared.verdict.Verdict.{Verdict}
 use Rattle.script_runner.specs.declared.verdict.Verdict.TheVariants.{ProvedPlan, ProvedInfeasible, Open, Rejected}
-use Rattle.line_answers.specs.Answers.{Answered, IsAnswered, IsReply, Reading}
+use Rattle.script_runner.specs.Answers.{Answered, IsAnswered, IsReply, Reading}
 use Rattle.planner_cli.specs.Facts.{Asks, CheckHeadline, Headline, IsAfresh, IsShown, ProvesTruly, SolvesOrTellsWhy, TakesBack, TellsByRounds, TellsWhyNot}
 use Rattle.script_runner.specs.Plans.{TellsOfTable}
-use Rattle.line_answers.specs.Sessions.{IsSession}
+use Rattle.script_runner.specs.Sessions.{IsSession}
 use Rattle.script_runner.specs.Trials.{IsJudged, IsJudgedBy, IsSaid, IsTrial, Judged}
 use Rattle.script_runner.proofs.PlanLemmas.{solves_rightly}
-use Rattle.line_answers.proofs.SessionLemmas.{afresh, grown}
+use Rattle.script_runner.proofs.SessionLemmas.{afresh, grown}
 
 -- ---- one line
 -- what the line does where no batch is open

@@ -7,7 +7,7 @@ use Rattle.linear_table.specs.declared.SolveAnswer.{SolveAnswer}
 use Rattle.planner_core.specs.Lines.{first_planned}
 use Rattle.script_runner.specs.Leaves.{Leaves}
 use Rattle.plan_io.specs.Lines.{lines_of}
-use Rattle.line_answers.specs.Sessions.{IsSession}
+use Rattle.script_runner.specs.Sessions.{IsSession}
 use Rattle.plan_io.specs.Writing.{Adds}
 use Rattle.run_inputs.specs.Words.{Asked, Check, FileNames, Files, Prove, Run, Sample}
 use Rattle.run_inputs.specs.Early.{is_cut}

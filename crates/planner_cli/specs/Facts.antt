@@ -27,7 +27,7 @@ use Rattle.planner_core.specs.Posing.{form_asked}
 use Rattle.planner_core.specs.declared.posing.Posed.TheVariants as posed
 use Rattle.script_runner.specs.declared.verdict.Verdict.{Verdict}
 use Rattle.script_runner.specs.declared.verdict.Verdict.TheVariants.{ProvedPlan, ProvedInfeasible}
-use Rattle.line_answers.specs.Answers.{Answered}
+use Rattle.script_runner.specs.Answers.{Answered}
 use Rattle.script_runner.specs.Plans.{HasNoPlanBy, IsLeastCostPlan, TellsOfTable}
 use Rattle.script_runner.specs.Trials.{Judged}
 

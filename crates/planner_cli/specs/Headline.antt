@@ -7,9 +7,9 @@ use Rattle.certificate_file.specs.declared.CertEntry.{CertEntry}
 use Rattle.state_changes.specs.States.{first_state}
 use Rattle.planner_core.specs.Lines.{Planned, first_planned}
 use Rattle.plan_io.specs.Lines.{lines_of}
-use Rattle.line_answers.specs.Answers.{Answered}
+use Rattle.script_runner.specs.Answers.{Answered}
 use Rattle.script_runner.specs.Certificates.{certificate_line, entries_of}
-use Rattle.line_answers.specs.Sessions.{IsSession, report, solutions}
+use Rattle.script_runner.specs.Sessions.{IsSession, report, solutions}
 use Rattle.script_runner.specs.Trials.{IsTrial, Judged, form_count, proved_count, tally_line, trial_text}
 use Rattle.run_inputs.specs.Words.{Asked, Check, Files, Prove, Sample}
 use Rattle.run_inputs.specs.Early.{line_of}

@@ -6,8 +6,8 @@ use Rattle.game_types.specs.declared.games.Game.{Game}
 use Rattle.state_changes.specs.States.{first_state}
 use Rattle.planner_core.specs.Lines.{Planned, first_planned}
 use Rattle.plan_io.specs.Lines.{lines_of}
-use Rattle.line_answers.specs.Answers.{Answered}
-use Rattle.line_answers.specs.Sessions.{IsSession}
+use Rattle.script_runner.specs.Answers.{Answered}
+use Rattle.script_runner.specs.Sessions.{IsSession}
 use Rattle.run_inputs.specs.Words.{Asked, Check, FileNames, Files}
 use Rattle.run_inputs.specs.Inputs.{IsBase, IsScript}
 use Rattle.run_inputs.specs.declared.status.Status.{Status}

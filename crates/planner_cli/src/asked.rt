@@ -11,7 +11,7 @@ ghost use Rattle.run_inputs.specs.Words.{asked_of};
 
 use crate::modes::{check_files, run_files, run_sample};
 use run_inputs::{Asked, FileMode, Status, WordsFault, plain_words, read_words, tell};
-use line_answers::Listener;
+use script_runner::Listener;
 use linear_table::SolveAnswer;
 use plan_base::{Steps, Text};
 use plan_io::{Sink, Store};

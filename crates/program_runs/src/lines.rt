@@ -1,6 +1,6 @@
 //! What a planner answers to a line.
 
-use line_answers::{is_refusal, reading_of, reply_to};
+use script_runner::{is_refusal, reading_of, reply_to};
 use plan_base::{NoMemory, Steps};
 use plan_lines::{Command, Reply};
 use planner_core::Planner;

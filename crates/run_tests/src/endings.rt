@@ -2,7 +2,7 @@
 ghost use Rattle.std.specs.Prelude.{◌≡◌};
 
 use crate::memory::{Calls, WORDS, sink_of, store_of, texts_in};
-use line_answers::Silent;
+use script_runner::Silent;
 use plan_base::{Steps, Text};
 use plan_io::{MemSink, MemStore, Store};
 use planner_cli::run;

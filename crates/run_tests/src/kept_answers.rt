@@ -4,7 +4,7 @@ ghost use Rattle.std.specs.Prelude.{◌≡◌};
 use crate::endings::Test;
 use crate::memory::{Calls, WORDS, sink_of, store_of, texts_in};
 use crate::texts::{DUMP, SCRIPT, TABLES};
-use line_answers::Silent;
+use script_runner::Silent;
 use linear_table::SolveAnswer;
 use plan_base::{Steps, Text};
 use plan_io::{MemSink, MemStore, Store};

@@ -3,7 +3,7 @@ use crate::lines::tell_reply;
 use crate::room::Telling;
 use run_inputs::{PlainWords, plain_words};
 use hint_causes::is_bare;
-use line_answers::Listener;
+use script_runner::Listener;
 use plan_base::{NoMemory, Text};
 use plan_lines::Reply;
 use planner_core::Planner;

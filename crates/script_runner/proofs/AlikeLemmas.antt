@@ -15,7 +15,7 @@ use Rattle.planner_core.specs.Lines.{Held, IsSessionOf, IsStep, IsStepIn, Planne
 use Rattle.planner_core.specs.Posing.{form_asked, form_in}
 use Rattle.script_runner.specs.Alike.{AreAlike}
 use Rattle.script_runner.proofs.LeftLemmas.{Left, Settles, form_settled, left_by, line_leaves, line_left}
-use Rattle.line_answers.proofs.SessionLemmas.{afresh}
+use Rattle.script_runner.proofs.SessionLemmas.{afresh}
 
 -- the state is that of the active edits
 state_same : (base : State) (r s : Planned) → IsSessionOf base r → IsSessionOf base s → session_of r.kept ≡ session_of s.kept → r.state ≡ s.state

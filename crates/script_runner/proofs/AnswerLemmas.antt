@@ -7,7 +7,7 @@ use Rattle.plan_report.specs.Replies.{printed_reply}
 use Rattle.state_changes.specs.States.{State}
 use Rattle.planner_core.specs.Lines.{IsSessionOf, Planned}
 use Rattle.script_reader.specs.Lines.{command_of_line}
-use Rattle.line_answers.specs.Answers.{AnswersLine, IsReply, Reading, is_refusal_reply, reading_work, solved_in}
+use Rattle.script_runner.specs.Answers.{AnswersLine, IsReply, Reading, is_refusal_reply, reading_work, solved_in}
 
 pub answers_line : (number : ℕ) (line : List ℕ) (reading : Reading) (answer : Reply) (before after : Planned) (text : List ℕ) (refused : Bool) (solved : Option SolveAnswer) (old new : ℕ)
     → command_of_line line reading → IsReply number before reading after answer → ((base : State) → IsSessionOf base before → IsSessionOf base after)

@@ -8,9 +8,9 @@ use Rattle.linear_table.specs.declared.SolveAnswer.{SolveAnswer}
 use Rattle.planner_core.specs.Lines.{Planned}
 use Rattle.certificate_file.specs.Said.{HaveLines, IsCertificate, IsLine}
 use Rattle.certificate_file.specs.declared.CertEntry.{CertEntry}
-use Rattle.line_answers.specs.Answers.{Answered, solved_in}
+use Rattle.script_runner.specs.Answers.{Answered, solved_in}
 use Rattle.script_runner.specs.Certificates.{entries_of, entry_for}
-use Rattle.line_answers.specs.Sessions.{IsSession}
+use Rattle.script_runner.specs.Sessions.{IsSession}
 use Rattle.script_runner.proofs.FollowLemmas.{Follows, follows}
 use Rattle.script_runner.proofs.NewlineLemmas.{read_ended}
 

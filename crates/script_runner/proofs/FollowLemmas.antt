@@ -8,8 +8,8 @@ use Rattle.plan_lines.specs.declared.reply.Reply.{Reply}
 use Rattle.state_changes.specs.States.{State}
 use Rattle.planner_core.specs.Lines.{IsSessionOf, Planned}
 use Rattle.script_runner.specs.Alike.{AreAlike}
-use Rattle.line_answers.specs.Answers.{Answered, IsAnswered, IsReply, Reading}
-use Rattle.line_answers.specs.Sessions.{IsSession}
+use Rattle.script_runner.specs.Answers.{Answered, IsAnswered, IsReply, Reading}
+use Rattle.script_runner.specs.Sessions.{IsSession}
 use Rattle.script_runner.proofs.AlikeLemmas.{alike_as, alike_next}
 
 -- a session, line by line

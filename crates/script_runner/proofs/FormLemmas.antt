@@ -9,7 +9,7 @@ use Rattle.script_reader.specs.declared.fault.ScriptFault.TheVariants as fault
 use Rattle.script_reader.specs.Reading.{Answers}
 use Rattle.plan_io.specs.declared.ends.ScriptEnd.{ScriptEnd}
 use Rattle.plan_io.specs.declared.ends.ScriptEnd.TheVariants.{Done, NoMemory, SomeRefused, TooManyLines, WriteFault}
-use Rattle.line_answers.specs.Answers.{is_no_memory}
+use Rattle.script_runner.specs.Answers.{is_no_memory}
 use Rattle.script_runner.specs.Leaves.{Leaves}
 use Rattle.plan_io.specs.Lines.{lines_of}
 use Rattle.script_runner.specs.Scripts.{EndsScript, is_cut}

@@ -34,7 +34,7 @@ use Rattle.state_changes.specs.declared.undos.Undo.{Undo}
 use Rattle.planner_core.specs.Lines.{Ends, Held, Holds, HoldsChange, IsFree, IsOpen, IsStep, IsStepIn, Moves, Planned, Tries, changes_of, planned}
 use Rattle.planner_core.specs.Posing.{form_asked, form_in, form_of}
 use Rattle.planner_core.specs.Replies.{AboutNode, IsWhyReply, done_reply, held_reply, mask_reply, missing_reply, refused_as}
-use Rattle.line_answers.specs.Answers.{gives_up, is_refusal_reply, solved_in}
+use Rattle.script_runner.specs.Answers.{gives_up, is_refusal_reply, solved_in}
 
 -- ---- what a line leaves behind besides the planning state, and whether it is refused
 pub record Left : Type 0 where

@@ -13,3 +13,8 @@ pub mod PairLemmas
 pub mod NewlineLemmas
 pub mod CertificateLemmas
 pub mod RecheckLemmas
+pub mod ReadingLemmas
+pub mod SessionLemmas
+pub mod LeadingLemmas
+pub mod JoinedLemmas
+pub mod MarkLemmas

@@ -27,10 +27,10 @@ use Rattle.planner_core.specs.declared.posing.Posed.TheVariants as posed
 use Rattle.certificate_file.specs.declared.CertEntry.{CertEntry}
 use Rattle.certificate_file.specs.declared.Claim.{Claim}
 use Rattle.script_runner.specs.Alike.{AreAlike}
-use Rattle.line_answers.specs.Answers.{Answered, IsReply, Reading, gives_up, is_refusal, is_refusal_reply, solved_in}
+use Rattle.script_runner.specs.Answers.{Answered, IsReply, Reading, gives_up, is_refusal, is_refusal_reply, solved_in}
 use Rattle.script_runner.specs.Certificates.{claim_of, entries_of, entry_for, entry_of}
 use Rattle.script_runner.specs.Rechecks.{AreProvedButWide, is_wide}
-use Rattle.line_answers.specs.Sessions.{IsSession, some_refused}
+use Rattle.script_runner.specs.Sessions.{IsSession, some_refused}
 use Rattle.script_runner.specs.Trials.{IsJudgedBy, IsSaid, IsTrial, Judged, is_form, is_said_refused, is_shown, some_said_refused}
 use Rattle.script_runner.specs.Verdicts.{IsPlanVerdict, IsVerdict, claim_at, is_of_line, is_proved}
 use Rattle.script_runner.specs.declared.verdict.Verdict.{Verdict}

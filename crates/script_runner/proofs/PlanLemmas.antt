@@ -18,7 +18,7 @@ use Rattle.table_words.specs.Refusals.{refused}
 use Rattle.planner_tables.specs.Causes.{caused}
 use Rattle.state_changes.specs.States.{State}
 use Rattle.planner_core.specs.Lines.{Held, IsStep, IsStepIn, Planned as AnyPlanned, is_refused}
-use Rattle.line_answers.specs.Answers.{Answered, IsAnswered, IsReply}
+use Rattle.script_runner.specs.Answers.{Answered, IsAnswered, IsReply}
 use Rattle.script_runner.specs.Plans.{Shows, SolvesRightly, TellsOfTable}
 
 shows : (l : Linear) (budget : ℕ) (a : SolveAnswer) → IsAnswer l budget a → Shows l budget a

@@ -11,12 +11,12 @@ use Rattle.planner_core.specs.Lines.{Planned}
 use Rattle.certificate_file.specs.Said.{HaveLines, IsCertificate}
 use Rattle.certificate_file.specs.Tree.{certificate_tree}
 use Rattle.certificate_file.specs.declared.CertEntry.{CertEntry}
-use Rattle.line_answers.specs.Answers.{Answered, AnswersLine, solved_in}
+use Rattle.script_runner.specs.Answers.{Answered, AnswersLine, solved_in}
 use Rattle.script_runner.specs.Certificates.{CertifiesAll, EndsProof, IsEntered, IsEnteredInPart, end_of, entries_of, entry_for, entry_of}
 use Rattle.script_runner.specs.Leaves.{Leaves}
 use Rattle.plan_io.specs.Lines.{lines_of}
 use Rattle.script_runner.specs.Scripts.{is_cut}
-use Rattle.line_answers.specs.Sessions.{IsSession, report, work}
+use Rattle.script_runner.specs.Sessions.{IsSession, report, work}
 use Rattle.script_runner.specs.TrialLines.{TellsMany}
 use Rattle.plan_io.specs.Writing.{Adds, AppendsFront}
 use Rattle.plan_io.specs.declared.ends.ScriptEnd.{ScriptEnd}

@@ -6,13 +6,13 @@ use Rattle.std.proofs.lemmas.List.{take-append-drop, length-append}
 use Rattle.linear_table.specs.declared.SolveAnswer.{SolveAnswer}
 use Rattle.planner_core.specs.Lines.{Planned}
 use Rattle.plan_io.specs.declared.ends.ScriptEnd.TheVariants.{Done, SomeRefused, NoMemory, WriteFault}
-use Rattle.line_answers.specs.Answers.{Answered, AnswersLine, IsAnswered, solved_in}
+use Rattle.script_runner.specs.Answers.{Answered, AnswersLine, IsAnswered, solved_in}
 use Rattle.script_runner.specs.Leaves.{Leaves}
 use Rattle.plan_io.specs.Lines.{lines_of}
 use Rattle.script_runner.specs.Scripts.{EndsScript, TellsAll, TellsSome, is_cut}
-use Rattle.line_answers.specs.Sessions.{IsSession, report, solutions, some_refused, work}
+use Rattle.script_runner.specs.Sessions.{IsSession, report, solutions, some_refused, work}
 use Rattle.plan_io.specs.Writing.{AppendsFront}
-use Rattle.line_answers.proofs.SessionLemmas.{refused_more, report_more, session_first, session_more, solved_more, work_more}
+use Rattle.script_runner.proofs.SessionLemmas.{refused_more, report_more, session_first, session_more, solved_more, work_more}
 use Rattle.plan_io.proofs.WritingLemmas.{appends_both, appends_none, front_after}
 
 -- so many of the first lines are answered, from the first planner on to this one

@@ -13,7 +13,7 @@ use Rattle.planner_core.specs.declared.posing.Posed.TheVariants as posed
 use Rattle.certificate_file.specs.declared.CertEntry.{CertEntry}
 use Rattle.certificate_file.specs.declared.Claim.{Claim}
 use Rattle.script_reader.specs.Lines.{command_of_line}
-use Rattle.line_answers.specs.Answers.{Reading, is_refusal_reply}
+use Rattle.script_runner.specs.Answers.{Reading, is_refusal_reply}
 use Rattle.script_runner.specs.TrialLines.{IsNote, IsNoted, JudgesLine}
 use Rattle.script_runner.specs.Trials.{IsJudgedBy, IsSaid, said_work, table_asked}
 use Rattle.script_runner.specs.Verdicts.{IsVerdict, claim_at}

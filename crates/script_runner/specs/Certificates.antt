@@ -9,7 +9,7 @@ use Rattle.certificate_file.specs.Tree.{certificate_tree}
 use Rattle.certificate_file.specs.declared.CertEntry.{CertEntry}
 use Rattle.certificate_file.specs.declared.Claim.{Claim}
 use Rattle.certificate_file.specs.declared.Claim.TheVariants as claims
-use Rattle.line_answers.specs.Answers.{Answered, solved_in}
+use Rattle.script_runner.specs.Answers.{Answered, solved_in}
 use Rattle.script_runner.specs.Scripts.{IsTooLong, TellsAll, TellsSome}
 use Rattle.plan_io.specs.declared.ends.ScriptEnd.{ScriptEnd}
 use Rattle.plan_io.specs.declared.ends.ScriptEnd.TheVariants.{Done, SomeRefused, TooManyLines, WriteFault, NoMemory}

@@ -8,3 +8,7 @@ pub mod TrialLines
 pub mod Alike
 pub mod Rechecks
 pub mod Verdicts
+pub mod Answers
+pub mod Sessions
+pub mod Leading
+pub mod Marks

@@ -14,7 +14,7 @@ use Rattle.planner_tables.specs.Effects.{table_at, table_named}
 use Rattle.planner_tables.specs.Questions.{solved}
 use Rattle.state_changes.specs.States.{State}
 use Rattle.planner_core.specs.Lines.{is_refused}
-use Rattle.line_answers.specs.Answers.{Answered}
+use Rattle.script_runner.specs.Answers.{Answered}
 
 -- The rates balance every good exactly at what is wanted, and cost this much. The prices are dual to that cost, and so no plan
 -- costs less.

@@ -4,9 +4,9 @@ use Rattle.linear_table.specs.declared.SolveAnswer.{SolveAnswer}
 use Rattle.planner_core.specs.Lines.{Planned}
 use Rattle.plan_io.specs.declared.ends.ScriptEnd.{ScriptEnd}
 use Rattle.plan_io.specs.declared.ends.ScriptEnd.TheVariants.{Done, SomeRefused, TooManyLines, WriteFault, NoMemory}
-use Rattle.line_answers.specs.Answers.{Answered}
+use Rattle.script_runner.specs.Answers.{Answered}
 use Rattle.plan_io.specs.Lines.{lines_of}
-use Rattle.line_answers.specs.Sessions.{IsSession, report, solutions, some_refused, work}
+use Rattle.script_runner.specs.Sessions.{IsSession, report, solutions, some_refused, work}
 
 -- the text is the report of a session of these lines, what the solver answered is what its replies tell, and the steps are those
 -- of its lines

@@ -6,7 +6,7 @@ use Rattle.planner_core.specs.Lines.{Planned}
 use Rattle.planner_core.specs.declared.posing.Posed.{Posed}
 use Rattle.certificate_file.specs.declared.CertEntry.{CertEntry}
 use Rattle.certificate_file.specs.declared.Claim.{Claim}
-use Rattle.line_answers.specs.Answers.{Reading}
+use Rattle.script_runner.specs.Answers.{Reading}
 use Rattle.script_runner.specs.Trials.{IsJudged, IsJudgedBy, Judged, is_form, is_said_refused, is_shown, is_passed, judged_work, said_text, table_asked, tally_line}
 use Rattle.script_runner.specs.Scripts.{is_cut}
 use Rattle.plan_io.specs.Writing.{Adds, AppendsFront}

@@ -15,7 +15,7 @@ use Rattle.planner_core.specs.declared.posing.Posed.{Posed}
 use Rattle.planner_core.specs.declared.posing.Posed.TheVariants as posed
 use Rattle.certificate_file.specs.declared.CertEntry.{CertEntry}
 use Rattle.certificate_file.specs.declared.Claim.{Claim}
-use Rattle.line_answers.specs.Answers.{Reading, fault_code, is_refusal_reply}
+use Rattle.script_runner.specs.Answers.{Reading, fault_code, is_refusal_reply}
 use Rattle.script_runner.specs.Verdicts.{IsVerdict, claim_at, is_proved, verdict_line}
 use Rattle.script_runner.specs.declared.verdict.Verdict.{Verdict}
 

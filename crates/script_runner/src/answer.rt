@@ -4,10 +4,12 @@ ghost use Rattle.game_types.specs.Sound.{IsSound};
 ghost use Rattle.plan_report.specs.Replies.{printed_reply};
 ghost use Rattle.state_changes.specs.States.{State};
 ghost use Rattle.planner_core.specs.Lines.{IsSessionOf};
-ghost use Rattle.line_answers.specs.Answers.{is_refusal_reply, solved_in, AnswersLine};
+ghost use Rattle.script_runner.specs.Answers.{is_refusal_reply, solved_in, AnswersLine};
 
 use game_types::Game;
-use line_answers::{Listener, is_refusal, reading_of, reply_to};
+use crate::listening::Listener;
+use crate::reading::reading_of;
+use crate::reply::{is_refusal, reply_to};
 use linear_table::SolveAnswer;
 use plan_base::{NoMemory, Steps, Text};
 use plan_lines::Reply;

@@ -11,7 +11,7 @@ ghost use Rattle.script_runner.specs.TrialLines.{TellsTally};
 
 use crate::trial::judge_line;
 use certificate_file::CertEntry;
-use line_answers::Listener;
+use crate::listening::Listener;
 use plan_base::Steps;
 use plan_io::{Lines, ScriptEnd, Sink, write_all};
 use planner_core::Planner;

@@ -4,10 +4,15 @@
 mod answer;
 mod checking;
 mod laws;
+mod listening;
 mod proving;
+mod reached;
+mod reading;
+mod reply;
 mod report;
 mod run;
 mod solutions;
+mod stepping;
 mod trial;
 mod verdict;
 
@@ -16,6 +21,11 @@ pub use laws::{
     certificates_prove_their_script, lines_lead_to_one_planner, planners_grow_from_the_base,
     plans_cost_least,
 };
+pub use listening::{Listener, Silent};
 pub use proving::prove_script;
+pub use reached::reached_nodes;
+pub use reading::{Reading, fault_code, reading_of, refused_for};
+pub use reply::{is_refusal, reply_to};
 pub use run::{run_script, tell_many_lines};
+pub use stepping::{Progress, step_lines};
 pub use verdict::{Verdict, is_proved, verdict_line, verdict_on};

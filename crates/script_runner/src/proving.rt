@@ -15,7 +15,7 @@ use crate::run::tell_many_lines;
 use crate::solutions::keep;
 use certificate_file::{CertEntry, Claim, write_cert};
 use fractions::Ratio;
-use line_answers::Listener;
+use crate::listening::Listener;
 use linear_table::{Plan, SolveAnswer};
 use plan_base::{Items, NoMemory, Steps, Text};
 use plan_io::{Failed, Lines, ScriptEnd, Sink, has_many_lines, write_all};

@@ -9,7 +9,7 @@ ghost use Rattle.script_runner.specs.Scripts.{is_cut, EndsScript};
 
 use crate::answer::answer_line;
 use crate::solutions::keep;
-use line_answers::Listener;
+use crate::listening::Listener;
 use linear_table::SolveAnswer;
 use plan_base::Steps;
 use plan_io::{Lines, ScriptEnd, Sink, write_all};

@@ -2,9 +2,9 @@
 use Rattle.std.proofs.Common.{◌≡◌, ◌∙◌, ◌+◌, ◌++◌, ◌∷◌, [], ℕ, Bool, List, length, map, refl, sym, ap, subst, arith}
 use Rattle.std.proofs.lemmas.List.{length-map}
 use Rattle.planner_core.specs.Lines.{Planned}
-use Rattle.line_answers.specs.Answers.{Answered, text_of}
-use Rattle.line_answers.specs.Sessions.{IsSession, report}
-use Rattle.line_answers.proofs.SessionLemmas.{report_more, session_first, session_more}
+use Rattle.script_runner.specs.Answers.{Answered, text_of}
+use Rattle.script_runner.specs.Sessions.{IsSession, report}
+use Rattle.script_runner.proofs.SessionLemmas.{report_more, session_first, session_more}
 use Rattle.session_lines.specs.Told.{HasAnswered, IsToldAs}
 
 pub nothing_answered : (p : Planned) → HasAnswered p [] [] p

@@ -5,7 +5,7 @@ use Rattle.plan_report.specs.Replies.{printed_reply}
 use Rattle.script_reader.specs.Lines.{command_of_line}
 use Rattle.state_changes.specs.States.{State}
 use Rattle.planner_core.specs.Lines.{IsSessionOf, Planned}
-use Rattle.line_answers.specs.Answers.{IsReply, Reading, is_refusal_reply}
+use Rattle.script_runner.specs.Answers.{IsReply, Reading, is_refusal_reply}
 use Rattle.session_lines.specs.Told.{IsToldAs}
 
 pub told : (number : ℕ) (line : List ℕ) (reading : Reading) (answer : Reply) (before after : Planned) (text : List ℕ) (refused : Bool)

@@ -1,8 +1,8 @@
 -- What a line of a script is answered in a session: just what a run of the script answers.
 use Rattle.std.specs.Prelude.{◌≡◌, ℕ, Bool, List, [], ◌∷◌, ◌++◌, All, map, length}
 use Rattle.planner_core.specs.Lines.{Planned}
-use Rattle.line_answers.specs.Answers.{Answered, IsAnswered, is_refusal, text_of}
-use Rattle.line_answers.specs.Sessions.{IsSession, report}
+use Rattle.script_runner.specs.Answers.{Answered, IsAnswered, is_refusal, text_of}
+use Rattle.script_runner.specs.Sessions.{IsSession, report}
 
 -- A line of this number is answered by this text, refused or not, from one planner to another.
 pub record IsToldAs (number : ℕ) (line : List ℕ) (before after : Planned) (text : List ℕ) (refused : Bool) : Type 0 where

@@ -1,7 +1,7 @@
 //! The words of a question: what the first asks for, and what those behind it are read as.
 use crate::answers::refusal;
 use crate::forced::Reading;
-use line_answers::reading_of;
+use script_runner::reading_of;
 use plan_base::NoMemory;
 use plan_lines::{Command, RefusalCode, Reply};
 use script_reader::ScriptFault;

@@ -4,12 +4,12 @@ ghost use Rattle.game_types.specs.Sound.{IsSound};
 ghost use Rattle.plan_report.specs.Replies.{printed_reply};
 ghost use Rattle.state_changes.specs.States.{State};
 ghost use Rattle.planner_core.specs.Lines.{IsSessionOf};
-ghost use Rattle.line_answers.specs.Answers.{is_refusal_reply, IsReply};
+ghost use Rattle.script_runner.specs.Answers.{is_refusal_reply, IsReply};
 ghost use Rattle.session_lines.specs.Told.{IsToldAs};
 
 use crate::forced::{Deed, deed_of};
 use game_types::Game;
-use line_answers::{is_refusal, reading_of, reply_to};
+use script_runner::{is_refusal, reading_of, reply_to};
 use plan_base::{NoMemory, Steps, Text};
 use plan_lines::Reply;
 use plan_report::print_reply;

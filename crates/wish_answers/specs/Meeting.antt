@@ -7,7 +7,7 @@ use Rattle.planner_core.specs.Lines.{Planned}
 use Rattle.wish_checks.specs.Answers.{IsMet}
 use Rattle.wish_setups.specs.declared.wish.Met.{Met}
 use Rattle.wish_setups.specs.declared.wish.Wish.{Wish}
-use Rattle.line_answers.specs.Marks.{MarksOnly}
+use Rattle.script_runner.specs.Marks.{MarksOnly}
 
 -- a table meets a wish, with some goods at its rim; by these marks of what is reached
 abbrev pub TableMeets : Game → List Bool → List ℕ → Wish → Table → Type 0

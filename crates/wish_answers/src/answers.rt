@@ -4,14 +4,14 @@ ghost use Rattle.state_changes.specs.States.{State};
 ghost use Rattle.planner_core.specs.Lines.{IsSessionOf};
 ghost use Rattle.plan_io.specs.Lines.{lines_of};
 ghost use Rattle.planning_state.specs.Worlds.{is_reached};
-ghost use Rattle.line_answers.specs.Leading.{Continues};
-ghost use Rattle.line_answers.specs.Marks.{MarksOnly};
+ghost use Rattle.script_runner.specs.Leading.{Continues};
+ghost use Rattle.script_runner.specs.Marks.{MarksOnly};
 ghost use Rattle.wish_answers.specs.Meeting.{HasMet, MeetsWish};
 
 use crate::failures::Failure;
 use crate::finding::{Found, found_lines};
 use crate::standing::check_standing;
-use line_answers::{Progress, reached_nodes, step_lines};
+use script_runner::{Progress, reached_nodes, step_lines};
 use fractions::Ratio;
 use plan_base::Steps;
 use planner_core::Planner;

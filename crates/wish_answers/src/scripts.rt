@@ -3,12 +3,12 @@ ghost use Rattle.std.specs.Prelude.{◌≡◌, OnOk, IfOk, length, string_bytes}
 ghost use Rattle.state_changes.specs.States.{State};
 ghost use Rattle.planner_core.specs.Lines.{IsSessionOf};
 ghost use Rattle.plan_io.specs.Lines.{lines_of};
-ghost use Rattle.line_answers.specs.Leading.{Continues, LeadsToPlan, ends_within, joined};
-ghost use Rattle.line_answers.specs.declared.stepping.Progress.{Progress};
+ghost use Rattle.script_runner.specs.Leading.{Continues, LeadsToPlan, ends_within, joined};
+ghost use Rattle.script_runner.specs.declared.stepping.Progress.{Progress};
 
 use crate::answers::{answered_lines, has_too_many};
 use crate::failures::Failure;
-use line_answers::{Progress, step_lines};
+use script_runner::{Progress, step_lines};
 use fractions::Ratio;
 use plan_base::{NoMemory, Steps};
 use planner_core::Planner;
@@ -43,7 +43,7 @@ fn carry_script<L>(
 }
 
 // Whether a text ends within a line.
-#[tactic(auto, using(line_answers::proofs::JoinedLemmas::ends_within_last))]
+#[tactic(auto, using(script_runner::proofs::JoinedLemmas::ends_within_last))]
 fn ends_within(text: &[u8]) -> bool
     ensures { result ≡ ends_within text.now }
 {

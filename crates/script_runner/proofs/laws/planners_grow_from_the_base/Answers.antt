@@ -1,5 +1,5 @@
 use Rattle.std.proofs.Common.{slice_index_or}
-use Rattle.line_answers.proofs.SessionLemmas.{afresh, grown}
+use Rattle.script_runner.proofs.SessionLemmas.{afresh, grown}
 use Rattle.script_runner.proofs.laws.planners_grow_from_the_base.Goals as goal
 
 pub returns-clause-grown : goal.returns-clause-grown

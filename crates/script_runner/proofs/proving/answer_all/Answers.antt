@@ -1,6 +1,6 @@
 use Rattle.std.proofs.Common.{◌≡◌, ◌++◌, ℕ, refl, subst}
 use Rattle.std.specs.Prelude.{option_map, option_to_list}
-use Rattle.line_answers.specs.Answers.{AnswersLine}
+use Rattle.script_runner.specs.Answers.{AnswersLine}
 use Rattle.script_runner.specs.Certificates.{entry_for}
 use Rattle.script_runner.proofs.ProvingLemmas.{proving_all, proving_first, proving_next, proving_part}
 use Rattle.script_runner.proofs.proving.answer_all.Goals as goal

@@ -1,5 +1,5 @@
 use Rattle.std.proofs.Common.{arith, refl, subst, ◌≡◌, ℕ}
-use Rattle.line_answers.specs.Answers.{AnswersLine}
+use Rattle.script_runner.specs.Answers.{AnswersLine}
 use Rattle.script_runner.proofs.SoFarLemmas.{ends_cut, ends_done, ends_refused, ends_wanting, so_far_first, so_far_next}
 use Rattle.script_runner.proofs.report.answer_lines.Goals as goal
 

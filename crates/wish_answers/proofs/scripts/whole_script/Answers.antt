@@ -1,8 +1,8 @@
 use Rattle.std.proofs.Common.{◌≡◌, ◌∙◌, ℕ, List, ap, length, refl, subst, false, string_bytes}
 use Rattle.plan_io.specs.Lines.{lines_of}
-use Rattle.line_answers.specs.Leading.{Continues, joined}
-use Rattle.line_answers.specs.declared.stepping.Progress.{Progress}
-use Rattle.line_answers.proofs.JoinedLemmas.{leads_to_plan}
+use Rattle.script_runner.specs.Leading.{Continues, joined}
+use Rattle.script_runner.specs.declared.stepping.Progress.{Progress}
+use Rattle.script_runner.proofs.JoinedLemmas.{leads_to_plan}
 use Rattle.wish_answers.proofs.scripts.whole_script.Goals as goal
 
 pub returns-clause-leads : goal.returns-clause-leads

@@ -1,5 +1,0 @@
-pub mod ReadingLemmas
-pub mod SessionLemmas
-pub mod LeadingLemmas
-pub mod JoinedLemmas
-pub mod MarkLemmas

@@ -1,4 +1,0 @@
-pub mod Answers
-pub mod Sessions
-pub mod Leading
-pub mod Marks
