@@ -18,8 +18,8 @@ use Rattle.plan_lines.specs.declared.command.Command.TheVariants as command
 use Rattle.plan_lines.specs.declared.reply.RefusalCode.{RefusalCode}
 use Rattle.plan_lines.specs.declared.reply.RefusalCode.TheVariants as code
 use Rattle.plan_lines.specs.declared.reply.Reply.{Reply}
-use Rattle.table_words.specs.Refusals.{refused}
-use Rattle.table_words.specs.declared.refusals.TableRefusal.{TableRefusal}
+use Rattle.table_rows.specs.Refusals.{refused}
+use Rattle.table_rows.specs.declared.refusals.TableRefusal.{TableRefusal}
 use Rattle.production_table.specs.declared.tables.Table.{Table}
 use Rattle.game_types.specs.Steps.{◌▸◌}
 use Rattle.planner_tables.specs.Effects.{table_at, table_named}

@@ -14,8 +14,8 @@ use Rattle.plan_lines.specs.declared.command.Command.TheVariants as command
 use Rattle.plan_lines.specs.declared.reply.RefusalCode.TheVariants as code
 use Rattle.plan_lines.specs.declared.reply.Reply.{Reply}
 use Rattle.plan_lines.specs.declared.reply.Reply.TheVariants as reply
-use Rattle.table_words.specs.Refusals.{refused}
-use Rattle.table_words.specs.declared.refusals.TableRefusal.{TableRefusal}
+use Rattle.table_rows.specs.Refusals.{refused}
+use Rattle.table_rows.specs.declared.refusals.TableRefusal.{TableRefusal}
 use Rattle.planner_tables.specs.Questions.{linear_named}
 use Rattle.state_changes.specs.Actions.{node_named}
 use Rattle.state_changes.specs.Effects.{effect_of}

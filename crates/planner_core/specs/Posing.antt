@@ -7,8 +7,8 @@ use Rattle.plan_lines.specs.declared.command.Command.{Command}
 use Rattle.plan_lines.specs.declared.command.Command.TheVariants as command
 use Rattle.plan_lines.specs.declared.reply.Reply.{Reply as AnyReply}
 use Rattle.planner_tables.specs.Questions.{linear_named}
-use Rattle.table_words.specs.declared.refusals.TableRefusal.{TableRefusal}
-use Rattle.table_words.specs.Refusals.{refused}
+use Rattle.table_rows.specs.declared.refusals.TableRefusal.{TableRefusal}
+use Rattle.table_rows.specs.Refusals.{refused}
 use Rattle.planner_core.specs.Lines.{Held, IsStep, Planned, line_work}
 use Rattle.planner_core.specs.declared.posing.Posed.{Posed}
 use Rattle.planner_core.specs.declared.posing.Posed.TheVariants as posed

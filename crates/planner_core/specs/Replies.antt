@@ -17,7 +17,7 @@ use Rattle.milestone_masks.specs.Why.{IsWhy}
 use Rattle.milestone_masks.specs.Worlds.{missing_in}
 use Rattle.state_changes.specs.declared.refusals.Refusal.{Refusal}
 use Rattle.state_changes.specs.declared.refusals.Refusal.TheVariants.{Unknown, OfEdit, OfMilestone, OfTables}
-use Rattle.table_words.specs.Refusals.{code_of as table_code, detail_of as table_detail}
+use Rattle.table_rows.specs.Refusals.{code_of as table_code, detail_of as table_detail}
 use Rattle.plan_lines.specs.declared.reply.Detail.{Detail}
 use Rattle.plan_lines.specs.declared.reply.Detail.TheVariants.{Bare, Word}
 use Rattle.plan_lines.specs.declared.reply.RefusalCode.{RefusalCode}

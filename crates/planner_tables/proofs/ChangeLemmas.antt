@@ -18,8 +18,8 @@ use Rattle.plan_lines.specs.declared.change.Change.TheVariants as change
 use Rattle.production_table.specs.declared.tables.Table.{Table}
 use Rattle.production_table.specs.Changes.{empty_table}
 use Rattle.production_table.specs.Tables.{IsSoundTable}
-use Rattle.table_words.specs.declared.refusals.TableRefusal.{TableRefusal}
-use Rattle.table_words.specs.declared.refusals.TableRefusal.TheVariants.{NameUsed, Full}
+use Rattle.table_rows.specs.declared.refusals.TableRefusal.{TableRefusal}
+use Rattle.table_rows.specs.declared.refusals.TableRefusal.TheVariants.{NameUsed, Full}
 use Rattle.planner_tables.specs.declared.splices.Splice.TheVariants.{Remove}
 use Rattle.planner_tables.specs.declared.steps.Step.{Step}
 use Rattle.planner_tables.specs.declared.steps.Step.TheVariants as step
@@ -27,7 +27,7 @@ use Rattle.planner_tables.specs.declared.undos.TablePart.{TablePart}
 use Rattle.planner_tables.specs.declared.undos.TableUndo.{TableUndo}
 use Rattle.planner_tables.specs.declared.undos.TableUndo.TheVariants as undo
 use Rattle.planner_tables.specs.Effects.{AreSoundTables, HaveOwnNames, IsSoundOn, is_name, placed, table_at, table_named, tables_effect, with_table}
-use Rattle.table_words.specs.Names.{good_named, setup_named}
+use Rattle.table_rows.specs.Names.{good_named, setup_named}
 use Rattle.planner_tables.specs.Steps.{MakesTable, MakesTables, is_step, step_effect, step_named, step_table}
 use Rattle.planner_tables.specs.Undoing.{has_room, part_restored, spliced, tables_restored}
 use Rattle.plan_base.proofs.Places.{put_back}

@@ -20,11 +20,11 @@ use Rattle.production_table.specs.declared.tables.TableRow.{TableRow}
 use Rattle.production_table.specs.Linear.{HasFigures}
 use Rattle.production_table.specs.Tables.{labels_of}
 use Rattle.plan_lines.specs.declared.reply.Reply.{Reply}
-use Rattle.table_words.specs.declared.refusals.TableRefusal.{TableRefusal}
+use Rattle.table_rows.specs.declared.refusals.TableRefusal.{TableRefusal}
 use Rattle.planner_tables.specs.Causes.{cause, caused, denied_as}
 use Rattle.planner_tables.specs.Effects.{table_at, table_named}
 use Rattle.planner_tables.specs.Questions.{column_names, rate_outcome, row_rates_outcome, solved_with, IsSolved, IsSolvedWhere, IsSolvedWith, IsSolveReply, IsSolveReplyAt, linear_named, linear_outcome}
-use Rattle.table_words.specs.Refusals.{refused}
+use Rattle.table_rows.specs.Refusals.{refused}
 use Rattle.planner_tables.proofs.FigureLemmas.{answer_known}
 
 -- ---- labels

@@ -24,8 +24,8 @@ use Rattle.production_table.specs.Numbers.{guard, is_full, number_of, or_nothing
 use Rattle.fractions.specs.Signs.{is_negative}
 use Rattle.production_table.specs.Tables.{IsSoundTable, is_label}
 use Rattle.production_table.proofs.Found.{no_price, place_is, price_is, some_row}
-use Rattle.table_words.specs.declared.refusals.TableRefusal.{TableRefusal}
-use Rattle.table_words.specs.declared.refusals.TableRefusal.TheVariants.{NoName}
+use Rattle.table_rows.specs.declared.refusals.TableRefusal.{TableRefusal}
+use Rattle.table_rows.specs.declared.refusals.TableRefusal.TheVariants.{NoName}
 use Rattle.planner_tables.specs.declared.splices.Splice.{Splice}
 use Rattle.planner_tables.specs.declared.splices.Splice.TheVariants.{Remove, Insert}
 use Rattle.planner_tables.specs.declared.undos.Numbers.TheVariants.{Wants, Imports, Surpluses}

@@ -4,8 +4,8 @@ use Rattle.plan_base.specs.declared.denied.Denied.{Denied}
 use Rattle.plan_base.specs.declared.denied.Denied.TheVariants.{Refused, NoMemory}
 use Rattle.production_table.specs.declared.faults.TableFault.{TableFault}
 use Rattle.production_table.specs.declared.faults.TableFault.TheVariants as of_table
-use Rattle.table_words.specs.declared.refusals.TableRefusal.{TableRefusal}
-use Rattle.table_words.specs.declared.refusals.TableRefusal.TheVariants.{Negative, Full, NameUsed, Setup, Wide}
+use Rattle.table_rows.specs.declared.refusals.TableRefusal.{TableRefusal}
+use Rattle.table_rows.specs.declared.refusals.TableRefusal.TheVariants.{Negative, Full, NameUsed, Setup, Wide}
 
 -- what a table doesn't know is told: a row's name, or a good that has no price
 abbrev pub cause : TableRefusal → TableFault → TableRefusal

@@ -14,9 +14,9 @@ use Rattle.production_table.specs.declared.tables.Table.{Table}
 use Rattle.production_table.specs.Changes.{empty_table, with_balance, with_import, with_price, with_row, with_surplus, with_want, without_row}
 use Rattle.production_table.specs.Tables.{IsSoundTable}
 use Rattle.table_rows.specs.Setups.{IsFitting}
-use Rattle.table_words.specs.declared.refusals.TableRefusal.{TableRefusal}
-use Rattle.table_words.specs.declared.refusals.TableRefusal.TheVariants.{NoName, NoPrice, NameUsed, Full}
-use Rattle.table_words.specs.Names.{good_named, setup_named}
+use Rattle.table_rows.specs.declared.refusals.TableRefusal.{TableRefusal}
+use Rattle.table_rows.specs.declared.refusals.TableRefusal.TheVariants.{NoName, NoPrice, NameUsed, Full}
+use Rattle.table_rows.specs.Names.{good_named, setup_named}
 use Rattle.planner_tables.specs.Causes.{cause}
 
 -- ---- tables by their names

@@ -21,11 +21,11 @@ use Rattle.production_table.specs.Tables.{is_label, labels_of}
 use Rattle.plan_lines.specs.declared.reply.Figures.{Figures}
 use Rattle.plan_lines.specs.declared.reply.Reply.{Reply}
 use Rattle.plan_lines.specs.declared.reply.Reply.TheVariants as reply
-use Rattle.table_words.specs.declared.refusals.TableRefusal.{TableRefusal}
-use Rattle.table_words.specs.declared.refusals.TableRefusal.TheVariants.{NoName, Wide as WideRow}
+use Rattle.table_rows.specs.declared.refusals.TableRefusal.{TableRefusal}
+use Rattle.table_rows.specs.declared.refusals.TableRefusal.TheVariants.{NoName, Wide as WideRow}
 use Rattle.planner_tables.specs.Effects.{named, table_at, table_named}
 use Rattle.planner_tables.specs.Figures.{answer_figures, known_answer_figures, nothing, summed}
-use Rattle.table_words.specs.Refusals.{refused}
+use Rattle.table_rows.specs.Refusals.{refused}
 use Rattle.planner_tables.specs.Causes.{caused}
 
 abbrev pub answered : Game → Result Reply TableRefusal → Reply

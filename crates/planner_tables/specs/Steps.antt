@@ -8,14 +8,14 @@ use Rattle.plan_lines.specs.declared.change.Change.{Change}
 use Rattle.plan_lines.specs.declared.change.Change.TheVariants as change
 use Rattle.production_table.specs.declared.tables.Table.{Table}
 use Rattle.production_table.specs.Changes.{with_balance, with_import, with_price, with_row, with_surplus, with_want, without_row}
-use Rattle.table_words.specs.declared.refusals.TableRefusal.{TableRefusal}
-use Rattle.table_words.specs.declared.refusals.TableRefusal.TheVariants.{NoName, NoPrice}
+use Rattle.table_rows.specs.declared.refusals.TableRefusal.{TableRefusal}
+use Rattle.table_rows.specs.declared.refusals.TableRefusal.TheVariants.{NoName, NoPrice}
 use Rattle.planner_tables.specs.declared.steps.Step.{Step}
 use Rattle.planner_tables.specs.declared.steps.Step.TheVariants as step
 use Rattle.planner_tables.specs.declared.undos.TablePart.{TablePart}
 use Rattle.planner_tables.specs.declared.undos.TableUndo.{TableUndo}
 use Rattle.planner_tables.specs.Effects.{AreSoundTables, IsSoundOn, table_after}
-use Rattle.table_words.specs.Names.{good_named, setup_named}
+use Rattle.table_rows.specs.Names.{good_named, setup_named}
 use Rattle.planner_tables.specs.Undoing.{part_restored, tables_restored}
 
 -- the table that is meant, of the same name and sound, and the part that leads back

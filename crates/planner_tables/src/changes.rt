@@ -17,7 +17,7 @@ use plan_base::{Denied, Text};
 use plan_lines::Change;
 use production_table::Table;
 use std::alloc::Global;
-use table_words::{good_named, setup_named};
+use table_rows::{good_named, setup_named};
 
 // The place of the first table of a name.
 fn find_table(tables: &[Table], name: &str) -> Option<usize>

@@ -1,6 +1,6 @@
 //! Why a table isn't changed, as a planner tells it: with the name that nothing has.
 ghost use Rattle.std.specs.Prelude.{◌≡◌};
-ghost use Rattle.table_words.specs.declared.refusals.TableRefusal.{TableRefusal as RefusalOf};
+ghost use Rattle.table_rows.specs.declared.refusals.TableRefusal.{TableRefusal as RefusalOf};
 ghost use Rattle.planner_tables.specs.Causes.{cause, denied_as};
 
 use crate::TableRefusal;

@@ -15,5 +15,5 @@ pub use changes::change_tables;
 pub use questions::{linear_named, solve_reply};
 pub use rates::rate_reply;
 pub use splices::Splice;
-pub use table_words::{TableRefusal, code_of, detail_of, good_named, refused, setup_named};
+pub use table_rows::{TableRefusal, code_of, detail_of, good_named, refused, setup_named};
 pub use undos::{Numbers, TablePart, TableUndo, exchange_tables};

@@ -26,7 +26,7 @@ use Rattle.state_changes.specs.declared.refusals.Refusal.{Refusal}
 use Rattle.state_changes.specs.declared.undos.Undo.{Undo}
 use Rattle.state_changes.specs.declared.undos.Undo.TheVariants.{Part, OfTables, Added, Taken}
 use Rattle.production_table.specs.declared.tables.Table.{Table as ProductionTable}
-use Rattle.table_words.specs.declared.refusals.TableRefusal.{TableRefusal}
+use Rattle.table_rows.specs.declared.refusals.TableRefusal.{TableRefusal}
 use Rattle.planner_tables.specs.Effects.{AreSoundTables, is_of_tables, tables_effect}
 use Rattle.state_changes.specs.Actions.{◌▸◌, can_be_held, edit_named, edit_and, edits_named}
 use Rattle.state_changes.specs.States.{State, state_of}

@@ -22,7 +22,7 @@ use Rattle.edit_undo.specs.Edits.{apply_from}
 use Rattle.plan_lines.specs.declared.change.Change.{Change}
 use Rattle.plan_lines.specs.declared.change.Change.TheVariants.{Grant, Revoke, Forbid, Permit, Milestone, Unmilestone, Ingredient, Product, Unlock, Time, Enabled, Table, Untable, Row as RowLine, Unrow, Price, Want, Import, Surplus, Power}
 use Rattle.production_table.specs.declared.tables.Table.{Table as ProductionTable}
-use Rattle.table_words.specs.declared.refusals.TableRefusal.{TableRefusal}
+use Rattle.table_rows.specs.declared.refusals.TableRefusal.{TableRefusal}
 use Rattle.planner_tables.specs.Effects.{is_of_tables, tables_effect}
 use Rattle.state_changes.specs.declared.refusals.Refusal.{Refusal}
 use Rattle.state_changes.specs.Actions.{can_be_held, edit_and, edits_named}

@@ -25,7 +25,7 @@ use Rattle.plan_lines.specs.declared.reply.RefusalCode.{RefusalCode}
 use Rattle.plan_lines.specs.declared.reply.Reply.{Reply}
 use Rattle.planner_tables.specs.Effects.{named, table_at, table_named}
 use Rattle.planner_tables.specs.Questions.{IsSolveReply, IsSolveReplyAt, IsSolved, IsSolvedWhere, answered, linear_named, linear_outcome, rate_outcome, rate_reply, rates_outcome, row_rates_outcome, solved}
-use Rattle.table_words.specs.declared.refusals.TableRefusal.{TableRefusal}
+use Rattle.table_rows.specs.declared.refusals.TableRefusal.{TableRefusal}
 use Rattle.state_changes.specs.Actions.{can_be_held, node_named}
 use Rattle.state_changes.specs.Effects.{effect_of}
 use Rattle.state_changes.specs.States.{State}

@@ -11,10 +11,10 @@ use Rattle.production_table.specs.declared.faults.TableFault.{TableFault}
 use Rattle.production_table.specs.Linear.{linear_of}
 use Rattle.plan_lines.specs.declared.command.Command.TheVariants as command
 use Rattle.plan_lines.specs.declared.reply.Reply.{Reply}
-use Rattle.table_words.specs.declared.refusals.TableRefusal.{TableRefusal}
+use Rattle.table_rows.specs.declared.refusals.TableRefusal.{TableRefusal}
 use Rattle.planner_tables.specs.Effects.{table_at, table_named}
 use Rattle.planner_tables.specs.Questions.{linear_outcome, IsSolveReply, IsSolveReplyAt, IsSolvedWhere}
-use Rattle.table_words.specs.Refusals.{refused}
+use Rattle.table_rows.specs.Refusals.{refused}
 use Rattle.planner_tables.specs.Causes.{caused}
 use Rattle.state_changes.specs.States.{State}
 use Rattle.planner_core.specs.Lines.{Held, IsStep, IsStepIn, Planned as AnyPlanned, is_refused}

@@ -28,7 +28,7 @@ use Rattle.plan_lines.specs.declared.change.Change.{Change}
 use Rattle.plan_lines.specs.declared.change.Change.TheVariants.{Grant, Revoke, Forbid, Permit, Milestone, Unmilestone, Ingredient, Product, Unlock, Time, Enabled, Table, Untable, Row, Unrow, Price, Want, Import, Surplus, Power}
 use Rattle.production_table.specs.declared.tables.Table.{Table as ProductionTable}
 use Rattle.production_table.specs.Tables.{IsOfGame}
-use Rattle.table_words.specs.declared.refusals.TableRefusal.{TableRefusal}
+use Rattle.table_rows.specs.declared.refusals.TableRefusal.{TableRefusal}
 use Rattle.planner_tables.specs.declared.undos.TableUndo.{TableUndo}
 use Rattle.planner_tables.specs.Effects.{AreSoundTables, IsSoundOn, is_of_tables, tables_effect}
 use Rattle.planner_tables.specs.Undoing.{tables_restored}

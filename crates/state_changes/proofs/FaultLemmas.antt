@@ -5,7 +5,7 @@ use Rattle.plan_base.specs.Outcomes.{IsRefused}
 use Rattle.plan_base.specs.declared.denied.Denied.{Denied}
 use Rattle.data_edit.specs.declared.edits.EditFault.{EditFault}
 use Rattle.edit_undo.specs.Edits.{IsFaultOf}
-use Rattle.table_words.specs.declared.refusals.TableRefusal.{TableRefusal}
+use Rattle.table_rows.specs.declared.refusals.TableRefusal.{TableRefusal}
 use Rattle.state_changes.specs.declared.refusals.Refusal.{Refusal}
 use Rattle.state_changes.specs.declared.refusals.Refusal.TheVariants.{OfEdit, OfTables}
 use Rattle.state_changes.specs.Faults.{edit_fault, entry_fault, tables_fault}

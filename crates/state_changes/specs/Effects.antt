@@ -10,7 +10,7 @@ use Rattle.plan_lines.specs.declared.change.Change.{Change}
 use Rattle.plan_lines.specs.declared.change.Change.TheVariants.{Milestone, Unmilestone}
 use Rattle.milestone_masks.specs.declared.worlds.MilestoneFault.TheVariants.{Full, Already, NotOne}
 use Rattle.production_table.specs.declared.tables.Table.{Table}
-use Rattle.table_words.specs.declared.refusals.TableRefusal.{TableRefusal}
+use Rattle.table_rows.specs.declared.refusals.TableRefusal.{TableRefusal}
 use Rattle.planner_tables.specs.Effects.{is_of_tables, tables_effect}
 use Rattle.state_changes.specs.declared.refusals.Refusal.{Refusal}
 use Rattle.state_changes.specs.declared.refusals.Refusal.TheVariants.{OfEdit, OfMilestone, OfTables}

@@ -7,7 +7,7 @@ use Rattle.milestone_masks.specs.declared.worlds.MilestoneFault.{MilestoneFault}
 use Rattle.milestone_masks.specs.declared.worlds.MilestoneFault.TheVariants as of_milestone
 use Rattle.edit_undo.specs.declared.editable.EntryFault.{EntryFault}
 use Rattle.edit_undo.specs.declared.editable.EntryFault.TheVariants as entry
-use Rattle.table_words.specs.declared.refusals.TableRefusal.{TableRefusal}
+use Rattle.table_rows.specs.declared.refusals.TableRefusal.{TableRefusal}
 use Rattle.state_changes.specs.declared.refusals.Refusal.{Refusal}
 use Rattle.state_changes.specs.declared.refusals.Refusal.TheVariants.{OfEdit, OfMilestone, OfTables}
 

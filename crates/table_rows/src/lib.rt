@@ -6,11 +6,17 @@ mod columns;
 mod contributions;
 mod faults;
 mod given_taken;
+mod named_setups;
+mod names;
 mod rates;
+mod refusals;
 mod setups;
 
 pub use columns::{has_at, place_in};
 pub use contributions::{RowColumn, column_of, row_of};
 pub use faults::{RowFault, SetupFault};
+pub use named_setups::setup_named;
+pub use names::good_named;
 pub use rates::{RowRates, rates_of_row, row_rates};
+pub use refusals::{TableRefusal, code_of, detail_of, refused};
 pub use setups::check_setup;

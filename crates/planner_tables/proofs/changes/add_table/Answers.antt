@@ -2,7 +2,7 @@ use Rattle.std.proofs.Common.{◌≡◌, ◌∙◌, List, ◌++◌, ◌∷◌, [
 use Rattle.std.specs.List.{list_any}
 use Rattle.production_table.specs.declared.tables.Table.{Table}
 use Rattle.production_table.specs.Changes.{empty_table}
-use Rattle.table_words.specs.declared.refusals.TableRefusal.TheVariants.{Full, NameUsed}
+use Rattle.table_rows.specs.declared.refusals.TableRefusal.TheVariants.{Full, NameUsed}
 use Rattle.planner_tables.specs.Effects.{is_name}
 use Rattle.plan_base.proofs.Outcomes.{refused_same}
 use Rattle.planner_tables.proofs.ChangeLemmas.{table_made, table_used, tables_full}

@@ -1,4 +1,4 @@
-use Rattle.table_words.specs.declared.refusals.TableRefusal.TheVariants.{NoName}
+use Rattle.table_rows.specs.declared.refusals.TableRefusal.TheVariants.{NoName}
 use Rattle.planner_tables.proofs.faults.row_refusal.Goals as goal
 
 pub returns-in_default : goal.returns-in_default

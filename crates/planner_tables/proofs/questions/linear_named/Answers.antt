@@ -3,7 +3,7 @@ use Rattle.linear_table.specs.declared.Linear.{Linear}
 use Rattle.game_types.proofs.Walks.{returned}
 use Rattle.plan_base.specs.declared.denied.Denied.{Denied}
 use Rattle.plan_base.specs.Outcomes.{Gives}
-use Rattle.table_words.specs.declared.refusals.TableRefusal.{TableRefusal}
+use Rattle.table_rows.specs.declared.refusals.TableRefusal.{TableRefusal}
 use Rattle.planner_tables.specs.Questions.{linear_named}
 use Rattle.planner_tables.proofs.ChangeLemmas.{table_read}
 use Rattle.planner_tables.proofs.QuestionLemmas.{linear_asked, linear_refused}

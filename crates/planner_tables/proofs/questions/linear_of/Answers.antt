@@ -1,5 +1,5 @@
 use Rattle.production_table.specs.Linear.{linear_of}
-use Rattle.table_words.specs.declared.refusals.TableRefusal.TheVariants.{NoName}
+use Rattle.table_rows.specs.declared.refusals.TableRefusal.TheVariants.{NoName}
 use Rattle.planner_tables.proofs.QuestionLemmas.{caused_as}
 use Rattle.planner_tables.proofs.questions.linear_of.Goals as goal
 

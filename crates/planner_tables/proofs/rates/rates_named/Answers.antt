@@ -1,7 +1,7 @@
 use Rattle.std.proofs.Common.{◌∙◌, Result, sym, subst}
 use Rattle.plan_base.specs.Outcomes.{Gives}
 use Rattle.plan_lines.specs.declared.reply.Reply.{Reply}
-use Rattle.table_words.specs.declared.refusals.TableRefusal.{TableRefusal}
+use Rattle.table_rows.specs.declared.refusals.TableRefusal.{TableRefusal}
 use Rattle.planner_tables.proofs.ChangeLemmas.{table_read}
 use Rattle.planner_tables.proofs.QuestionLemmas.{rate_at}
 use Rattle.planner_tables.proofs.rates.rates_named.Goals as goal

@@ -1,7 +1,7 @@
 use Rattle.std.proofs.Common.{◌≡◌, ℕ, List, Ok, subst}
 use Rattle.plan_base.specs.Outcomes.{IsRefused}
 use Rattle.production_table.specs.Changes.{with_row}
-use Rattle.table_words.specs.declared.refusals.TableRefusal.TheVariants.{NoName}
+use Rattle.table_rows.specs.declared.refusals.TableRefusal.TheVariants.{NoName}
 use Rattle.planner_tables.proofs.StepLemmas.{refused_as, row_made}
 use Rattle.planner_tables.proofs.steps.add_row.Goals as goal
 

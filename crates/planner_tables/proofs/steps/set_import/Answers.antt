@@ -1,5 +1,5 @@
 use Rattle.production_table.specs.Changes.{with_import}
-use Rattle.table_words.specs.declared.refusals.TableRefusal.TheVariants.{NoPrice}
+use Rattle.table_rows.specs.declared.refusals.TableRefusal.TheVariants.{NoPrice}
 use Rattle.planner_tables.proofs.StepLemmas.{import_made, refused_as}
 use Rattle.planner_tables.proofs.steps.set_import.Goals as goal
 

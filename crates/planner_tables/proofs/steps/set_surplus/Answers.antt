@@ -1,5 +1,5 @@
 use Rattle.production_table.specs.Changes.{with_surplus}
-use Rattle.table_words.specs.declared.refusals.TableRefusal.TheVariants.{NoPrice}
+use Rattle.table_rows.specs.declared.refusals.TableRefusal.TheVariants.{NoPrice}
 use Rattle.planner_tables.proofs.StepLemmas.{refused_as, surplus_made}
 use Rattle.planner_tables.proofs.steps.set_surplus.Goals as goal
 

@@ -5,8 +5,8 @@ ghost use Rattle.plan_base.specs.Outcomes.{Gives};
 ghost use Rattle.plan_base.specs.Shape.{count_of};
 ghost use Rattle.game_types.specs.Nodes.{shape_of};
 ghost use Rattle.game_types.specs.Sound.{IsSound, IsSoundSetup};
-ghost use Rattle.table_words.specs.declared.refusals.TableRefusal.{TableRefusal};
-ghost use Rattle.table_words.specs.Names.{activity_at, activity_named, bare_setup, beacon_named, fluid_named, in_last, is_boiler, item_named, machine_named, module_named, setup_named, with_part, with_parts};
+ghost use Rattle.table_rows.specs.declared.refusals.TableRefusal.{TableRefusal};
+ghost use Rattle.table_rows.specs.Names.{activity_at, activity_named, bare_setup, beacon_named, fluid_named, in_last, is_boiler, item_named, machine_named, module_named, setup_named, with_part, with_parts};
 
 use crate::TableRefusal;
 use crate::names::{

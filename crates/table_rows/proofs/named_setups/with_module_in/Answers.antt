@@ -1,8 +1,8 @@
 use Rattle.std.proofs.Common.{List, sym, subst}
 use Rattle.game_types.specs.declared.setups.BeaconGroup.{BeaconGroup}
 use Rattle.game_types.specs.Sound.{IsSoundSetup}
-use Rattle.table_words.proofs.NameLemmas.{in_added}
-use Rattle.table_words.proofs.setups.with_module_in.Goals as goal
+use Rattle.table_rows.proofs.NameLemmas.{in_added}
+use Rattle.table_rows.proofs.named_setups.with_module_in.Goals as goal
 
 pub returns-clause-sound : goal.returns-clause-sound
 returns-clause-sound c =

@@ -18,8 +18,8 @@ use Rattle.game_types.specs.Sound.{IsBeacon, IsBeaconKind, IsFluid, IsModule, Is
 use Rattle.game_types.specs.Steps.{◌▸◌}
 use Rattle.game_types.proofs.Walks.{next as next_of, drop_all}
 use Rattle.plan_lines.specs.declared.change.RowPart.{RowPart}
-use Rattle.table_words.specs.declared.refusals.TableRefusal.{TableRefusal}
-use Rattle.table_words.specs.Names.{group_of, in_last, is_beacon, with_part, with_parts}
+use Rattle.table_rows.specs.declared.refusals.TableRefusal.{TableRefusal}
+use Rattle.table_rows.specs.Names.{group_of, in_last, is_beacon, with_part, with_parts}
 
 -- ---- modules and beacons
 module_there : (g : Game) (good : GoodId) → good.0 < length g.items → is_some (item_at g good).«module» ≡ true → IsModule g good

@@ -20,8 +20,8 @@ use Rattle.game_types.specs.Steps.{◌▸◌}
 use Rattle.plan_lines.specs.declared.change.Object.{Object}
 use Rattle.plan_lines.specs.declared.change.RowPart.{RowPart}
 use Rattle.plan_lines.specs.declared.change.RowPart.TheVariants as part
-use Rattle.table_words.specs.declared.refusals.TableRefusal.{TableRefusal}
-use Rattle.table_words.specs.declared.refusals.TableRefusal.TheVariants.{Unknown}
+use Rattle.table_rows.specs.declared.refusals.TableRefusal.{TableRefusal}
+use Rattle.table_rows.specs.declared.refusals.TableRefusal.TheVariants.{Unknown}
 
 -- ---- one word
 -- what a word names, or that it names nothing

@@ -1,7 +1,7 @@
 use Rattle.std.proofs.Common.{◌≡◌, drop}
 use Rattle.game_types.specs.Sound.{IsSoundSetup}
-use Rattle.table_words.specs.Names.{with_parts}
-use Rattle.table_words.proofs.setups.with_parts.Given as goal
+use Rattle.table_rows.specs.Names.{with_parts}
+use Rattle.table_rows.proofs.named_setups.with_parts.Given as goal
 
 abbrev pub invariant-loop-part : goal.invariant-loop-part
 invariant-loop-part l = record {

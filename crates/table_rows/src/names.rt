@@ -7,8 +7,8 @@ ghost use Rattle.std.specs.Bool.{OnTrue};
 ghost use Rattle.game_types.specs.Lookups.{item_at};
 ghost use Rattle.game_types.specs.Nodes.{shape_of};
 ghost use Rattle.game_types.specs.Sound.{IsBeacon, IsFluid, IsModule, IsSound, IsSoundActivity};
-ghost use Rattle.table_words.specs.declared.refusals.TableRefusal.{TableRefusal};
-ghost use Rattle.table_words.specs.Names.{activity_at, activity_named, beacon_named, fluid_activity, fluid_named, good_at, good_named, is_activity, is_beacon, is_boiler, item_named, machine_named, module_named, place_named};
+ghost use Rattle.table_rows.specs.declared.refusals.TableRefusal.{TableRefusal};
+ghost use Rattle.table_rows.specs.Names.{activity_at, activity_named, beacon_named, fluid_activity, fluid_named, good_at, good_named, is_activity, is_beacon, is_boiler, item_named, machine_named, module_named, place_named};
 
 use crate::TableRefusal;
 use game_types::{Activity, Game, MachineKind};

@@ -25,8 +25,8 @@ use Rattle.plan_lines.specs.declared.reply.RefusalCode.{RefusalCode}
 use Rattle.plan_lines.specs.declared.reply.RefusalCode.TheVariants as code
 use Rattle.plan_lines.specs.declared.reply.Reply.{Reply}
 use Rattle.plan_lines.specs.declared.reply.Reply.TheVariants as reply
-use Rattle.table_words.specs.declared.refusals.TableRefusal.{TableRefusal}
-use Rattle.table_words.specs.declared.refusals.TableRefusal.TheVariants.{Unknown, NoName, NoPrice, Negative, Full, NameUsed, Setup, Wide}
+use Rattle.table_rows.specs.declared.refusals.TableRefusal.{TableRefusal}
+use Rattle.table_rows.specs.declared.refusals.TableRefusal.TheVariants.{Unknown, NoName, NoPrice, Negative, Full, NameUsed, Setup, Wide}
 
 -- ---- codes
 abbrev pub machine_code : MachineFault → RefusalCode
