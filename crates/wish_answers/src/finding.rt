@@ -11,7 +11,7 @@ use plan_base::NoMemory;
 use plan_report::printed_word;
 use production_table::Table;
 use std::alloc::Global;
-use wish_lines::{Notes, more_text, table_text};
+use wish_checks::{Notes, more_text, table_text};
 use wish_setups::{Met, Wish, WishFault};
 use wish_tables::{more_rows, wish_table};
 use wish_words::{AskedMore, NameFault, WishRequest, say_name_fault, say_wish_fault, wish_of};

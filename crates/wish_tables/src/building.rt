@@ -13,7 +13,7 @@ use plan_base::{GoodId, NoMemory};
 use production_table::{LIMIT, Table};
 use std::alloc::Global;
 use wish_estimates::{Found, Ground, Walk};
-use wish_lines::push_label;
+use wish_checks::push_label;
 use wish_setups::{WishFault, is_fitting};
 
 /// What goes out or comes in beside what the rows call for, and how many watts are wanted beside the wish.

@@ -4,7 +4,7 @@ ghost use Rattle.game_types.specs.Sound.{IsSound};
 use game_types::Game;
 use plan_base::{Kind, NoMemory, Text};
 use std::alloc::Global;
-use wish_lines::names_of;
+use wish_checks::names_of;
 use line_causes::nearest;
 
 /// A name that is like a word, with its kind, and how many edits lead from the word to it.

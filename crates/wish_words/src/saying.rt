@@ -10,7 +10,7 @@ use plan_report::{object_word, printed_word};
 use script_reader::Place;
 use std::alloc::Global;
 use wish_estimates::{all_variants, given_variants};
-use wish_lines::{good_text, like_names, machine_text, recipe_text};
+use wish_checks::{good_text, like_names, machine_text, recipe_text};
 use wish_setups::{Reason, Unmade, WishFault};
 
 // What is written to a text in memory, or that none could be had.
