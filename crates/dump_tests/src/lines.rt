@@ -2,7 +2,7 @@
 use line_causes::{Cause, Short, Slot};
 use plan_base::{Kind, NoMemory, Text};
 use plan_lines::RefusalCode;
-use run_hints::{empty_hint, more_hint, refused_hint, short_hint};
+use program_runs::{empty_hint, more_hint, refused_hint, short_hint};
 use script_reader::CommandWord;
 use std::alloc::Global;
 use std::test::Fail;

@@ -1,5 +1,5 @@
 //! Lines and columns.
-use run_hints::place_in;
+use program_runs::place_in;
 use std::test::Fail;
 
 // Whether the line, the column and the end are so behind so many bytes of a text.

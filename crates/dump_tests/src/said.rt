@@ -3,7 +3,7 @@ use certificate_file::CertFault;
 use craft_reader::{DumpCode, DumpFault};
 use json_text::{JsonCode, JsonFault};
 use plan_base::{NoMemory, Text};
-use run_hints::{dump_name, hint, script_name, unread_hint};
+use program_runs::{dump_name, hint, script_name, unread_hint};
 use run_inputs::{Long, Status};
 use std::alloc::Global;
 use std::test::Fail;

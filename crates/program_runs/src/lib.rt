@@ -2,9 +2,15 @@
 #![tactic(auto)]
 
 mod ends;
+mod faults;
 mod files;
+mod hints;
+mod laws;
 mod lending;
+mod line_hints;
 mod lines;
+mod names;
+mod place;
 mod sink;
 mod store;
 mod telling;
@@ -19,8 +25,13 @@ pub const NO_SCRIPT: &str = "/dev/null";
 
 pub use ends::{End, Names, RunEnd, end_by, end_of_run, ended, written};
 pub use files::whole_file;
+pub use hints::{hint, unread_hint};
+pub use laws::{hints_are_lines, names_are_of_the_run};
 pub use lending::{Work, with_loaded};
+pub use line_hints::{empty_hint, more_hint, refused_hint, short_hint};
 pub use lines::{LINES, answered, carry_line, close_batch};
+pub use names::{dump_name, script_name};
+pub use place::{Place, place_in};
 pub use sink::WatchedSink;
 pub use store::WatchedStore;
 pub use telling::{said_of, said_of_store};

@@ -7,7 +7,7 @@ use script_runner::Listener;
 use plan_base::{NoMemory, Text};
 use plan_lines::Reply;
 use planner_core::Planner;
-use run_hints::{dump_name, empty_hint, script_name};
+use program_runs::{dump_name, empty_hint, script_name};
 use plan_io::Line;
 use std::alloc::Global;
 

@@ -7,7 +7,7 @@ use plan_base::{NoMemory, Text};
 use plan_lines::{Detail, RefusalCode, Reply};
 use planner_core::Planner;
 use planner_tables::linear_named;
-use run_hints::{refused_hint, short_hint};
+use program_runs::{refused_hint, short_hint};
 use plan_io::{Lines, has_many_lines};
 use std::alloc::Global;
 

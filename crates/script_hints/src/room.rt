@@ -1,6 +1,6 @@
 //! What is said of the lines of a script, of which there is room for a few.
 use plan_base::{NoMemory, Text};
-use run_hints::more_hint;
+use program_runs::more_hint;
 use std::alloc::Global;
 
 // The most lines that something is said of.

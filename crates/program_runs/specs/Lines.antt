@@ -2,7 +2,7 @@
 use Rattle.std.specs.Prelude.{ℕ, List, [], ◌++◌, Option, None, Some, codes, decimal}
 use Rattle.plan_report.specs.Words.{printed_word}
 use Rattle.line_causes.specs.Causes.{cause_text}
-use Rattle.run_hints.specs.Hints.{hint_line}
+use Rattle.program_runs.specs.Hints.{hint_line}
 use Rattle.line_causes.specs.declared.causes.Cause.{Cause}
 use Rattle.line_causes.specs.declared.causes.Short.{Short}
 use Rattle.line_causes.specs.declared.causes.Short.TheVariants as short

@@ -7,8 +7,8 @@ use Rattle.std.proofs.lemmas.Iterator.Search.{YieldsList-from_take_while}
 use Rattle.std.proofs.lemmas.List.Folds.{length-prefix_len}
 use Rattle.std.proofs.lemmas.List.Sums.{suffix_len-le-length}
 use Rattle.std.proofs.lemmas.List.{length-drop}
-use Rattle.run_hints.specs.Places.{is_newline}
-use Rattle.run_hints.proofs.place.behind_newline.Goals as goal
+use Rattle.program_runs.specs.Places.{is_newline}
+use Rattle.program_runs.proofs.place.behind_newline.Goals as goal
 
 -- as many stand behind the last that passes as don't pass from the end back
 behind : (p : ℕ → Bool) (bytes : List ℕ) → suffix_len (λ x. not (p x)) bytes ≡ length (after_last p bytes)

@@ -1,7 +1,7 @@
 // The names of the files of a run, among its words.
 ghost use Rattle.std.specs.Prelude.{◌≡◌, option_map, position};
 ghost use Rattle.std.specs.List.{slice_get};
-ghost use Rattle.run_hints.specs.Names.{dump_name, is_dashes, script_name, without_dashes, word_at};
+ghost use Rattle.program_runs.specs.Names.{dump_name, is_dashes, script_name, without_dashes, word_at};
 
 use plan_base::Text;
 

@@ -1,6 +1,6 @@
 // The line that is said of a run.
 ghost use Rattle.std.specs.Prelude.{◌≡◌, IfOk, None, Some, codes, option_copied, option_map, string_bytes};
-ghost use Rattle.run_hints.specs.Hints.{cert_text, hint_line, hint_of, long_hint, name_part};
+ghost use Rattle.program_runs.specs.Hints.{cert_text, hint_line, hint_of, long_hint, name_part};
 
 use crate::faults::fault_text;
 use crate::names::{dump_name, script_name};

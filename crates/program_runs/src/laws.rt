@@ -2,8 +2,8 @@
 ghost use Rattle.std.specs.Prelude.{◌≡◌, ◌⊎◌, ℕ, List, [], Option, Some, true};
 ghost use Rattle.run_inputs.specs.Words.{ThreeWords, three_of};
 ghost use Rattle.run_inputs.specs.declared.status.Status.{Status};
-ghost use Rattle.run_hints.specs.Hints.{IsLine, hint_line, hint_of, is_unbroken};
-ghost use Rattle.run_hints.specs.Names.{dump_name, script_name};
+ghost use Rattle.program_runs.specs.Hints.{IsLine, hint_line, hint_of, is_unbroken};
+ghost use Rattle.program_runs.specs.Names.{dump_name, script_name};
 
 /// The names of the dump and the script are the second and the third of the three words that a run takes.
 pub fn names_are_of_the_run()

@@ -5,7 +5,7 @@ use Rattle.std.specs.Str.{bytes_eq}
 use Rattle.run_inputs.specs.Words.{ThreeWords, is_option, plain_words, three_in, three_of}
 use Rattle.std.specs.List.{position_or_len, slice_get}
 use Rattle.std.proofs.lemmas.Option.{same_Some, none-some}
-use Rattle.run_hints.specs.Names.{dump_name, is_dashes, script_name, without_dashes}
+use Rattle.program_runs.specs.Names.{dump_name, is_dashes, script_name, without_dashes}
 
 one_more : (n : ℕ) → 1 + n ≡ suc n
 one_more n = omega arith

@@ -1,7 +1,7 @@
 // Lines and columns.
 ghost use Rattle.std.specs.Prelude.{◌≡◌, ◌^◌, ◌<◌, ◌≤◌, length};
 ghost use Rattle.std.specs.List.{after_last, count_by};
-ghost use Rattle.run_hints.specs.Places.{is_newline, place_at};
+ghost use Rattle.program_runs.specs.Places.{is_newline, place_at};
 
 /// Where a byte of a text stands. Lines and columns count from 1, and a column counts bytes.
 #[derive(Clone, Copy, Debug, PartialEq, Eq)]

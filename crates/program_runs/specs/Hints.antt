@@ -8,9 +8,9 @@ use Rattle.run_inputs.specs.declared.status.Long.{Long}
 use Rattle.run_inputs.specs.declared.status.Long.TheVariants.{DumpBytes, ScriptBytes, ScriptLines, CertBytes}
 use Rattle.run_inputs.specs.declared.status.Status.{Status}
 use Rattle.run_inputs.specs.declared.status.Status.TheVariants.{Done, SomeRefused, BadWords, BadDump, ReadFault, WriteFault, NoMemory, TooLong, BadCert}
-use Rattle.run_hints.specs.Faults.{fault_text}
-use Rattle.run_hints.specs.Names.{dump_name, script_name}
-use Rattle.run_hints.specs.Places.{is_newline}
+use Rattle.program_runs.specs.Faults.{fault_text}
+use Rattle.program_runs.specs.Names.{dump_name, script_name}
+use Rattle.program_runs.specs.Places.{is_newline}
 
 -- no newline is among the bytes
 abbrev pub is_unbroken : List ℕ → Bool

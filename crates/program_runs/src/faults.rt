@@ -1,6 +1,6 @@
 // What is said of a dump that is refused.
 ghost use Rattle.std.specs.Prelude.{◌≡◌, IfOk, option_copied, option_map, string_bytes};
-ghost use Rattle.run_hints.specs.Faults.{fault_text, front_text, is_byte, is_gzip, is_marked, field_text, field_words, json_text, json_text_at, json_words, kind_text, known_place, part, words_at};
+ghost use Rattle.program_runs.specs.Faults.{fault_text, front_text, is_byte, is_gzip, is_marked, field_text, field_words, json_text, json_text_at, json_words, kind_text, known_place, part, words_at};
 
 use crate::place::{Place, place_in};
 use craft_reader::{DumpCode, DumpFault};

@@ -1,7 +1,7 @@
 -- Where a byte of a text stands: its line and its column.
 use Rattle.std.specs.Prelude.{ℕ, ◌+◌, Bool, ◌==◌, nat_le, List, length, take}
 use Rattle.std.specs.List.{after_last, count_by}
-use Rattle.run_hints.specs.declared.place.Place.{Place}
+use Rattle.program_runs.specs.declared.place.Place.{Place}
 
 -- the byte that ends a line
 abbrev pub is_newline : ℕ → Bool

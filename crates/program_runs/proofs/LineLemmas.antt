@@ -8,11 +8,11 @@ use Rattle.std.proofs.lemmas.List.Concat.{flat_map-cons}
 use Rattle.std.proofs.lemmas.Grind.{common_steps}
 use Rattle.std.proofs.lemmas.Bool.{and_parts}
 use Rattle.plan_report.specs.Words.{in_quotes, is_bare, needs_quotes, printed_word, quoted}
-use Rattle.run_hints.specs.Places.{is_newline}
-use Rattle.run_hints.specs.Hints.{IsLine, cert_text, hint_line, hint_of, is_unbroken, long_hint, name_part}
-use Rattle.run_hints.specs.Faults.{fault_text, field_text, field_words, front_text, is_gzip, is_marked, json_text_at, json_words, kind_text, known_place, or_else, part, text_by, words_at}
-use Rattle.run_hints.specs.Names.{dump_name, script_name}
-use Rattle.run_hints.specs.declared.place.Place.{Place}
+use Rattle.program_runs.specs.Places.{is_newline}
+use Rattle.program_runs.specs.Hints.{IsLine, cert_text, hint_line, hint_of, is_unbroken, long_hint, name_part}
+use Rattle.program_runs.specs.Faults.{fault_text, field_text, field_words, front_text, is_gzip, is_marked, json_text_at, json_words, kind_text, known_place, or_else, part, text_by, words_at}
+use Rattle.program_runs.specs.Names.{dump_name, script_name}
+use Rattle.program_runs.specs.declared.place.Place.{Place}
 use Rattle.json_text.specs.declared.fault.JsonCode.{JsonCode}
 use Rattle.json_text.specs.declared.fault.JsonCode.TheVariants as j
 use Rattle.json_text.specs.declared.fault.JsonFault.{JsonFault}

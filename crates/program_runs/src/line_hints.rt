@@ -1,7 +1,7 @@
 // What is said of the lines of a script: why one is refused, and why a table that it solves has no plan.
 ghost use Rattle.std.specs.Prelude.{◌≡◌, IfOk, codes, option_map, string_bytes};
-ghost use Rattle.run_hints.specs.Hints.{hint_line};
-ghost use Rattle.run_hints.specs.Lines.{empty_hint, like_text, more_hint, place_text, refused_hint, short_hint, short_text};
+ghost use Rattle.program_runs.specs.Hints.{hint_line};
+ghost use Rattle.program_runs.specs.Lines.{empty_hint, like_text, more_hint, place_text, refused_hint, short_hint, short_text};
 
 use crate::hints::hint_line;
 use line_causes::{Cause, Short, cause_text};

@@ -1,5 +1,5 @@
-use Rattle.run_hints.proofs.LineLemmas.{hint_is_line, is_line}
-use Rattle.run_hints.proofs.laws.hints_are_lines.Goals as goal
+use Rattle.program_runs.proofs.LineLemmas.{hint_is_line, is_line}
+use Rattle.program_runs.proofs.laws.hints_are_lines.Goals as goal
 
 pub returns-clause-hint : goal.returns-clause-hint
 returns-clause-hint c = hint_is_line

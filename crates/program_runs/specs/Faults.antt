@@ -8,8 +8,8 @@ use Rattle.craft_reader.specs.declared.fault.DumpCode.{DumpCode}
 use Rattle.craft_reader.specs.declared.fault.DumpCode.TheVariants as d
 use Rattle.craft_reader.specs.declared.fault.DumpFault.{DumpFault}
 use Rattle.plan_report.specs.Words.{printed_word}
-use Rattle.run_hints.specs.Places.{place_at}
-use Rattle.run_hints.specs.declared.place.Place.{Place}
+use Rattle.program_runs.specs.Places.{place_at}
+use Rattle.program_runs.specs.declared.place.Place.{Place}
 
 -- what is wrong with a text that is no JSON
 abbrev pub json_words : JsonCode → List ℕ

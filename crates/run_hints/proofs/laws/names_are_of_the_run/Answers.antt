@@ -1,5 +1,0 @@
-use Rattle.run_hints.proofs.NameLemmas.{names_are}
-use Rattle.run_hints.proofs.laws.names_are_of_the_run.Goals as goal
-
-pub returns : goal.returns
-returns c = names_are
