@@ -1,6 +1,9 @@
 //! Reads a dump and a script, and answers each line of the script. What went wrong is said in one line on standard error.
 #![tactic(auto)]
 
+mod hints;
+mod lines;
+mod room;
 mod telling;
 
 use crate::telling::said;
@@ -8,7 +11,7 @@ use plan_base::{NoMemory, Steps, Text};
 use plan_io::{HostSink, HostStore};
 use planner_cli::{RunOutcome, Status, run};
 use program_runs::{VERSION, Watch, WatchedSink, WatchedStore, program_words, said_of_store};
-use script_hints::LineHints;
+use crate::hints::LineHints;
 use std::alloc::Global;
 use std::io::IsTerminal;
 use std::process::ExitCode;
