@@ -5,9 +5,13 @@ mod asked;
 mod costs;
 mod estimates;
 mod fault;
+mod fields;
 mod json;
 mod lines;
+mod record_texts;
+mod records;
 mod running;
+mod setups;
 mod table;
 mod texts;
 

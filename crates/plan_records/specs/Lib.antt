@@ -1,4 +1,0 @@
-pub mod Fields
-pub mod Records
-pub mod Setups
-pub mod Texts
