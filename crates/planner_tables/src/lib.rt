@@ -1,5 +1,5 @@
 //! Production tables as a planner keeps them: changes by the words of a script, what undoes them, and what is answered about
-//! them. What their words name, and how a refusal is told, is in `table_words`.
+//! them. What their words name, and how a refusal is told, is in `table_rows`.
 #![tactic(auto)]
 
 mod changes;
