@@ -1,14 +1,14 @@
 //! Who hears of the lines of a run for this.
 use crate::lines::tell_reply;
 use crate::room::Telling;
-use run_inputs::{PlainWords, plain_words};
 use hint_causes::is_bare;
-use script_runner::Listener;
 use plan_base::{NoMemory, Text};
+use plan_io::Line;
 use plan_lines::Reply;
 use planner_core::Planner;
 use program_runs::{dump_name, empty_hint, script_name};
-use plan_io::Line;
+use run_inputs::{PlainWords, plain_words};
+use script_runner::Listener;
 use std::alloc::Global;
 
 // The names of the files of a run.

@@ -4,11 +4,11 @@ use fractions::Ratio;
 use hint_causes::{Found, Line, found_of, short_of};
 use linear_table::SolveAnswer;
 use plan_base::{NoMemory, Text};
+use plan_io::{Lines, has_many_lines};
 use plan_lines::{Detail, RefusalCode, Reply};
 use planner_core::Planner;
 use planner_tables::linear_named;
 use program_runs::{refused_hint, short_hint};
-use plan_io::{Lines, has_many_lines};
 use std::alloc::Global;
 
 // A line, and the script that has it.

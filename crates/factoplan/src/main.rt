@@ -6,12 +6,12 @@ mod lines;
 mod room;
 mod telling;
 
+use crate::hints::LineHints;
 use crate::telling::said;
 use plan_base::{NoMemory, Steps, Text};
 use plan_io::{HostSink, HostStore};
 use planner_cli::{RunOutcome, Status, run};
 use program_runs::{VERSION, Watch, WatchedSink, WatchedStore, program_words, said_of_store};
-use crate::hints::LineHints;
 use std::alloc::Global;
 use std::io::IsTerminal;
 use std::process::ExitCode;

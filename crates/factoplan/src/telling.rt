@@ -1,9 +1,9 @@
 //! What is said of a run on standard error.
 
-use run_inputs::{PlainWords, plain_words};
 use plan_base::Text;
 use planner_cli::Status;
 use program_runs::said_of;
+use run_inputs::{PlainWords, plain_words};
 use std::alloc::Global;
 use std::rt::Files;
 

@@ -2,12 +2,12 @@
 
 use catalog_text::{ShownFields, catalog_text, read_shown};
 use plan_base::{NoMemory, Steps};
+use plan_io::{Lines, has_many_lines};
 use planner_core::Planner;
 use program_runs::{
     End, Names, Work, carry_line, close_batch, end_by, end_of_run, whole_file, with_loaded, written,
 };
 use run_inputs::{DUMP_LIMIT, Long, Status};
-use plan_io::{Lines, has_many_lines};
 use std::alloc::Global;
 use std::rt::Files;
 

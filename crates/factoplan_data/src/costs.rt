@@ -5,11 +5,11 @@ use crate::estimates::costs_of;
 use crate::fault::{PlanFault, end_by_fault};
 use crate::lines::carry_out;
 use crate::texts::{csv_text, json_text};
-use script_runner::reached_nodes;
 use game_types::Game;
 use plan_base::{NoMemory, Steps};
 use planner_core::Planner;
 use program_runs::{End, Names, Work, close_batch, written};
+use script_runner::reached_nodes;
 use std::alloc::Global;
 use std::rt::Files;
 

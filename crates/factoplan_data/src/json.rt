@@ -2,14 +2,14 @@
 ghost use Rattle.std.specs.Prelude.{◌≡◌, IfOk, string_bytes};
 ghost use Rattle.factoplan_data.specs.Told.{IsToldAs, TellsLine};
 
-use script_runner::{is_refusal, reading_of, reply_to};
 use plan_base::{NoMemory, Steps};
+use plan_io::{Lines, has_many_lines};
 use plan_lines::Reply;
 use planner_core::Planner;
 use program_runs::{End, Names, Work, end_by};
 use report_json::line_text;
 use run_inputs::{Long, Status};
-use plan_io::{Lines, has_many_lines};
+use script_runner::{is_refusal, reading_of, reply_to};
 use std::alloc::Global;
 use std::io;
 use std::io::Write;

@@ -2,9 +2,9 @@
 
 use crate::fault::PlanFault;
 use plan_base::Steps;
+use plan_io::{Lines, has_many_lines};
 use planner_core::Planner;
 use program_runs::carry_line;
-use plan_io::{Lines, has_many_lines};
 use std::alloc::Global;
 
 /// Carries out the lines of a script. Answers whether some line is refused.

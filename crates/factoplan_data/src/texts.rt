@@ -9,12 +9,12 @@ ghost use Rattle.catalog_members.specs.Texts.{IsTextOf};
 ghost use Rattle.factoplan_data.specs.Costs.{cost_fields, cost_value, costs_text, estimate_fields};
 
 use crate::estimates::Cost;
+use crate::record_texts::record_text;
 use catalog_members::text_of;
 use csv::StringRecord;
 use fractions::Ratio;
 use game_types::Game;
 use plan_base::NoMemory;
-use crate::record_texts::record_text;
 use report_json::{decimal_of, good_id, put_figure, put_good};
 use serde_json::Map;
 use std::alloc::Global;

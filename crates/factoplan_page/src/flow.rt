@@ -8,11 +8,11 @@ use game_types::Game;
 use linear_table::{Plan, SolveAnswer};
 use plan_base::{NoMemory, Steps, Text};
 use plan_charts::{Shown, chart_of, dot_text};
+use plan_io::{split_line, trim_return};
 use plan_lines::{Command, Figures, RefusalCode, Reply};
 use planner_core::Planner;
 use production_table::Table;
 use program_runs::{LINES, carry_line, close_batch};
-use plan_io::{split_line, trim_return};
 use std::alloc::Global;
 
 // The most exchanges of columns.

@@ -5,14 +5,14 @@ ghost use Rattle.planner_tables.specs.Effects.{AreSoundTables, IsSoundOn};
 use crate::fault::PageFault;
 use crate::tables::{linear_form, place_of, with_form};
 use game_types::Game;
-use script_runner::is_refusal;
 use plan_base::{NoMemory, Steps};
+use plan_io::{split_line, trim_return};
 use plan_lines::Reply;
 use plan_pages::Page;
 use planner_core::Planner;
 use production_table::Table;
 use program_runs::{LINES, answered};
-use plan_io::{split_line, trim_return};
+use script_runner::is_refusal;
 use std::alloc::Global;
 use std::str::from_utf8;
 

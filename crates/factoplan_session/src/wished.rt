@@ -2,13 +2,13 @@
 ghost use Rattle.std.specs.Prelude.{◌≡◌};
 
 use crate::words::push_words;
-use script_runner::reached_nodes;
 use catalog_text::{ShownFields, shown_of};
 use clap::ArgMatches;
 use fractions::Ratio;
 use plan_base::{Kind, NoMemory, Steps, Text};
 use plan_lines::RefusalCode;
 use planner_core::Planner;
+use script_runner::reached_nodes;
 use session_lines::{Wished, Wishes};
 use std::alloc::Global;
 use wish_answers::{Failure, Found, found_lines};

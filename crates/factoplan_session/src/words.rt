@@ -1,9 +1,9 @@
 //! The words of a question.
 ghost use Rattle.std.specs.Prelude.{◌≤◌, length};
 
-use script_runner::reading_of;
 use plan_base::{NoMemory, Text};
 use plan_lines::Command;
+use script_runner::reading_of;
 use std::alloc::Global;
 
 fn is_separator(byte: u8) -> bool {

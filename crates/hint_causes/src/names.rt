@@ -2,12 +2,12 @@
 ghost use Rattle.game_types.specs.Sound.{IsSound};
 
 use game_types::Game;
+use line_causes::{Likeness, nearest};
 use name_table::Names;
 use plan_base::{Kind, NoMemory, NodeId, Text};
 use plan_report::kind_word;
 use production_table::Table;
 use std::alloc::Global;
-use line_causes::{Likeness, nearest};
 
 /// The commands of a script.
 const COMMANDS: [&str; 35] = [

@@ -1,6 +1,7 @@
-//! Why a line of a script is refused, in words: what each code says and what more is known of a cause, and what stands where on a line.
+//! Why a line of a script is refused, in words: what each code says and what more is known of a cause, and what stands where on a line;
+//! which of some names a word is most like.
 //!
-//! The texts are in `specs/`: `Causes` (by the code of a refusal), `Forms` (what stands where on a line).
+//! The texts are in `specs/`: `Causes` (by the code of a refusal), `Forms` (what stands where on a line), `Likeness`.
 #![tactic(auto)]
 
 mod cause_texts;

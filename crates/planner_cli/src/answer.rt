@@ -5,12 +5,12 @@ ghost use Rattle.script_runner.specs.Scripts.{is_cut};
 ghost use Rattle.planner_cli.specs.Ending.{EndsAnswered};
 ghost use Rattle.run_inputs.specs.Keeping.{KeepsSink};
 
-use script_runner::{Listener, prove_script, run_script};
 use linear_table::SolveAnswer;
 use plan_base::Steps;
 use plan_io::{ScriptEnd, Sink};
 use planner_core::Planner;
 use run_inputs::Ready;
+use script_runner::{Listener, prove_script, run_script};
 use std::alloc::Global;
 
 // Answers the script with a planner that is lent.

@@ -10,11 +10,11 @@ ghost use Rattle.run_inputs.specs.Keeping.{KeepsSink, KeepsSlots, KeepsStore};
 ghost use Rattle.run_inputs.specs.Words.{asked_of};
 
 use crate::modes::{check_files, run_files, run_sample};
-use run_inputs::{Asked, FileMode, Status, WordsFault, plain_words, read_words, tell};
-use script_runner::Listener;
 use linear_table::SolveAnswer;
 use plan_base::{Steps, Text};
 use plan_io::{Sink, Store};
+use run_inputs::{Asked, FileMode, Status, WordsFault, plain_words, read_words, tell};
+use script_runner::Listener;
 use std::alloc::Global;
 
 // Does what the words ask for. What the solver answers is kept in `solved`.

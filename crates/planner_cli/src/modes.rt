@@ -12,7 +12,6 @@ ghost use Rattle.run_inputs.specs.Keeping.{KeepsSink, KeepsSlots, KeepsStore};
 ghost use Rattle.run_inputs.specs.Words.{Check, FileNames, Files, Run, Sample};
 
 use crate::answer::answer;
-use script_runner::{Listener, check_lines, tell_many_lines};
 use linear_table::SolveAnswer;
 use plan_base::Steps;
 use plan_io::{Sink, Store, has_many_lines};
@@ -20,6 +19,7 @@ use planner_core::Planner;
 use run_inputs::{
     Ready, Status, is_answered, make_ready, read_entries, read_files, status_of, tell, tell_steps,
 };
+use script_runner::{Listener, check_lines, tell_many_lines};
 use std::alloc::Global;
 
 /// Answers the script of a file over the dump of another, and writes the replies or their certificate.

@@ -3,9 +3,9 @@ ghost use Rattle.std.specs.Prelude.{◌≡◌, IfOk};
 ghost use Rattle.plan_lines.specs.declared.command.Command.TheVariants as CommandLine;
 ghost use Rattle.planner_core.specs.Lines.{IsStep};
 
+use crate::planner::Planner;
 use plan_base::{NoMemory, Steps, Text};
 use plan_lines::{Command, Object, Reply};
-use crate::planner::Planner;
 
 /// At which rank a node is reached.
 ///

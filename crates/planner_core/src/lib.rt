@@ -1,5 +1,5 @@
 //! The planner: a planning state with its history and an open batch, and what each line of a script does to it and is
-//! answered.
+//! answered; and questions that leave it as it was.
 #![tactic(auto)]
 
 mod asking;

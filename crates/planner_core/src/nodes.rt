@@ -8,10 +8,10 @@ ghost use Rattle.planner_core.specs.Lines.{is_free};
 ghost use Rattle.planner_core.specs.Told.{mask_of, place_of, places_of, told_mask, told_milestones, told_rank};
 
 use crate::asking::{ask_mask, ask_milestones, ask_rank};
+use crate::planner::Planner;
 use game_types::Game;
 use plan_base::{Kind, NoMemory, NodeId, Steps, Text};
 use plan_lines::{Object, Reply};
-use crate::planner::Planner;
 use std::alloc::Global;
 
 // A node that is there, as a script names it.

@@ -1,4 +1,9 @@
-//! What the programs that read a dump and a script have in common: their words, their files, the planner that is lent them, the lines and the ends.
+//! What the programs that read a dump and a script have in common: their words, their files, the planner that is lent them, the lines and the ends,
+//! and what is said of a run that went wrong: a line by its status, and a line for each line of the script that is refused or solves a table without
+//! a plan.
+//!
+//! The texts are in `specs/`: `Hints` (by the status), `Faults` (of a refused dump), `Lines` (of the lines of a script), `Names` (of the files),
+//! `Places` (lines and columns).
 #![tactic(auto)]
 
 mod ends;

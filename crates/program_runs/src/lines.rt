@@ -1,9 +1,9 @@
 //! What a planner answers to a line.
 
-use script_runner::{is_refusal, reading_of, reply_to};
 use plan_base::{NoMemory, Steps};
 use plan_lines::{Command, Reply};
 use planner_core::Planner;
+use script_runner::{is_refusal, reading_of, reply_to};
 use std::alloc::Global;
 
 /// The most lines that a script may have.

@@ -1,10 +1,10 @@
 //! What is said of a run on standard error, by each program in its own name.
 use crate::files::whole_file;
+use crate::hints::{hint, unread_hint};
+use crate::names::dump_name;
 use craft_reader::DumpCode;
 use plan_base::Text;
 use plan_io::HostFault;
-use crate::hints::{hint, unread_hint};
-use crate::names::dump_name;
 use run_inputs::{DUMP_LIMIT, Status};
 use std::alloc::Global;
 use std::env;

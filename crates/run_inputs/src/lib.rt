@@ -1,4 +1,4 @@
-//! What a run reads before the first line of its script is answered, and how a run ends that gets no further.
+//! The words of a run and what they ask for, what it reads before the first line of its script is answered, and how it ends where it gets no further.
 #![tactic(auto)]
 
 mod bad_dump;

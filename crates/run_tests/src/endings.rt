@@ -2,10 +2,10 @@
 ghost use Rattle.std.specs.Prelude.{◌≡◌};
 
 use crate::memory::{Calls, WORDS, sink_of, store_of, texts_in};
-use script_runner::Silent;
 use plan_base::{Steps, Text};
 use plan_io::{MemSink, MemStore, Store};
 use planner_cli::run;
+use script_runner::Silent;
 use std::alloc::Global;
 
 /// What the steps of a test are counted by.

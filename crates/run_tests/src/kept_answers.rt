@@ -4,11 +4,11 @@ ghost use Rattle.std.specs.Prelude.{◌≡◌};
 use crate::endings::Test;
 use crate::memory::{Calls, WORDS, sink_of, store_of, texts_in};
 use crate::texts::{DUMP, SCRIPT, TABLES};
-use script_runner::Silent;
 use linear_table::SolveAnswer;
 use plan_base::{Steps, Text};
 use plan_io::{MemSink, MemStore, Store};
 use planner_cli::run;
+use script_runner::Silent;
 use std::alloc::Global;
 use std::test::Fail;
 

@@ -4,10 +4,10 @@ ghost use Rattle.std.specs.Prelude.{◌≡◌};
 use crate::endings::{Test, fails_so};
 use crate::memory::{Calls, sink_of, store_of, texts_in};
 use crate::texts::SAMPLE_REPORT;
-use script_runner::Silent;
 use plan_base::{Steps, Text};
 use plan_io::{MemSink, MemStore, Store};
 use planner_cli::run;
+use script_runner::Silent;
 use std::alloc::Global;
 use std::test::Fail;
 

@@ -3,10 +3,10 @@ ghost use Rattle.std.specs.Prelude.{◌≡◌};
 
 use crate::memory::{Calls, WORDS, sink_of, store_of, texts_in};
 use crate::pieces::is_front;
-use script_runner::Silent;
 use plan_base::{Steps, Text};
 use plan_io::{MemSink, MemStore, Store};
 use planner_cli::run;
+use script_runner::Silent;
 use std::alloc::Global;
 
 /// A dump and a script, and what a run over them ends with and writes where no call fails.

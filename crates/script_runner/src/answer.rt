@@ -6,16 +6,16 @@ ghost use Rattle.state_changes.specs.States.{State};
 ghost use Rattle.planner_core.specs.Lines.{IsSessionOf};
 ghost use Rattle.script_runner.specs.Answers.{is_refusal_reply, solved_in, AnswersLine};
 
-use game_types::Game;
 use crate::listening::Listener;
 use crate::reading::reading_of;
 use crate::reply::{is_refusal, reply_to};
+use game_types::Game;
 use linear_table::SolveAnswer;
 use plan_base::{NoMemory, Steps, Text};
+use plan_io::Line;
 use plan_lines::Reply;
 use plan_report::print_reply;
 use planner_core::Planner;
-use plan_io::Line;
 use std::alloc::Global;
 
 /// What a line was answered.

@@ -9,9 +9,9 @@ ghost use Rattle.plan_io.specs.Lines.{lines_of};
 ghost use Rattle.script_runner.specs.Scripts.{is_cut};
 ghost use Rattle.script_runner.specs.TrialLines.{TellsTally};
 
+use crate::listening::Listener;
 use crate::trial::judge_line;
 use certificate_file::CertEntry;
-use crate::listening::Listener;
 use plan_base::Steps;
 use plan_io::{Lines, ScriptEnd, Sink, write_all};
 use planner_core::Planner;

@@ -1,4 +1,5 @@
-//! The lines of a script, answered one after another by the planner.
+//! What a line of a script is read as, the reply to it, and who hears of it; the lines of a script, answered one after another by the planner;
+//! lines that it carries out up to the first that is refused.
 #![tactic(auto)]
 
 mod answer;

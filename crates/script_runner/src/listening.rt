@@ -1,7 +1,7 @@
 //! Who hears of the lines of a script beside its report.
+use plan_io::Line;
 use plan_lines::Reply;
 use planner_core::Planner;
-use plan_io::Line;
 
 /// Who hears of each line of a script and of its reply, as for words that help on standard error. What a listener does changes nothing of
 /// what is written.

@@ -11,11 +11,11 @@ ghost use Rattle.plan_io.specs.Lines.{lines_of};
 ghost use Rattle.script_runner.specs.Scripts.{is_cut};
 
 use crate::answer::answer_line;
+use crate::listening::Listener;
 use crate::run::tell_many_lines;
 use crate::solutions::keep;
 use certificate_file::{CertEntry, Claim, write_cert};
 use fractions::Ratio;
-use crate::listening::Listener;
 use linear_table::{Plan, SolveAnswer};
 use plan_base::{Items, NoMemory, Steps, Text};
 use plan_io::{Failed, Lines, ScriptEnd, Sink, has_many_lines, write_all};

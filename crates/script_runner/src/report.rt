@@ -8,8 +8,8 @@ ghost use Rattle.plan_io.specs.Lines.{lines_of};
 ghost use Rattle.script_runner.specs.Scripts.{is_cut, EndsScript};
 
 use crate::answer::answer_line;
-use crate::solutions::keep;
 use crate::listening::Listener;
+use crate::solutions::keep;
 use linear_table::SolveAnswer;
 use plan_base::Steps;
 use plan_io::{Lines, ScriptEnd, Sink, write_all};

@@ -7,8 +7,8 @@ ghost use Rattle.script_runner.specs.Leaves.{Leaves};
 ghost use Rattle.script_runner.specs.Scripts.{EndsScript, is_cut};
 ghost use Rattle.script_runner.specs.TrialLines.{TellsMany};
 
-use crate::report::answer_lines;
 use crate::listening::Listener;
+use crate::report::answer_lines;
 use linear_table::SolveAnswer;
 use plan_base::Steps;
 use plan_io::{ScriptEnd, Sink, has_many_lines, write_all};

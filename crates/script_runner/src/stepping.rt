@@ -7,15 +7,15 @@ ghost use Rattle.plan_io.specs.Lines.{lines_of};
 ghost use Rattle.script_runner.specs.Answers.{is_refusal_reply, solved_in};
 ghost use Rattle.script_runner.specs.Leading.{is_plan, AnswersSo, Continues, TellsReply};
 
-use game_types::Game;
 use crate::reading::reading_of;
 use crate::reply::{is_refusal, reply_to};
+use game_types::Game;
 use linear_table::SolveAnswer;
 use plan_base::{NoMemory, Steps};
+use plan_io::Lines;
 use plan_lines::Reply;
 use plan_report::print_reply;
 use planner_core::Planner;
-use plan_io::Lines;
 use std::alloc::Global;
 
 /// How far a planner has come with the lines of a script: how many it has answered, and whether the last was answered by a plan.

@@ -12,17 +12,17 @@ ghost use Rattle.script_runner.specs.Verdicts.{claim_at, IsVerdict};
 ghost use Rattle.script_runner.specs.declared.verdict.Verdict.{Verdict};
 ghost use Rattle.script_runner.specs.Trials.{IsSaid, said_work, table_asked};
 
-use crate::{is_proved, verdict_line, verdict_on};
-use certificate_file::CertEntry;
 use crate::listening::Listener;
 use crate::reading::{Reading, reading_of, refused_for};
 use crate::reply::is_refusal;
+use crate::{is_proved, verdict_line, verdict_on};
+use certificate_file::CertEntry;
 use linear_table::Linear;
 use plan_base::{NoMemory, Steps, Text};
+use plan_io::Line;
 use plan_lines::{Command, Reply};
 use plan_report::print_reply;
 use planner_core::{Planner, Posed};
-use plan_io::Line;
 use std::alloc::Global;
 
 /// What a line comes to.

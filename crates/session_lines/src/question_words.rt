@@ -1,10 +1,10 @@
 //! The words of a question: what the first asks for, and what those behind it are read as.
 use crate::answers::refusal;
 use crate::forced::Reading;
-use script_runner::reading_of;
 use plan_base::NoMemory;
 use plan_lines::{Command, RefusalCode, Reply};
 use script_reader::ScriptFault;
+use script_runner::reading_of;
 use std::alloc::Global;
 
 /// What a question asks for, by its first word.

@@ -10,10 +10,10 @@ use crate::question_words::{Question, asked_by, front_word, read_as, unread, unw
 use crate::state::push_state;
 use crate::wishes::{Wished, Wishes};
 use catalog_text::{ShownFields, catalog_text};
-use script_runner::reading_of;
 use plan_base::{NoMemory, Steps, Text};
 use plan_lines::{Command, RefusalCode, Reply};
 use planner_core::{Planner, ask_rate, ask_solve};
+use script_runner::reading_of;
 use std::alloc::Global;
 
 // The reply to the `solve` that a question stands for.

@@ -9,11 +9,11 @@ ghost use Rattle.session_lines.specs.Told.{IsToldAs};
 
 use crate::forced::{Deed, deed_of};
 use game_types::Game;
-use script_runner::{is_refusal, reading_of, reply_to};
 use plan_base::{NoMemory, Steps, Text};
 use plan_lines::Reply;
 use plan_report::print_reply;
 use planner_core::Planner;
+use script_runner::{is_refusal, reading_of, reply_to};
 use std::alloc::Global;
 
 /// What a line of a script was answered.

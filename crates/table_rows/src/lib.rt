@@ -1,5 +1,5 @@
 //! Rows of production tables: whether a set-up can stand in one, what one craft of it takes, and its column, which is what one
-//! craft adds to each good.
+//! craft adds to each good. What the words of lines about tables name, and why such a line is refused.
 #![tactic(auto)]
 
 mod columns;

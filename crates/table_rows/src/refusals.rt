@@ -3,11 +3,11 @@ ghost use Rattle.std.specs.Prelude.{◌≡◌};
 ghost use Rattle.game_types.specs.Sound.{IsSound};
 ghost use Rattle.table_rows.specs.Refusals.{beacon_code, beacon_detail, code_of, detail_of, fuel_code, good_node, machine_code, machine_detail, machine_node, module_code, module_detail, power_code, refused, setup_code, setup_detail};
 
+use crate::faults::SetupFault;
 use game_types::{BeaconFault, FuelFault, Game, MachineFault, ModuleFault};
 use plan_base::{EntityId, GoodId, Kind, NodeId, Text};
 use plan_lines::{Detail, Object, RefusalCode, Reply};
 use power_rows::PowerFault;
-use crate::faults::SetupFault;
 
 /// Why a change of tables, or a question about them, is refused.
 #[derive(Drop)]

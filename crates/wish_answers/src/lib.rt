@@ -9,7 +9,7 @@ mod scripts;
 mod standing;
 
 pub use answers::{Answer, answered_lines, reached_in};
-pub use script_runner::Progress;
 pub use failures::Failure;
 pub use finding::{Found, found_lines};
+pub use script_runner::Progress;
 pub use scripts::whole_script;

@@ -8,10 +8,10 @@ ghost use Rattle.script_runner.specs.declared.stepping.Progress.{Progress};
 
 use crate::answers::{answered_lines, has_too_many};
 use crate::failures::Failure;
-use script_runner::{Progress, step_lines};
 use fractions::Ratio;
 use plan_base::{NoMemory, Steps};
 use planner_core::Planner;
+use script_runner::{Progress, step_lines};
 use std::alloc::Global;
 use wish_words::WishRequest;
 

@@ -1,4 +1,4 @@
-//! What the solver says of a table, and whether a table meets a wish.
+//! What the solver says of a table, and whether a table meets a wish; the lines of a script that make a table, and the words in them.
 #![tactic(auto)]
 
 mod checking;

@@ -12,8 +12,8 @@ use game_types::{Game, Setup};
 use plan_base::{GoodId, NoMemory};
 use production_table::{LIMIT, Table};
 use std::alloc::Global;
-use wish_estimates::{Found, Ground, Walk};
 use wish_checks::push_label;
+use wish_estimates::{Found, Ground, Walk};
 use wish_setups::{WishFault, is_fitting};
 
 /// What goes out or comes in beside what the rows call for, and how many watts are wanted beside the wish.

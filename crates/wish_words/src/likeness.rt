@@ -2,10 +2,10 @@
 ghost use Rattle.game_types.specs.Sound.{IsSound};
 
 use game_types::Game;
+use line_causes::nearest;
 use plan_base::{Kind, NoMemory, Text};
 use std::alloc::Global;
 use wish_checks::names_of;
-use line_causes::nearest;
 
 /// A name that is like a word, with its kind, and how many edits lead from the word to it.
 #[derive(Drop)]

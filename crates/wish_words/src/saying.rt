@@ -9,8 +9,8 @@ use plan_base::{GoodId, Kind, NoMemory, Text};
 use plan_report::{object_word, printed_word};
 use script_reader::Place;
 use std::alloc::Global;
-use wish_estimates::{all_variants, given_variants};
 use wish_checks::{good_text, like_names, machine_text, recipe_text};
+use wish_estimates::{all_variants, given_variants};
 use wish_setups::{Reason, Unmade, WishFault};
 
 // What is written to a text in memory, or that none could be had.
