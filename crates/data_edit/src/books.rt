@@ -39,13 +39,11 @@ impl Book {
         ensures sound { IfOk result IsSoundBook }
         ensures book { IfOk result (λ book. book ≡ record { game = game; barred = replicate (node_count (shape_of game)) false; granted = replicate (node_count (shape_of game)) false }) }
     {
-        match no_marks(alloc, &game) {
-            Ok((barred, granted)) => Ok(Book {
-                game,
-                barred,
-                granted,
-            }),
-            Err(fault) => Err(fault),
-        }
+        let (barred, granted) = no_marks(alloc, &game)?;
+        Ok(Book {
+            game,
+            barred,
+            granted,
+        })
     }
 }
