@@ -7,4 +7,5 @@ pub mod RepairedLemmas
 pub mod LawLemmas
 pub mod ChangeLemmas
 pub mod WhyLemmas
+pub mod Gathered
 pub mod OrderLemmas

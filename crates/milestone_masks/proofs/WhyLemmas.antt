@@ -1,27 +1,22 @@
 -- The first member, and the nodes that were found.
-use Rattle.std.proofs.Common.{◌≡◌, ◌||◌, ◌&&◌, ℕ, zero, suc, ◌+◌, ◌<◌, ◌≤◌, Bool, true, false, not, cond, eqb, ltb, List, [], ◌∷◌, ◌++◌, Option, None, Some, All, length, slice_get, get_or, take, map, length-append, refl, sym, ◌∙◌, ap, subst, arith, inl, inr, length-set, get_or-set_same, get_or-set_other}
+use Rattle.std.proofs.Common.{◌≡◌, ◌||◌, ◌&&◌, ℕ, zero, suc, ◌+◌, ◌<◌, ◌≤◌, Bool, true, false, not, cond, eqb, ltb, List, [], ◌∷◌, ◌++◌, Option, None, Some, All, length, get_or, take, refl, sym, ◌∙◌, ap, subst, arith, inl, inr, length-set, get_or-set_same, get_or-set_other}
 use Rattle.std.proofs.Math.ListN.{set}
 use Rattle.std.proofs.Math.Bool.{or-false, or-true}
 use Rattle.std.proofs.lemmas.Bool.{cases_Bool, cases_eq, eq-eqb, ne_eqb, eqb-true, false≢true, and_parts}
 use Rattle.std.proofs.lemmas.Bool.Decides.{nat_tests}
-use Rattle.std.proofs.Math.ListN.{get_or-append}
-use Rattle.std.proofs.lemmas.List.{get_or_push, map_push, take_more}
-use Rattle.std.proofs.lemmas.Option.{slice_get_cases}
+use Rattle.std.proofs.lemmas.List.{take_more}
 use Rattle.std.proofs.lemmas.List.Elements.{All-push}
 use Rattle.std.proofs.lemmas.List.Folds.{list_any-append, list_any_more}
 use Rattle.std.proofs.lemmas.List.Sums.{sum_by_push}
 use Rattle.std.specs.List.{list_all}
-use Rattle.std.specs.Prelude.{Result, Ok, Err, OnOk}
 use Rattle.plan_base.specs.declared.NodeId.{NodeId}
-use Rattle.graph_store.specs.declared.Row.{Row}
-use Rattle.reach_ranks.specs.Rounds.{Nodes}
 use Rattle.graph_store.specs.Rows.{has_node}
 use Rattle.graph_store.specs.Replace.{count_of}
-use Rattle.graph_store.proofs.ReplaceLemmas.{cond-one, cond-zero, count-none, get_or_inside, or_true}
-use Rattle.graph_store.proofs.TidyLemmas.{any-then, has_node-here, length-from_counts, sum_to}
+use Rattle.graph_store.proofs.ReplaceLemmas.{cond-one, cond-zero, count-none}
+use Rattle.graph_store.proofs.TidyLemmas.{any-then, length-from_counts, sum_to}
 use Rattle.milestone_masks.specs.Worlds.{ranked}
-use Rattle.milestone_masks.specs.Why.{comes_first, is_first_member, is_support, IsSupported}
-use Rattle.milestone_masks.specs.Found.{is_better, stands_by, stands_on, AreRowsOf, AreSeen, Grows, IsBestOf, IsFirstOf, IsFound, IsGathered}
+use Rattle.milestone_masks.specs.Why.{comes_first, is_first_member}
+use Rattle.milestone_masks.specs.Found.{is_better, AreSeen, IsBestOf, IsFirstOf}
 
 -- one node more that was found
 
@@ -164,94 +159,6 @@ first-of_best (Some b) ranks members all below = (below b refl, first-some ranks
 
 pub same-some : (a b : NodeId) → Some a ≡ Some b → a ≡ b
 same-some a b e = cc
-
--- the nodes that were found, of which the first k were visited
-
-pub stood-on : (set : Nodes) (rows : List Row) (granted : List Bool) (ranks : List ℕ) (n m : ℕ) → IsSupported rows granted ranks set → set n ≡ true → stands_on rows granted ranks n m ≡ true → set m ≡ true
-stood-on set rows granted ranks n m supported is stands =
-    let parts = and_parts (not (get_or granted n false)) (is_support ranks (slice_get rows n) m) stands in
-    supported n m is (not-true_is (get_or granted n false) parts.0) parts.1
-
-pub gathered-more : (rows : List Row) (granted : List Bool) (ranks : List ℕ) (node k : ℕ) (d : NodeId) (found more : List NodeId) → k < length found → IsGathered rows granted ranks node k found → Grows (stands_on rows granted ranks (get_or found k d).0) found more → IsGathered rows granted ranks node (k + 1) more
-gathered-more rows granted ranks node k d found more lt are grows = record {
-  holds = grows.members node ∙ rw are.holds refl;
-  inside = omega (arith, grows.longer);
-  supported = λ j e below m stands. elim (cases_eq j k) [
-    | inl same ↦
-        let here : get_or more j e ≡ get_or found k d = grows.kept j e (omega arith) ∙ (ap (λ i. get_or found i e) same ∙ get_or_inside found k e d lt) in
-        grows.members m ∙ (ap (λ b. has_node found m || b) (subst (λ (x : NodeId). stands_on rows granted ranks x.0 m ≡ true) here stands) ∙ or-true (has_node found m))
-    | inr other ↦
-        let here : get_or more j e ≡ get_or found j e = grows.kept j e (omega arith) in
-        let old : has_node found m ≡ true = are.supported j e (omega arith) m (subst (λ (x : NodeId). stands_on rows granted ranks x.0 m ≡ true) here stands) in
-        grows.members m ∙ rw old refl
-  ];
-  least = λ set at supported n is. elim (or_true (has_node found n) (stands_on rows granted ranks (get_or found k d).0 n) (sym (grows.members n) ∙ is)) [
-    | inl old ↦ are.least set at supported n old
-    | inr new ↦ stood-on set rows granted ranks (get_or found k d).0 n supported (are.least set at supported (get_or found k d).0 (has_node-here found k d lt)) new
-  ];
-}
-
--- the rows of a block of nodes
-
-pub at-map : {X Y : Type 0} (f : X → Y) (xs : List X) (k : ℕ) (d : X) → get_or (map f xs) k (f d) ≡ f (get_or xs k d)
-at-map f [] k d = refl
-at-map f (x ∷ xs) zero d = refl
-at-map f (x ∷ xs) (suc k) d = at-map f xs k d
-
-pub long-map : {X Y : Type 0} (f : X → Y) (xs : List X) → length (map f xs) ≡ length xs
-long-map f [] = refl
-long-map f (x ∷ xs) = ap suc (long-map f xs)
-
-pub same-row : (a b : Row) → Some a ≡ Some b → a ≡ b
-same-row a b e = cc
-
-pub row-read : {X : Type 0} (f : X → Row) (refs : List X) (ref : X) (rows : List Row) (start k : ℕ) (nodes : List NodeId) (c : NodeId) → length refs ≡ k → AreRowsOf rows start nodes (map f refs) → start + k < length nodes → slice_get rows (get_or nodes (start + k) c).0 ≡ Some (f ref) → AreRowsOf rows start nodes (map f (refs ++ ref ∷ []))
-row-read {X} f refs ref rows start k nodes c long of inside row = λ j d e lt.
-    subst (λ (l : List Row). slice_get rows (get_or nodes (start + j) d).0 ≡ Some (get_or l j e)) (sym (map_push f refs ref)) (elim (cases_eq j k) [
-      | inl same ↦ subst (λ (i : ℕ). slice_get rows (get_or nodes (start + i) d).0 ≡ Some (get_or (map f refs ++ f ref ∷ []) i e)) (sym same)
-          (ap (λ (x : NodeId). slice_get rows x.0) (get_or_inside nodes (start + k) d c inside)
-          ∙ (row ∙ ap {B = Option Row} Some (sym (get_or_push (map f refs) (f ref) e k (long-map f refs ∙ long)))))
-      | inr other ↦
-          let before : j < length (map f refs) = omega (arith, lt, long-map f (refs ++ ref ∷ []), length-append refs (ref ∷ []), long-map f refs, long, other) in
-          of j d e before ∙ ap {B = Option Row} Some (sym (get_or-append (map f refs) (f ref ∷ []) e j before))
-    ])
-
-has_row : Option Row → Bool
-has_row None = false
-has_row (Some r) = true
-
-pub get-all : (P : Row → Type 0) (rows : List Row) (n : ℕ) (row : Row) → slice_get rows n ≡ Some row → All P rows → P row
-unfolding has_row
-get-all P rows n row is all =
-    elim (slice_get_cases rows n).1 [
-      | inl found ↦ subst P (found.3 ∙ same-row found.0 row (sym found.2 ∙ is)) (all n found.0 found.1)
-      | inr past ↦ absurd (false≢true (ap has_row (sym past.1 ∙ is)))
-    ]
-
-pub row-visited : {X : Type 0} (f : X → Row) (refs : List X) (rows : List Row) (granted : List Bool) (ranks : List ℕ) (root start k : ℕ) (d : NodeId) (e : X) (old found more : List NodeId) → start + length refs ≤ length old → length old ≤ length found → k < length refs → ((j : ℕ) (x : NodeId) → j < length old → get_or found j x ≡ get_or old j x) → AreRowsOf rows start old (map f refs) → IsGathered rows granted ranks root (start + k) found → Grows (stands_by (Some (f (get_or refs k e))) granted ranks (get_or found (start + k) d).0) found more → IsGathered rows granted ranks root (start + (k + 1)) more
-row-visited f refs rows granted ranks root start k d e old found more within longer inside kept of are grows =
-    let at : slice_get rows (get_or found (start + k) d).0 ≡ Some (f (get_or refs k e)) =
-    ap (λ (x : NodeId). slice_get rows x.0) (kept (start + k) d (omega arith))
-    ∙ (of k d (f e) (omega (arith, long-map f refs)) ∙ ap Some (at-map f refs k e)) in
-    let step : IsGathered rows granted ranks root ((start + k) + 1) more =
-    gathered-more rows granted ranks root (start + k) d found more (omega arith) are
-    (subst (λ (r : Option Row). Grows (stands_by r granted ranks (get_or found (start + k) d).0) found more) (sym at) grows) in
-    let same : (start + k) + 1 ≡ start + (k + 1) = omega arith in
-    subst (λ (n : ℕ). IsGathered rows granted ranks root n more) same step
-
-pub on-ok : {T E : Type 0} (r : Result T E) (P Q : Type 0) → (P → Q) → OnOk r P → OnOk r Q
-on-ok (Ok v) P Q f p = f p
-on-ok (Err e) P Q f p = p
-
-pub gathered-done : (rows : List Row) (granted : List Bool) (ranks : List ℕ) (node k : ℕ) (found : List NodeId) (seen : List Bool) → length found ≤ k → IsGathered rows granted ranks node k found → AreSeen found seen → length seen ≡ length rows → IsFound rows granted ranks node found
-gathered-done rows granted ranks node k found seen past are marks long = record {
-  holds = are.holds;
-  supported = λ n m is free stands. any-then (λ (x : NodeId). eqb x.0 n) found (has_node found m ≡ true) is (λ j d lt same.
-      are.supported j d (omega arith) m (subst (λ (i : ℕ). stands_on rows granted ranks i m ≡ true) (sym (eqb-true (get_or found j d).0 n same)) (rw (free, stands) refl)));
-  least = are.least;
-  once = marks.once;
-  below = λ j d lt. omega (arith, marks.below j d lt);
-}
 
 -- there are no more of them than nodes
 

@@ -1,5 +1,6 @@
 -- The nodes that were found so far.
-use Rattle.std.specs.Prelude.{ℕ, ◌+◌, ◌*◌, ◌%◌, ◌<◌, ◌≤◌, ◌≡◌, ◌==◌, ◌||◌, ◌&&◌, Bool, true, false, List, Option, None, Some, All, AllPairs, length, not, slice_get, slice_index, slice_index_or}
+use Rattle.std.specs.Prelude.{ℕ, ◌+◌, ◌*◌, ◌%◌, ◌<◌, ◌≤◌, ◌≡◌, ◌==◌, ◌||◌, ◌&&◌, Bool, true, false, List, Option, None, Some, All, AllPairs, length, map, not, slice_get, slice_index, slice_index_or}
+use Rattle.std.specs.List.{list_any}
 use Rattle.plan_base.specs.declared.NodeId.{NodeId}
 use Rattle.graph_store.specs.declared.Row.{Row}
 use Rattle.graph_store.specs.Rows.{has_node}
@@ -44,17 +45,13 @@ stands_by row granted ranks n m = not (slice_index_or granted n false) && is_sup
 abbrev pub stands_on : List Row → List Bool → List ℕ → ℕ → ℕ → Bool
 stands_on rows granted ranks n m = stands_by (slice_get rows n) granted ranks n m
 
--- these are the rows of the nodes from a place on
-abbrev pub AreRowsOf : List Row → ℕ → List NodeId → List Row → Type 0
-AreRowsOf rows start nodes block =
-    (k : ℕ) (d : NodeId) (e : Row) → k < length block → slice_get rows (slice_index_or nodes (start + k) d).0 ≡ Some (slice_index_or block k e)
+-- whether one of the nodes isn't granted and stands on the other
+abbrev pub stood_on : List Row → List Bool → List ℕ → List NodeId → ℕ → Bool
+stood_on rows granted ranks nodes m = list_any (λ n. stands_on rows granted ranks n.0 m) nodes
 
--- the nodes that were found, of which the first k were visited
-pub record IsGathered (rows : List Row) (granted : List Bool) (ranks : List ℕ) (node k : ℕ) (found : List NodeId) : Type 0 where
-  pub holds : has_node found node ≡ true
-  pub inside : k ≤ length found
-  pub supported : (j : ℕ) (d : NodeId) → j < k → (m : ℕ) → stands_on rows granted ranks (slice_index_or found j d).0 m ≡ true → has_node found m ≡ true
-  pub least : (set : Nodes) → set node ≡ true → IsSupported rows granted ranks set → (n : ℕ) → has_node found n ≡ true → set n ≡ true
+-- these are the rows of the nodes, in order
+abbrev pub AreRowsOf : List Row → List NodeId → List Row → Type 0
+AreRowsOf rows nodes those = map (λ r. Some r) those ≡ map (λ n. slice_get rows n.0) nodes
 
 -- the least set that holds the node and what its nodes stand on, each once, in any order
 pub record IsFound (rows : List Row) (granted : List Bool) (ranks : List ℕ) (node : ℕ) (nodes : List NodeId) : Type 0 where

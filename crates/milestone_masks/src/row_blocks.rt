@@ -1,8 +1,8 @@
 //! Nodes visited in blocks, so that their rows are on their way from memory at the same time.
-ghost use Rattle.std.specs.Prelude.{◌≡◌, ◌+◌, ◌-◌, ◌<◌, ◌≤◌, ℕ, List, true, All, length, map, IfOk, OnOk};
+ghost use Rattle.std.specs.Prelude.{◌≡◌, ◌+◌, ◌-◌, ◌<◌, ◌≤◌, List, true, All, drop, length, map, take, IfOk, OnOk};
 ghost use Rattle.graph_store.specs.declared.Row.{Row};
 ghost use Rattle.graph_store.specs.Rows.{HasMembersBelow};
-ghost use Rattle.milestone_masks.specs.Found.{AreRowsOf, AreSeen, IsGathered};
+ghost use Rattle.milestone_masks.specs.Found.{stood_on, AreRowsOf, AreSeen, Grows};
 
 use crate::supports::visit;
 use graph_store::{Group, Row, Rows};
@@ -23,7 +23,7 @@ fn rows_of<'a, R: Rows<L>, L>(
     requires within { start + count ≤ length nodes.now }
     ensures long { IfOk result (λ block. length block.items ≡ count) }
     ensures members { IfOk result (λ block. All (λ r. HasMembersBelow (length (R.rows rows.now)) r.now) block.items) }
-    ensures rows { IfOk result (λ block. AreRowsOf (R.rows rows.now) start nodes.now (map (λ r. r.now) block.items)) }
+    ensures rows { IfOk result (λ block. AreRowsOf (R.rows rows.now) (take count (drop start nodes.now)) (map (λ r. r.now) block.items)) }
     ensures steps { steps.new ≤ steps.old + count }
     ensures later { steps.old ≤ steps.new }
 {
@@ -90,9 +90,8 @@ fn visit_rows(
     requires within { start + length block.now ≤ length found.old.items }
     requires members { All (λ r. HasMembersBelow (length seen.old) r.now) block.now }
     ensures seen { OnOk result (AreSeen found.new.items seen.new) }
-    ensures gathered { OnOk result ((rows : List Row) (root : ℕ) → AreRowsOf rows start found.old.items (map (λ r. r.now) block.now)
-        → IsGathered rows granted.now ranks.now root start found.old.items
-        → IsGathered rows granted.now ranks.now root (start + length block.now) found.new.items) }
+    ensures grows { OnOk result ((rows : List Row) → AreRowsOf rows (take (length block.now) (drop start found.old.items)) (map (λ r. r.now) block.now)
+        → Grows (stood_on rows granted.now ranks.now (take (length block.now) (drop start found.old.items))) found.old.items found.new.items) }
 {
     for k in 0..block.len() {
         let node = found[start + k];
@@ -120,8 +119,7 @@ pub fn visit_block<R: Rows<L>, L>(
     requires start { start ≤ end }
     requires end { end ≤ length found.old.items }
     ensures seen { OnOk result (AreSeen found.new.items seen.new) }
-    ensures gathered { OnOk result ((root : ℕ) → IsGathered (R.rows rows.now) granted.now ranks.now root start found.old.items
-        → IsGathered (R.rows rows.now) granted.now ranks.now root end found.new.items) }
+    ensures grows { OnOk result (Grows (stood_on (R.rows rows.now) granted.now ranks.now (take (end - start) (drop start found.old.items))) found.old.items found.new.items) }
     ensures steps { steps.new ≤ steps.old + (end - start) }
     ensures later { steps.old ≤ steps.new }
 {

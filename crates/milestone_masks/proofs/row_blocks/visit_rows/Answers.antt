@@ -1,9 +1,9 @@
 -- One node more was visited.
-use Rattle.std.proofs.Common.{◌∙◌, ◌+◌, ℕ, Bor, Some, arith, get_or, subst}
+use Rattle.std.proofs.Common.{◌∙◌, ◌+◌, ℕ, Bor, Some, arith, drop, get_or, subst, take}
 use Rattle.plan_base.specs.declared.NodeId.{NodeId}
 use Rattle.graph_store.specs.declared.Row.{Row}
-use Rattle.milestone_masks.specs.Found.{stands_by, Grows, IsGathered}
-use Rattle.milestone_masks.proofs.WhyLemmas.{row-visited}
+use Rattle.milestone_masks.specs.Found.{stands_by, stood_on, Grows}
+use Rattle.milestone_masks.proofs.Gathered.{row-visited}
 use Rattle.milestone_masks.proofs.row_blocks.visit_rows.Goals as goal
 
 pub loop-k-preserved : goal.loop-k-preserved
@@ -11,13 +11,12 @@ loop-k-preserved c = record {
   seen = c.in_ok-visit.ensures.seen;
   longer = omega (arith, c.loop-k.invariant.longer, c.in_ok-visit.ensures.grows.longer);
   kept = λ j d lt. c.in_ok-visit.ensures.grows.kept j d (omega (arith, c.loop-k.invariant.longer)) ∙ c.loop-k.invariant.kept j d lt;
-  gathered = λ rows root of are. row-visited
+  grows = λ rows of. row-visited
       (λ (r : Bor Row). r.now)
       c.args.block.now
       rows
       c.args.granted.now
       c.args.ranks.now
-      root
       c.args.start
       c.loop-k.k
       c.index-node.result.now
@@ -26,11 +25,10 @@ loop-k-preserved c = record {
       c.loop-k.found.items
       c.visit.new.found.items
       c.requires.within
-      c.loop-k.invariant.longer
       (omega (arith, c.loop-k-test.true))
       c.loop-k.invariant.kept
       of
-      (c.loop-k.invariant.gathered rows root of are)
+      (c.loop-k.invariant.grows rows of)
       (subst
       (λ (r : Bor Row). Grows (stands_by (Some r.now) c.args.granted.now c.args.ranks.now (get_or c.loop-k.found.items (c.args.start + c.loop-k.k) c.index-node.result.now).0) c.loop-k.found.items c.visit.new.found.items)
       c.index-block-k.is
@@ -40,9 +38,9 @@ loop-k-preserved c = record {
       c.in_ok-visit.ensures.grows));
 }
 
-pub returns-clause-gathered : goal.returns-clause-gathered
-returns-clause-gathered c = λ rows root of are.
+pub returns-clause-grows : goal.returns-clause-grows
+returns-clause-grows c = λ rows of.
     subst
-    (λ (n : ℕ). IsGathered rows c.args.granted.now c.args.ranks.now root (c.args.start + n) c.loop-k.found.items)
+    (λ (n : ℕ). Grows (stood_on rows c.args.granted.now c.args.ranks.now (take n (drop c.args.start c.args.found.now.items))) c.args.found.now.items c.loop-k.found.items)
     (omega (arith, c.loop-k.auto.k-end, c.loop-k-test.false))
-    (c.loop-k.invariant.gathered rows root of are)
+    (c.loop-k.invariant.grows rows of)

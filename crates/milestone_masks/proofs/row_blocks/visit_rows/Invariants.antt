@@ -1,9 +1,9 @@
 -- So many of the rows were visited.
-use Rattle.std.proofs.Common.{◌≡◌, ◌+◌, ◌<◌, ◌≤◌, ℕ, List, length, map}
+use Rattle.std.proofs.Common.{◌≡◌, ◌<◌, ◌≤◌, ℕ, List, drop, length, map, take}
 use Rattle.std.specs.Prelude.{slice_index_or}
 use Rattle.plan_base.specs.declared.NodeId.{NodeId}
 use Rattle.graph_store.specs.declared.Row.{Row}
-use Rattle.milestone_masks.specs.Found.{AreRowsOf, AreSeen, IsGathered}
+use Rattle.milestone_masks.specs.Found.{stood_on, AreRowsOf, AreSeen, Grows}
 use Rattle.milestone_masks.proofs.row_blocks.visit_rows.Given as goal
 
 abbrev pub invariant-loop-k : goal.invariant-loop-k
@@ -11,7 +11,6 @@ invariant-loop-k l = record {
   seen : AreSeen l.found.items l.seen;
   longer : length l.initial.found.items ≤ length l.found.items;
   kept : (j : ℕ) (d : NodeId) → j < length l.initial.found.items → slice_index_or l.found.items j d ≡ slice_index_or l.initial.found.items j d;
-  gathered : (rows : List Row) (root : ℕ) → AreRowsOf rows l.start l.initial.found.items (map (λ r. r.now) l.block)
-      → IsGathered rows l.granted l.ranks root l.start l.initial.found.items
-      → IsGathered rows l.granted l.ranks root (l.start + l.k) l.found.items;
+  grows : (rows : List Row) → AreRowsOf rows (take (length l.block) (drop l.start l.initial.found.items)) (map (λ r. r.now) l.block)
+      → Grows (stood_on rows l.granted l.ranks (take l.k (drop l.start l.initial.found.items))) l.initial.found.items l.found.items;
 }

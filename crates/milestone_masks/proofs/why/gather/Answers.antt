@@ -1,6 +1,7 @@
 -- A block more was visited; there are no more nodes than there are marks.
 use Rattle.std.proofs.Common.{◌∙◌, arith}
-use Rattle.milestone_masks.proofs.WhyLemmas.{gathered-done, found-few}
+use Rattle.milestone_masks.proofs.Gathered.{gathered-block, gathered-done}
+use Rattle.milestone_masks.proofs.WhyLemmas.{found-few}
 use Rattle.milestone_masks.proofs.why.gather.Goals as goal
 
 pub loop-i-smaller : goal.loop-i-smaller
@@ -19,6 +20,26 @@ loop-i-smaller g c =
       c.loop-i.auto.seen,
       c.visit_block.auto.seen,
     )
+
+pub loop-i-preserved : goal.loop-i-preserved
+loop-i-preserved g c = record {
+  gathered = gathered-block
+      (g.R.Rows.rows c.args.rows.now)
+      c.args.granted.now
+      c.args.ranks.now
+      c.args.node.0
+      c.loop-i.i
+      c.min-end.result
+      c.loop-i.found.items
+      c.visit_block.new.found.items
+      (omega (arith, c.loop-i-test.true, c.len.ensures, c.len-in-loop-i.ensures, c.saturating_add.ensures, c.min-end.ensures))
+      (omega (arith, c.len-in-loop-i.ensures, c.min-end.ensures))
+      c.loop-i.invariant.gathered
+      c.in_ok-visit_block.ensures.grows;
+  seen = c.in_ok-visit_block.ensures.seen;
+  steps = omega (arith, c.visit_block.ensures.steps, c.loop-i.invariant.steps);
+  later = omega (arith, c.visit_block.ensures.later, c.loop-i.invariant.later);
+}
 
 pub returns-clause-found : goal.returns-clause-found
 returns-clause-found g c =

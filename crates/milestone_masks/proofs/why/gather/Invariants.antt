@@ -1,5 +1,6 @@
 use Rattle.std.proofs.Common.{◌≤◌, ◌+◌, ◌-◌, length}
-use Rattle.milestone_masks.specs.Found.{AreSeen, IsGathered}
+use Rattle.milestone_masks.specs.Found.{AreSeen}
+use Rattle.milestone_masks.proofs.Gathered.{IsGathered}
 use Rattle.milestone_masks.proofs.why.gather.Given as goal
 
 abbrev pub invariant-loop-i : goal.invariant-loop-i
