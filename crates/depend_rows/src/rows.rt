@@ -186,10 +186,8 @@ fn rows_and_index<L>(
     let Ok(index) = Index::make(alloc, &book.game) else {
         return Err(RowsFault::NoMemory);
     };
-    match rows_up_to(alloc, book, &index, limit, steps) {
-        Ok(rows) => Ok((rows, index)),
-        Err(fault) => Err(fault),
-    }
+    let rows = rows_up_to(alloc, book, &index, limit, steps)?;
+    Ok((rows, index))
 }
 
 /// The row of every node, in order. Each row is one step.
