@@ -1,5 +1,5 @@
 -- An accepted edit does what it says and changes the book; one that is refused for changing nothing would change nothing.
-use Rattle.std.proofs.Common.{◌≡◌, ℕ, ◌+◌, ◌<◌, Bool, true, false, List, Option, Some, None, Result, Ok, Err, length, get_or, set, refl, sym, ap, ◌∙◌, nat_lt}
+use Rattle.std.proofs.Common.{◌≡◌, ℕ, ◌+◌, Bool, true, false, List, Option, Some, None, Result, Ok, Err, length, get_or, set, refl, sym, ap, ◌∙◌, nat_lt}
 use Rattle.std.specs.Prelude.{◌≢◌, slice_get, if◌then◌else◌}
 use Rattle.std.specs.Bool.{Decides}
 use Rattle.std.proofs.lemmas.List.{get_or-set_same, set-get_or}
@@ -23,8 +23,8 @@ use Rattle.data_edit.specs.declared.parts.Inverse.{Inverse}
 use Rattle.data_edit.specs.declared.parts.Inverse.TheVariants.{Recipe as OfRecipe, Unlocks, Barred, Granted}
 use Rattle.data_edit.specs.declared.parts.RecipePart.TheVariants.{Ingredients, Products, Time, Enabled}
 use Rattle.data_edit.specs.Lists.{is_fraction, is_part, is_product, is_unlock, part_key, plain_part, plain_product, product_key, same_lists, with_entry, without}
-use Rattle.data_edit.specs.Faults.{◌▸◌, changed_flag, changed_list, changed_time, known, known_below, positive}
-use Rattle.data_edit.specs.Edits.{effect, enabled_set, good_in, ingredients_dropped, ingredients_set, mark_set, products_dropped, products_set, recipe_in, restored, tech_in, time_set, unlocks_set, unlocks_switched, with_mark, with_recipe_part, with_unlocks}
+use Rattle.data_edit.specs.Faults.{◌▸◌, changed_flag, known, known_below, positive}
+use Rattle.data_edit.specs.Edits.{effect, enabled_set, ingredients_dropped, ingredients_set, mark_set, products_dropped, products_set, restored, time_set, unlocks_set, unlocks_switched, with_mark, with_recipe_part, with_unlocks}
 use Rattle.plan_base.specs.Places.{changed_at, with_at}
 use Rattle.data_edit.specs.CarriedOut.{Accepts, RefusesNoChange, carried_out}
 use Rattle.data_edit.proofs.Sameness.{Decides-fraction, Decides-lists, Decides-part, Decides-product, Decides-unlock}

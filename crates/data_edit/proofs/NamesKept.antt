@@ -1,10 +1,10 @@
 -- No edit changes which things there are and their names.
-use Rattle.std.proofs.Common.{◌≡◌, ℕ, List, Ok, length, refl, sym, ap, ◌∙◌, subst}
+use Rattle.std.proofs.Common.{◌≡◌, ℕ, List, Ok, length, refl, ap, subst}
 use Rattle.plan_base.specs.declared.shape.Shape.{Shape}
 use Rattle.plan_base.specs.declared.shape.Kind.{Kind}
 use Rattle.plan_base.specs.declared.shape.Kind.TheVariants.{Special, Item, Fluid, Recipe as RecipeKind, Source, Machine, Tech as TechKind}
 use Rattle.plan_base.proofs.Places.{length-with_at}
-use Rattle.game_types.specs.Nodes.{names_of, shape_of}
+use Rattle.game_types.specs.Nodes.{names_of}
 use Rattle.game_types.specs.declared.games.Game.{Game}
 use Rattle.game_types.specs.declared.recipes.Recipe.{Recipe}
 use Rattle.game_types.specs.declared.research.Tech.{Tech}

@@ -1,15 +1,14 @@
 -- An edit of a sound book leaves a sound book.
-use Rattle.std.proofs.Common.{◌≡◌, ℕ, ◌+◌, ◌<◌, ◌≤◌, ◌==◌, Bool, true, false, not, List, [], ◌∷◌, ◌++◌, Option, Some, None, Result, Ok, Err, length, set, get_or, refl, sym, ap, ◌∙◌, subst, cond, nat_lt, filter}
+use Rattle.std.proofs.Common.{◌≡◌, ℕ, ◌+◌, ◌<◌, ◌≤◌, ◌==◌, Bool, true, false, not, List, [], ◌∷◌, ◌++◌, Option, Some, None, Result, Ok, Err, length, refl, sym, ap, ◌∙◌, subst, nat_lt, filter}
 use Rattle.std.specs.Prelude.{IfSome, All, slice_get}
 use Rattle.std.proofs.lemmas.List.Elements.{All-nil, All-cons, All-head, All-tail, All-set, All-push, All-filter, All-weaker, All-get_or}
 use Rattle.fractions.specs.Fraction.{Fraction}
 use Rattle.plan_base.specs.Shape.{node_count}
 use Rattle.plan_base.specs.declared.GoodId.{GoodId}
-use Rattle.plan_base.specs.declared.NodeId.{NodeId}
 use Rattle.plan_base.specs.declared.RecipeId.{RecipeId}
 use Rattle.plan_base.specs.declared.TechId.{TechId}
 use Rattle.game_types.specs.Nodes.{node_limit, shape_of}
-use Rattle.game_types.specs.Sound.{IsItem, IsGood, IsFluid, IsSound, IsSoundItem, IsSoundModule, IsSoundRecipe, IsSoundSource, IsSoundKind, IsSoundEnergy, IsSoundBurning, IsSoundMachine, IsSoundTech}
+use Rattle.game_types.specs.Sound.{IsGood, IsSound, IsSoundItem, IsSoundModule, IsSoundRecipe, IsSoundSource, IsSoundKind, IsSoundEnergy, IsSoundMachine, IsSoundTech}
 use Rattle.game_types.specs.declared.games.Game.{Game}
 use Rattle.game_types.specs.declared.goods.Item.{Item}
 use Rattle.game_types.specs.declared.goods.Module.{Module}

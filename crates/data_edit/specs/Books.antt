@@ -1,5 +1,5 @@
 -- When a book is sound.
-use Rattle.std.specs.Prelude.{◌≡◌, ℕ, length}
+use Rattle.std.specs.Prelude.{◌≡◌, length}
 use Rattle.plan_base.specs.Shape.{node_count}
 use Rattle.game_types.specs.Nodes.{shape_of}
 use Rattle.game_types.specs.Sound.{IsSound}

@@ -1,6 +1,5 @@
 -- What an edit does to a book, whatever stood there before: the law of its effect.
-use Rattle.std.specs.Prelude.{◌≡◌, ◌≢◌, ℕ, Bool, true, false, Result, Ok, Err}
-use Rattle.fractions.specs.Fraction.{Fraction}
+use Rattle.std.specs.Prelude.{◌≡◌, ◌≢◌, true, false, Result, Ok, Err}
 use Rattle.plan_base.specs.declared.RecipeId.{RecipeId}
 use Rattle.plan_base.specs.declared.TechId.{TechId}
 use Rattle.game_types.specs.declared.recipes.Recipe.{Recipe}
@@ -11,7 +10,7 @@ use Rattle.data_edit.specs.declared.edits.Edit.TheVariants.{SetIngredient, DropI
 use Rattle.data_edit.specs.declared.edits.EditFault.{EditFault}
 use Rattle.data_edit.specs.declared.edits.EditFault.TheVariants.{NoChange}
 use Rattle.data_edit.specs.Lists.{part_key, plain_part, plain_product, product_key, with_entry, without}
-use Rattle.data_edit.specs.Edits.{effect, unlocks_switched}
+use Rattle.data_edit.specs.Edits.{unlocks_switched}
 use Rattle.plan_base.specs.Places.{with_at}
 
 -- the book with a recipe, a technology changed

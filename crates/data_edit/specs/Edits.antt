@@ -1,5 +1,5 @@
 -- What each edit does to a book. An edit changes one part of it, and every other part stays.
-use Rattle.std.specs.Prelude.{◌≡◌, ℕ, ◌+◌, Bool, true, false, List, length, Option, Some, None, Result, Ok, Err, slice_get}
+use Rattle.std.specs.Prelude.{◌≡◌, ◌+◌, Bool, true, false, List, length, Result, Ok, Err, slice_get}
 use Rattle.plan_base.specs.declared.denied.Denied.{Denied}
 use Rattle.plan_base.specs.Outcomes.{IsRefused}
 use Rattle.plan_base.specs.Places.{with_at}
@@ -8,7 +8,6 @@ use Rattle.plan_base.specs.declared.GoodId.{GoodId}
 use Rattle.plan_base.specs.declared.NodeId.{NodeId}
 use Rattle.plan_base.specs.declared.RecipeId.{RecipeId}
 use Rattle.plan_base.specs.declared.TechId.{TechId}
-use Rattle.game_types.specs.declared.games.Game.{Game}
 use Rattle.game_types.specs.declared.recipes.Part.{Part}
 use Rattle.game_types.specs.declared.recipes.Product.{Product}
 use Rattle.game_types.specs.declared.recipes.Recipe.{Recipe}

@@ -1,4 +1,4 @@
-use Rattle.std.proofs.Common.{◌≡◌, Ok, sym, subst}
+use Rattle.std.proofs.Common.{sym, subst}
 use Rattle.plan_base.specs.Outcomes.{Gives}
 use Rattle.data_edit.specs.Books.{IsSoundBook}
 use Rattle.data_edit.specs.Edits.{replacement}
