@@ -122,7 +122,7 @@ class Bench:
 def programs_that(session, others="exit 0"):
     """A folder of programs that do as a line of the shell says."""
     with tempfile.TemporaryDirectory() as room:
-        for name in ("factoplan", "factoplan_table", "factoplan_page", "factoplan_catalog", "factoplan_session"):
+        for name in ("factoplan", "factoplan_table", "factoplan_page", "factoplan_data", "factoplan_session"):
             path = os.path.join(room, name)
             with open(path, "w") as file:
                 file.write("#!/bin/sh\n%s\n" % (session if name == "factoplan_session" else others))

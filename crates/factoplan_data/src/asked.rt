@@ -36,7 +36,7 @@ pub fn first_command<'a>(alloc: Global) -> Result<Command<'a>, AllocError> {
         .arg(word(
             alloc,
             "WORD",
-            "json: the replies as JSON Lines; csv: the plan of a table; costs: what a unit of each good takes, as an estimate",
+            "json: the replies as JSON Lines; csv: the plan of a table; costs: what a unit of each good takes, as an estimate; catalog: the game, as JSON",
         ))
 }
 
@@ -88,6 +88,20 @@ pub fn costs_command<'a>(alloc: Global) -> Result<Command<'a>, AllocError> {
     command.arg(json)
 }
 
+/// The command for the catalog of a game.
+///
+/// # Errors
+///
+/// `AllocError` where memory could not be had.
+pub fn catalog_command<'a>(alloc: Global) -> Result<Command<'a>, AllocError> {
+    let command = command(
+        alloc,
+        "factoplan_data catalog",
+        "Prints the game of a dump, as the lines of a script leave it, as one object of JSON.",
+    )?;
+    command.arg(Arg::new(alloc, "SCRIPT").help(SCRIPT))
+}
+
 // The value of a word that must be there.
 fn value<'a>(matches: &ArgMatches<'a>, name: &str) -> &'a str {
     matches.get_str(name).unwrap_or("")
@@ -106,8 +120,8 @@ pub fn asked_table<'a>(matches: &ArgMatches<'a>) -> &'a str {
     value(matches, "TABLE")
 }
 
-/// The files for costs. The script may be left out.
-pub fn files_of_costs<'a>(matches: &ArgMatches<'a>) -> Names<'a> {
+/// The files that are asked for where the script may be left out.
+pub fn files_perhaps<'a>(matches: &ArgMatches<'a>) -> Names<'a> {
     Names {
         dump: value(matches, "DUMP"),
         script: matches.get_str("SCRIPT").unwrap_or(NO_SCRIPT),

@@ -1,17 +1,15 @@
-//! Writes the replies to a script as JSON, the plan of a table as CSV, and what a unit of each good takes, as an estimate.
+//! Writes the replies to a script as JSON, the plan of a table as CSV, what a unit of each good takes, as an estimate, and the game as one object of
+//! JSON.
 #![tactic(auto)]
 
 mod asked;
+mod catalog;
 mod costs;
 mod estimates;
 mod fault;
-mod fields;
 mod json;
 mod lines;
-mod record_texts;
-mod records;
 mod running;
-mod setups;
 mod table;
 mod texts;
 

@@ -1,8 +1,9 @@
 //! The runs of the program, from its words to its end.
 use crate::asked::{
-    asked_files, asked_form, asked_table, costs_command, csv_command, files_of_costs,
-    first_command, json_command, words_behind,
+    asked_files, asked_form, asked_table, catalog_command, costs_command, csv_command,
+    files_perhaps, first_command, json_command, words_behind,
 };
+use crate::catalog::{CatalogText, catalog_end};
 use crate::costs::{CostText, Form, costs_end};
 use crate::json::{ReplyLines, json_end};
 use crate::table::{TableText, table_end};
@@ -64,7 +65,7 @@ fn costs_run<R: Files + Print>(rt: &R, alloc: Global, names: Names<'_>, form: Fo
 }
 
 fn costs_asked<R: Files + Print>(rt: &R, alloc: Global, matches: &ArgMatches<'_>) -> End {
-    costs_run(rt, alloc, files_of_costs(matches), asked_form(matches))
+    costs_run(rt, alloc, files_perhaps(matches), asked_form(matches))
 }
 
 // What a unit of each good takes.
@@ -81,13 +82,35 @@ fn costs<R: Files + Print + Eprint>(
     }
 }
 
+fn catalog_run<R: Files + Print>(rt: &R, alloc: Global, names: Names<'_>) -> End {
+    let work = CatalogText { dump: names.dump };
+    match with_loaded(rt, alloc, names, &work) {
+        Ok(made) => catalog_end(rt, alloc, made, names),
+        Err(end) => end_of_run(rt, alloc, end, names),
+    }
+}
+
+// The game as one object.
+fn catalog<R: Files + Print + Eprint>(
+    rt: &R,
+    alloc: Global,
+    words: &[Text],
+) -> Result<End, NoMemory> {
+    let words = words_behind(alloc, words)?;
+    let command = catalog_command(alloc)?;
+    match command.try_get_matches_from(words.as_slice()) {
+        Ok(matches) => Ok(catalog_run(rt, alloc, files_perhaps(&matches))),
+        Err(error) => Ok(end_by_words(rt, &error)),
+    }
+}
+
 // The run of words of which none says what is to be written.
 fn other<R: Print + Eprint>(rt: &R, alloc: Global, words: &[Text]) -> Result<End, NoMemory> {
     let command = first_command(alloc)?;
     match command.try_get_matches_from(words) {
         Ok(_) => Ok(End::saying(
             alloc,
-            "factoplan_data: the first word is json, csv or costs\n",
+            "factoplan_data: the first word is json, csv, costs or catalog\n",
             WRONG_WORDS,
         )),
         Err(error) => Ok(end_by_words(rt, &error)),
@@ -108,6 +131,7 @@ pub fn run<R: Files + Print + Eprint>(
         [_, first, rest @ ..] if first.as_str() == "json" => json(rt, alloc, rest),
         [_, first, rest @ ..] if first.as_str() == "csv" => csv(rt, alloc, rest),
         [_, first, rest @ ..] if first.as_str() == "costs" => costs(rt, alloc, rest),
+        [_, first, rest @ ..] if first.as_str() == "catalog" => catalog(rt, alloc, rest),
         _ => other(rt, alloc, words),
     }
 }

@@ -4,11 +4,11 @@ ghost use Rattle.game_types.specs.Sound.{IsSound};
 
 use crate::fault::{PlanFault, end_by_fault};
 use crate::lines::carry_out;
-use crate::record_texts::{Solved, plan_text};
 use game_types::Game;
 use linear_table::{Column, SolveAnswer};
 use plan_base::{GoodId, NoMemory, Steps, Text};
 use plan_lines::{Command, Figures, RefusalCode, Reply};
+use plan_records::{Solved, plan_text};
 use planner_core::Planner;
 use production_table::Table;
 use program_runs::{End, Names, Work, close_batch, written};

@@ -3,18 +3,18 @@ ghost use Rattle.std.specs.Prelude.{◌≡◌, ◌++◌, ◌∷◌, [], IfOk, On
 ghost use Rattle.std.specs.List.{flat_map};
 ghost use Rattle.csv.specs.Records.{fields_of};
 ghost use Rattle.game_types.specs.Sound.{IsSound};
-ghost use Rattle.factoplan_data.specs.Texts.{record_text};
+ghost use Rattle.plan_records.specs.Texts.{record_text};
 ghost use Rattle.serde_json.specs.View.{members_view};
 ghost use Rattle.catalog_members.specs.Texts.{IsTextOf};
 ghost use Rattle.factoplan_data.specs.Costs.{cost_fields, cost_value, costs_text, estimate_fields};
 
 use crate::estimates::Cost;
-use crate::record_texts::record_text;
 use catalog_members::text_of;
 use csv::StringRecord;
 use fractions::Ratio;
 use game_types::Game;
 use plan_base::NoMemory;
+use plan_records::record_text;
 use report_json::{decimal_of, good_id, put_figure, put_good};
 use serde_json::Map;
 use std::alloc::Global;

@@ -1,5 +1,5 @@
 use Rattle.plan_report.proofs.Texts.{TextSoFar}
-use Rattle.factoplan_data.specs.Texts.{record_text}
+use Rattle.plan_records.specs.Texts.{record_text}
 use Rattle.factoplan_data.specs.Costs.{cost_fields}
 use Rattle.factoplan_data.proofs.texts.records_text.Given as goal
 

@@ -1,7 +1,0 @@
-use Rattle.plan_report.proofs.Texts.{TextSoFar}
-use Rattle.factoplan_data.specs.Records.{want_of}
-use Rattle.factoplan_data.specs.Texts.{record_text}
-use Rattle.factoplan_data.proofs.record_texts.wants_text.Given as goal
-
-abbrev pub invariant-loop-want : goal.invariant-loop-want
-invariant-loop-want l = TextSoFar record_text (want_of l.game) l.wants l.want-index l.text.items
