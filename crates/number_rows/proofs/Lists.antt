@@ -132,7 +132,7 @@ combined_within old other new s s' f f' m n r e es ef ho hn len h = λ k lt.
 pub same_combined : (old other new : List ℤ) (s s' f f' : ℤ) → s' ≡ s → f' ≡ f → IsCombined old s' other f' new → IsCombined old s other f new
 same_combined old other new s s' f f' es ef h = subst (λ (a : ℤ). IsCombined old a other f new) es (subst (λ (a : ℤ). IsCombined old s' other a new) ef h)
 
-times_one : (t : ℤ) → t *ℤ pos 1 ≡ t
+pub times_one : (t : ℤ) → t *ℤ pos 1 ≡ t
 times_one t = omega (arith, ints)
 
 -- scaled first, and combined by a scale of 1 then

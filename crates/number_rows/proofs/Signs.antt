@@ -13,7 +13,7 @@ use Rattle.fractions.specs.Fracs.{frac_eq, cross_from_same, zero-frac}
 use Rattle.fractions.proofs.Order.{positive_frac, positive_of_frac, nonneg_frac, <ʳ_not_≤ʳ, ≤ʳ_refl}
 use Rattle.fractions.proofs.Compare.{match_map}
 use Rattle.fractions.proofs.Parts.{whole_back}
-use Rattle.number_rows.proofs.Lists.{wrap, back}
+use Rattle.number_rows.proofs.Lists.{wrap, back, times_one}
 use Rattle.number_rows.proofs.Short.{quotient_is, frac_lt}
 
 pub above_by : (x : Fraction) (t : ℤ) (b : ℕ) → 0 < b → unsigned_abs t < 2 ^ 62 → x ≡ frac t b → IsTrue (lt_z (pos 0) (wrap t)) ↔ (zero_fraction <ʳ x)
@@ -21,9 +21,6 @@ above_by x t b p h e =
     subst (λ (k : ℤ). IsTrue (lt_z (pos 0) k) ↔ (zero_fraction <ʳ x)) (sym (back t (omega (arith, h))))
     (subst (λ (y : Fraction). IsTrue (lt_z (pos 0) t) ↔ (zero_fraction <ʳ y)) (sym e)
     (λ k. positive_frac t b p (below_in (pos 0) t (lt-true (pos 0) t k)), λ k. sym (true_is_lt (pos 0) t (lt_out (pos 0) t (positive_of_frac t b p k)))))
-
-times_one : (t : ℤ) → t *ℤ pos 1 ≡ t
-times_one t = omega (arith, ints)
 
 none_times : (b : ℕ) → pos 0 *ℤ pos b ≡ pos 0
 none_times b = omega (arith, ints)

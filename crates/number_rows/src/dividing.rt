@@ -5,11 +5,14 @@ ghost use Rattle.std.specs.Prelude.{◌≡◌, ◌<◌, ◌*◌, ◌%◌, ◌^�
 use crate::tops::{LIMIT, long_product};
 
 /// The inverse of an odd number modulo 2^64. To the caller it is a guess, like all that is computed by it: five bits are right at
-/// first, and each step brings twice as many right.
+/// first, and each step brings twice as many right. What 1 is more than the product of both is squared by each step, so that it
+/// needn't be computed of the inverse.
 pub fn likely_inverse(odd: u64) -> u64 {
     let mut inverse = odd.wrapping_mul(3) ^ 2;
+    let mut left = 1u64.wrapping_sub(odd.wrapping_mul(inverse));
     for _step in 0..4 {
-        inverse = inverse.wrapping_mul(2u64.wrapping_sub(odd.wrapping_mul(inverse)));
+        inverse = inverse.wrapping_mul(left.wrapping_add(1));
+        left = left.wrapping_mul(left);
     }
     inverse
 }

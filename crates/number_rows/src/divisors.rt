@@ -34,7 +34,7 @@ pub fn likely_divisor(first: u64, second: u64) -> u64 {
         if b == 1 {
             return 1 << shift;
         }
-        let zeros = a.wrapping_sub(b).trailing_zeros() % 64;
+        let zeros = b.wrapping_sub(a).trailing_zeros() % 64;
         let rest = if a < b { b - a } else { a - b };
         b = if a < b { a } else { b };
         a = rest >> zeros;

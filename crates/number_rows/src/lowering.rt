@@ -7,8 +7,8 @@ ghost use Rattle.number_rows.specs.Places.{HoldsBut};
 ghost use Rattle.number_rows.specs.Tops.{top_at, AreWithinBelow, IsLowered};
 ghost use Rattle.number_rows.specs.Lowered.{IsLoweredBelow, IsRaised};
 
-use crate::dividing::{exact_quotient, likely_inverse, rest_by, small_quotient};
-use crate::sharing::Shared;
+use crate::dividing::{exact_quotient, likely_inverse, small_quotient};
+use crate::sharing::{Part, Shared};
 use crate::tops::{cover, long_combined, product_keeps_within};
 
 /// Quotients by a divisor: how great their magnitudes are at most.
@@ -123,13 +123,17 @@ fn lower(quotients: &mut [i64], number: i128, k: usize, over: Over) -> Option<Ov
     ensures length_is { length quotients.new ≡ length quotients.old }
     ensures raised { IfSome result (λ next. IsRaised over.divisor over.bound quotients.old k next.divisor next.bound quotients.new) }
 {
-    let rest = rest_by(number, over.divisor) as i64;
-    let shared = Shared::likely(rest, over.divisor);
-    if !shared.is_of(rest, over.divisor) || !product_keeps_within(over.bound, shared.scale) {
+    let part = Part::likely(number, over.divisor, over.shift % 64, over.inverse);
+    if !part.is_of(over.divisor) || !product_keeps_within(over.bound, part.beside) {
         return None;
     }
-    raise_first(quotients, k, shared.scale);
-    Some(Over::new(shared.common, over.bound * shared.scale))
+    raise_first(quotients, k, part.beside);
+    Some(Over {
+        divisor: part.divisor,
+        bound: over.bound * part.beside,
+        shift: part.shift,
+        inverse: part.inverse,
+    })
 }
 
 // Writes one quotient more. Where the divisor leaves a rest, it and the quotients before are changed so that it doesn't.

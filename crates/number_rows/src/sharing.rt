@@ -1,12 +1,28 @@
 //! What a number and a denominator have in common.
 
-ghost use Rattle.std.specs.Prelude.{◌<◌, ◌^◌, unsigned_abs};
+ghost use Rattle.std.specs.Prelude.{◌≡◌, ◌<◌, ◌*◌, ◌^◌, unsigned_abs};
 ghost use Rattle.std.specs.Bool.{OnTrue};
 ghost use Rattle.number_rows.specs.Shared.{IsShared};
 
 use crate::dividing::likely_inverse;
 use crate::divisors::likely_divisor;
 use crate::tops::{LIMIT, long_product};
+
+// The greatest common divisor of two numbers other than 0, of which one is mostly longer, and often a multiple of the other. To
+// the caller it is a guess.
+fn likely_common(first: u64, second: u64) -> u64
+    requires first { 0 < first }
+    requires second { 0 < second }
+{
+    let longer = if first < second { second } else { first };
+    let shorter = if first < second { first } else { second };
+    let rest = longer % shorter;
+    if rest == 0 {
+        shorter
+    } else {
+        likely_divisor(rest, shorter)
+    }
+}
 
 /// What a number and a denominator have in common, and what each is beside it: `scale` the denominator, `factor` the number.
 #[derive(Clone, Copy)]
@@ -39,13 +55,7 @@ impl Shared {
             };
         }
         let magnitude = top.unsigned_abs();
-        // (Numbers are mostly longer than denominators, and often multiples of them.)
-        let rest = magnitude % bottom;
-        let common = if rest == 0 {
-            bottom
-        } else {
-            likely_divisor(rest, bottom)
-        };
+        let common = likely_common(magnitude, bottom);
         if common == 1 {
             return Shared::nothing(top, bottom);
         }
@@ -75,5 +85,60 @@ impl Shared {
             && self.factor.unsigned_abs() < LIMIT
             && long_product(self.scale as i64, self.common as i64) == bottom as i128
             && long_product(self.factor, self.common as i64) == top as i128
+    }
+}
+
+/// A divisor of a natural, and what the natural is beside it, with what dividing by the divisor takes: the number of zeros that
+/// it ends in, and the inverse of its part beside them.
+#[derive(Clone, Copy)]
+pub struct Part {
+    pub divisor: u64,
+    pub beside: u64,
+    pub shift: u32,
+    pub inverse: u64,
+}
+
+impl Part {
+    /// What a number and a natural have in common, of which the shift and the inverse are known. To the caller it is a guess.
+    ///
+    /// The number less a multiple of the natural's odd part is a multiple of 2^64, and what it is times 2^64 has as much in common
+    /// with that part as the number has: so no division is wanted.
+    pub fn likely(number: i128, natural: u64, shift: u32, inverse: u64) -> Part
+        requires { shift < 64 }
+    {
+        let whole = number.cast_unsigned();
+        let low = (whole % (1 << 64)) as u64;
+        let high = ((whole >> 64) % (1 << 64)) as u64;
+        let odd = natural >> shift;
+        let multiple = low.wrapping_mul(inverse) as u128 * odd as u128;
+        let carried = ((multiple >> 64) % (1 << 64)) as u64;
+        let left = high.wrapping_sub(carried).cast_signed().unsigned_abs();
+        let common = if left == 0 {
+            odd
+        } else {
+            likely_divisor(left, odd)
+        };
+        Part::of(natural, common << ((low | natural).trailing_zeros() % 64))
+    }
+
+    // A divisor of a natural, and the natural beside it.
+    fn of(natural: u64, divisor: u64) -> Part {
+        let shift = divisor.trailing_zeros() % 64;
+        let inverse = likely_inverse(divisor >> shift);
+        Part {
+            divisor,
+            beside: (natural >> shift).wrapping_mul(inverse),
+            shift,
+            inverse,
+        }
+    }
+
+    /// Whether this is a divisor of the natural, and what that is beside it.
+    pub fn is_of(&self, natural: u64) -> bool
+        ensures { OnTrue result ((self.now.beside * self.now.divisor ≡ natural) × (self.now.divisor < 2 ^ 62) × (self.now.beside < 2 ^ 62)) }
+    {
+        self.divisor < LIMIT
+            && self.beside < LIMIT
+            && self.beside as u128 * self.divisor as u128 == natural as u128
     }
 }

@@ -155,8 +155,8 @@ pub fn combine(
     most
 }
 
-/// How great the magnitudes are at most.
-pub fn greatest(tops: &[i64]) -> u64
+/// A bound of the magnitudes, which has as many bits as the greatest of them.
+pub fn covering_bound(tops: &[i64]) -> u64
     requires { (k : ℕ) → k < length tops.now → unsigned_abs (top_at tops.now k) < 2 ^ 62 }
     ensures within { AreWithin tops.now result }
     ensures small { result < 2 ^ 62 }
@@ -194,8 +194,8 @@ pub fn keeps_within(bound: u64, scale: u64, other_bound: u64, factor: u64, botto
     first + second < LIMIT as u128 && bottom < LIMIT as u128
 }
 
-/// A bound of numbers that keeps such products within the limit: the one that is known, or the least one, which is looked for
-/// where the known one isn't that.
+/// A bound of numbers that keeps such products within the limit: the one that is known, or one of as many bits as the greatest
+/// magnitude has, which is looked for where the known one isn't tight.
 pub fn fitting_bound(
     tops: &[i64],
     bound: u64,
@@ -219,9 +219,9 @@ pub fn fitting_bound(
     if tight {
         return None;
     }
-    let least = greatest(tops);
-    if keeps_within(least, scale, other_bound, factor, bottom) {
-        return Some(least);
+    let covering = covering_bound(tops);
+    if keeps_within(covering, scale, other_bound, factor, bottom) {
+        return Some(covering);
     }
     None
 }

@@ -1,7 +1,7 @@
 use Rattle.std.proofs.Common.{◌≡◌, ◌∙◌, ap, arith, unsigned_abs}
 use Rattle.number_rows.specs.Tops.{top_at}
 use Rattle.number_rows.proofs.Lists.{back, within_one}
-use Rattle.number_rows.proofs.tops.greatest.Goals as goal
+use Rattle.number_rows.proofs.tops.covering_bound.Goals as goal
 
 pub loop-k-preserved : goal.loop-k-preserved
 loop-k-preserved c =
