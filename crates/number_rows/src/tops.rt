@@ -195,7 +195,7 @@ pub fn keeps_within(bound: u64, scale: u64, other_bound: u64, factor: u64, botto
 }
 
 /// A bound of numbers that keeps such products within the limit: the one that is known, or one of as many bits as the greatest
-/// magnitude has, which is looked for where the known one isn't tight.
+/// magnitude has, which is looked for where the known one isn't tight, and where the other products leave room.
 pub fn fitting_bound(
     tops: &[i64],
     bound: u64,
@@ -216,7 +216,7 @@ pub fn fitting_bound(
     if keeps_within(bound, scale, other_bound, factor, bottom) {
         return Some(bound);
     }
-    if tight {
+    if tight || !keeps_within(0, scale, other_bound, factor, bottom) {
         return None;
     }
     let covering = covering_bound(tops);
