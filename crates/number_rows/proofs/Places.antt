@@ -2,7 +2,7 @@
 use Rattle.std.specs.Prelude.{◌≡◌, ℕ, zero, suc, ◌+◌, ◌-◌, ◌<◌, ◌≤◌, List, [], ◌∷◌, ◌++◌, length, slice_index_or}
 use Rattle.std.proofs.Common.{refl, sym, subst, arith, below_more, set, take, drop}
 use Rattle.std.proofs.lemmas.List.{take_all, take-set, take_more_set}
-use Rattle.number_rows.specs.Places.{HoldsBut}
+use Rattle.number_rows.specs.Places.{HoldsBut, FailsAt}
 
 -- one number more, where the property holds or not
 pub but_holds : (P : ℕ → Type 0) (from : ℕ) (places : List ℕ) (n : ℕ) → P n → HoldsBut P from places n → HoldsBut P from places (n + 1)
@@ -22,6 +22,23 @@ place_written P places count zero k le lt most here h =
 place_written P places count (suc zero) k le lt most here h =
     subst (λ (l : List ℕ). HoldsBut P 0 l (k + 1)) (sym (take_more_set places count k (omega (arith, le, lt)))) (but_fails P 0 (take count places) k (omega arith) h)
 place_written P places count (suc (suc one)) k le lt most here h = absurd (omega (arith, most))
+
+-- the places at which a property fails, with one more
+pub fails_append : (P : ℕ → Type 0) (places : List ℕ) (k : ℕ) → ¬ P k → FailsAt P places → FailsAt P (places ++ k ∷ [])
+fails_append P [] k some h = (some, tt)
+fails_append P (place ∷ places) k some h = (h.0, fails_append P places k some h.1)
+
+pub fails_written : (P : ℕ → Type 0) (places : List ℕ) (count one k : ℕ) → count < length places → one ≤ 1 → (0 < one → ¬ P k) → FailsAt P (take count places) → FailsAt P (take (count + one) (set places count k))
+fails_written P places count zero k lt most some h =
+    let same : count ≡ count + 0 = omega arith in
+    subst (λ (n : ℕ). FailsAt P (take n (set places count k))) same (subst (FailsAt P) (sym (take-set places count k)) h)
+fails_written P places count (suc zero) k lt most some h =
+    subst (FailsAt P) (sym (take_more_set places count k lt)) (fails_append P (take count places) k (some (omega arith)) h)
+fails_written P places count (suc (suc one)) k lt most some h = absurd (omega (arith, most))
+
+pub fails_map : (P Q : ℕ → Type 0) (places : List ℕ) → ((k : ℕ) → Q k → P k) → FailsAt P places → FailsAt Q places
+fails_map P Q [] f h = tt
+fails_map P Q (place ∷ places) f h = (λ q. h.0 (f place q), fails_map P Q places f h.1)
 
 -- another property that the first gives
 pub but_map : (P Q : ℕ → Type 0) (from : ℕ) (places : List ℕ) (n : ℕ) → ((k : ℕ) → k < n → P k → Q k) → HoldsBut P from places n → HoldsBut Q from places n

@@ -1,5 +1,5 @@
 -- The places of a row at which its numbers aren't 0.
-use Rattle.std.specs.Prelude.{◌≡◌, ℕ, ◌+◌, ◌<◌, ◌≤◌, List, [], ◌∷◌, length}
+use Rattle.std.specs.Prelude.{◌≡◌, ℕ, ◌+◌, ◌<◌, ◌≤◌, List, [], ◌∷◌, length, ⊤}
 use Rattle.fractions.specs.Fraction.{Fraction, zero_fraction}
 use Rattle.linear_table.specs.Plans.{number_at}
 
@@ -7,6 +7,11 @@ use Rattle.linear_table.specs.Plans.{number_at}
 abbrev pub HoldsBut : (ℕ → Type 0) → ℕ → List ℕ → ℕ → Type 0
 HoldsBut P from [] n = (k : ℕ) → from ≤ k → k < n → P k
 HoldsBut P from (place ∷ places) n = (from ≤ place) × (place < n) × ((k : ℕ) → from ≤ k → k < place → P k) × HoldsBut P (place + 1) places n
+
+-- the property fails at each of the places
+abbrev pub FailsAt : (ℕ → Type 0) → List ℕ → Type 0
+FailsAt P [] = ⊤
+FailsAt P (place ∷ places) = (¬ P place) × FailsAt P places
 
 -- all numbers but those at the places are 0
 abbrev pub AreFilled : List ℕ → List Fraction → Type 0

@@ -3,7 +3,7 @@
 ghost use Rattle.std.specs.Prelude.{◌≡◌, ℕ, ◌+◌, ◌*◌, ◌<◌, ◌≤◌, ◌^◌, pos, ◌*ℤ◌, length, IfSome, unsigned_abs};
 ghost use Rattle.std.specs.Int.{◌∣◌};
 ghost use Rattle.std.proofs.Common.{take};
-ghost use Rattle.number_rows.specs.Places.{HoldsBut};
+ghost use Rattle.number_rows.specs.Places.{HoldsBut, FailsAt};
 ghost use Rattle.number_rows.specs.Tops.{top_at, AreWithinBelow, IsLowered};
 ghost use Rattle.number_rows.specs.Lowered.{IsLoweredBelow, IsRaised};
 
@@ -70,6 +70,7 @@ pub fn write_places(places: &mut [usize], tops: &[i64], others: &[i64]) -> usize
     ensures length_is { length places.new ≡ length places.old }
     ensures inside { result ≤ length places.old }
     ensures places { HoldsBut (λ k. (top_at tops.now k ≡ pos 0) × (top_at others.now k ≡ pos 0)) 0 (take result places.new) (length tops.now) }
+    ensures only { FailsAt (λ k. (top_at tops.now k ≡ pos 0) × (top_at others.now k ≡ pos 0)) (take result places.new) }
 {
     let mut count = 0;
     for k in 0..tops.len() {
@@ -83,6 +84,7 @@ pub fn write_places(places: &mut [usize], tops: &[i64], others: &[i64]) -> usize
 fn one_of(top: i64, other: i64) -> usize
     ensures most { result ≤ 1 }
     ensures none { result ≡ 0 → (top ≡ pos 0) × (other ≡ pos 0) }
+    ensures some { 0 < result → ¬ ((top ≡ pos 0) × (other ≡ pos 0)) }
 {
     if top != 0 || other != 0 { 1 } else { 0 }
 }

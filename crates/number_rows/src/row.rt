@@ -6,7 +6,7 @@ ghost use Rattle.fractions.specs.Fraction.{zero_fraction, ◌/ʳ◌, ◌<ʳ◌};
 ghost use Rattle.fractions.specs.Limits.{IsNarrow};
 ghost use Rattle.linear_table.specs.Plans.{number_at};
 ghost use Rattle.number_rows.specs.Changed.{IsDividedRow};
-ghost use Rattle.number_rows.specs.Places.{AreFilled, HoldsBut};
+ghost use Rattle.number_rows.specs.Places.{AreFilled, HoldsBut, FailsAt};
 ghost use Rattle.number_rows.specs.Row.{kept};
 ghost use Rattle.number_rows.specs.Tops.{top_at};
 
@@ -60,7 +60,8 @@ pub(crate) fn zeros(alloc: Global, count: usize) -> Result<Vec<i64>, NoMemory>
 // The places at which whole numbers aren't 0, in rising order.
 fn listed_places(alloc: Global, tops: &[i64]) -> Result<Vec<usize>, NoMemory>
     requires { (k : ℕ) → k < length tops.now → unsigned_abs (top_at tops.now k) < 2 ^ 62 }
-    ensures { IfOk result (λ places. HoldsBut (λ k. (top_at tops.now k ≡ pos 0) × (top_at tops.now k ≡ pos 0)) 0 places.items (length tops.now)) }
+    ensures filled { IfOk result (λ places. HoldsBut (λ k. top_at tops.now k ≡ pos 0) 0 places.items (length tops.now)) }
+    ensures only { IfOk result (λ places. FailsAt (λ k. top_at tops.now k ≡ pos 0) places.items) }
 {
     let mut places = vec![in alloc; 0usize; tops.len()]?;
     let count = write_places(&mut places, tops, tops);
@@ -177,7 +178,8 @@ impl NumberRow {
     ///
     /// `NoMemory` where memory could not be had.
     pub fn filled_places(&self, alloc: Global) -> Result<Vec<usize>, NoMemory>
-        ensures { IfOk result (λ places. AreFilled places.items self.now.items) }
+        ensures filled { IfOk result (λ places. AreFilled places.items self.now.items) }
+        ensures only { IfOk result (λ places. FailsAt (λ k. number_at self.now.items k ≡ zero_fraction) places.items) }
     {
         if self.short {
             return listed_places(alloc, &self.tops);
