@@ -219,6 +219,46 @@ impl NumberRow {
         Ok(reduced)
     }
 
+    // The same where its number at `enter` isn't 0. It is kept out of its caller, in which most rows, whose number there is 0, are
+    // soon done with.
+    #[inline(never)]
+    fn reduce_filled(
+        &mut self,
+        alloc: Global,
+        enter: usize,
+        pivot_row: &NumberRow,
+        places: &[usize],
+        room: &mut [usize],
+    ) -> Result<Result<(), usize>, NoMemory>
+        requires inside { enter < length self.old.items }
+        requires width { length self.old.items ≡ length pivot_row.now.items }
+        requires narrow { AreNarrow self.old.items }
+        requires places { AreFilled places.now pivot_row.now.items }
+        requires room { length room.old ≡ length self.old.items }
+        ensures room { length room.new ≡ length room.old }
+        ensures ok { IfOk result (λ reduced. OnOk reduced (IsReducedRow self.old.items (number_at self.old.items enter) pivot_row.now.items self.new.items)) }
+        ensures err { IfOk result (λ reduced. IfErr reduced (λ k. (k < length self.old.items) × ¬ LessFits (number_at self.old.items k) (number_at self.old.items enter) (number_at pivot_row.now.items k))) }
+    {
+        let shared = self.likely_shared(enter, pivot_row);
+        if self.reduce_short(enter, pivot_row, places, shared) {
+            return Ok(Ok(()));
+        }
+        if self.reduce_over(enter, pivot_row, shared, room) {
+            return Ok(Ok(()));
+        }
+        if self.reduce_wide(alloc, enter, pivot_row)? {
+            self.shorten();
+            return Ok(Ok(()));
+        }
+        match self.reduce_long(alloc, enter, pivot_row)? {
+            Ok(()) => {
+                self.shorten();
+                Ok(Ok(()))
+            }
+            Err(place) => Ok(Err(place)),
+        }
+    }
+
     /// Takes its number at `enter` times the pivot's row from a row, or says which number that makes wide. The pivot's row isn't 0
     /// at the places. What stands in the room is no matter.
     ///
@@ -245,23 +285,6 @@ impl NumberRow {
         if self.is_zero(enter) {
             return Ok(Ok(()));
         }
-        let shared = self.likely_shared(enter, pivot_row);
-        if self.reduce_short(enter, pivot_row, places, shared) {
-            return Ok(Ok(()));
-        }
-        if self.reduce_over(enter, pivot_row, shared, room) {
-            return Ok(Ok(()));
-        }
-        if self.reduce_wide(alloc, enter, pivot_row)? {
-            self.shorten();
-            return Ok(Ok(()));
-        }
-        match self.reduce_long(alloc, enter, pivot_row)? {
-            Ok(()) => {
-                self.shorten();
-                Ok(Ok(()))
-            }
-            Err(place) => Ok(Err(place)),
-        }
+        self.reduce_filled(alloc, enter, pivot_row, places, room)
     }
 }
