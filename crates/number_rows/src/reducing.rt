@@ -60,7 +60,7 @@ impl NumberRow {
         requires { enter < length self.now.items }
     {
         if self.short && pivot_row.short {
-            Shared::likely(self.tops[enter], pivot_row.bottom)
+            Shared::likely_by(self.tops[enter], pivot_row.bottom, pivot_row.inverse)
         } else {
             Shared::nothing(0, 1)
         }

@@ -10,6 +10,7 @@ ghost use Rattle.number_rows.specs.Places.{AreFilled, HoldsBut, FailsAt};
 ghost use Rattle.number_rows.specs.Row.{kept};
 ghost use Rattle.number_rows.specs.Tops.{top_at};
 
+use crate::dividing::likely_inverse;
 use crate::long::{Long, short_form};
 use crate::lowering::{combine_lowered, write_places};
 use crate::tops::{LIMIT, long_product, turn_all};
@@ -22,11 +23,13 @@ use std::mem;
 
 /// A row of fractions. It is kept as whole numbers over one denominator, which take few steps to add and multiply, wherever
 /// these are below 2^62, else as whole numbers of 128 bits, and each as a fraction where these don't fit. No number of a short
-/// row is greater than its bound, and one has as many bits where it is tight.
+/// row is greater than its bound, and one has as many bits where it is tight. After a division the inverse is that of the
+/// denominator's odd part modulo 2^64, of which nothing is known: what is computed by it is a guess.
 #[derive(Drop)]
 pub struct NumberRow {
     pub(crate) short: bool,
     pub(crate) bottom: u64,
+    pub(crate) inverse: u64,
     pub(crate) bound: u64,
     pub(crate) tight: bool,
     pub(crate) tops: Vec<i64>,
@@ -77,6 +80,7 @@ impl NumberRow {
         NumberRow {
             short: false,
             bottom: 1,
+            inverse: 1,
             bound: 0,
             tight: false,
             tops: Vec::new(alloc),
@@ -99,6 +103,7 @@ impl NumberRow {
             Some(short) => Ok(NumberRow {
                 short: true,
                 bottom: short.bottom,
+                inverse: 1,
                 bound: short.bound,
                 tight: false,
                 tops,
@@ -108,6 +113,7 @@ impl NumberRow {
             None => Ok(NumberRow {
                 short: false,
                 bottom: 1,
+                inverse: 1,
                 bound: LIMIT - 1,
                 tight: false,
                 tops,
@@ -238,6 +244,13 @@ impl NumberRow {
         self.bottom = self.bottom / lowered.divisor;
     }
 
+    // Keeps the inverse of the denominator's odd part.
+    fn find_inverse(&mut self)
+        ensures { self.new ≡ self.old }
+    {
+        self.inverse = likely_inverse(self.bottom >> (self.bottom.trailing_zeros() % 64));
+    }
+
     // Makes a row short, where it fits.
     pub(crate) fn shorten(&mut self)
         ensures { self.new ≡ self.old }
@@ -269,6 +282,7 @@ impl NumberRow {
             turn_all(&mut self.tops, pivot < 0);
             self.bottom = pivot.unsigned_abs();
             self.cancel(room);
+            self.find_inverse();
             return Ok(());
         }
         match self.numbers.divide(enter) {

@@ -24,6 +24,15 @@ fn likely_common(first: u64, second: u64) -> u64
     }
 }
 
+// What is left of a number, which stands in two halves, by an odd natural of which the inverse is known: the number less a
+// multiple of the natural is a multiple of 2^64, and what it is times 2^64 has as much in common with the natural as the number
+// has. So nothing is divided.
+fn likely_left(low: u64, high: u64, odd: u64, inverse: u64) -> u64 {
+    let multiple = low.wrapping_mul(inverse) as u128 * odd as u128;
+    let carried = ((multiple >> 64) % (1 << 64)) as u64;
+    high.wrapping_sub(carried).cast_signed().unsigned_abs()
+}
+
 /// What a number and a denominator have in common, and what each is beside it: `scale` the denominator, `factor` the number.
 #[derive(Clone, Copy)]
 pub struct Shared {
@@ -54,14 +63,39 @@ impl Shared {
                 factor: 0,
             };
         }
-        let magnitude = top.unsigned_abs();
-        let common = likely_common(magnitude, bottom);
+        let common = likely_common(top.unsigned_abs(), bottom);
         if common == 1 {
             return Shared::nothing(top, bottom);
         }
+        let odd = common >> (common.trailing_zeros() % 64);
+        Shared::of(top, bottom, common, likely_inverse(odd))
+    }
+
+    /// The same where the inverse of the denominator's odd part is known.
+    pub fn likely_by(top: i64, bottom: u64, inverse: u64) -> Shared {
+        if bottom <= 1 || top == 1 || top == -1 {
+            return Shared::nothing(top, bottom);
+        }
+        let magnitude = top.unsigned_abs();
+        let odd = bottom >> (bottom.trailing_zeros() % 64);
+        let left = likely_left(magnitude, 0, odd, inverse);
+        let zeros = (magnitude | bottom).trailing_zeros() % 64;
+        if left == 0 {
+            return Shared::of(top, bottom, odd << zeros, inverse);
+        }
+        let common = likely_divisor(left, odd);
+        if common << zeros == 1 {
+            return Shared::nothing(top, bottom);
+        }
+        Shared::of(top, bottom, common << zeros, likely_inverse(common))
+    }
+
+    // What a number and a denominator are beside a divisor of both, whose odd part has the inverse.
+    fn of(top: i64, bottom: u64, common: u64, inverse: u64) -> Shared {
         let shift = common.trailing_zeros() % 64;
-        let inverse = likely_inverse(common >> shift);
-        let factor = (magnitude >> shift).wrapping_mul(inverse).cast_signed();
+        let factor = (top.unsigned_abs() >> shift)
+            .wrapping_mul(inverse)
+            .cast_signed();
         Shared {
             common,
             scale: (bottom >> shift).wrapping_mul(inverse),
@@ -100,9 +134,6 @@ pub struct Part {
 
 impl Part {
     /// What a number and a natural have in common, of which the shift and the inverse are known. To the caller it is a guess.
-    ///
-    /// The number less a multiple of the natural's odd part is a multiple of 2^64, and what it is times 2^64 has as much in common
-    /// with that part as the number has: so no division is wanted.
     pub fn likely(number: i128, natural: u64, shift: u32, inverse: u64) -> Part
         requires { shift < 64 }
     {
@@ -110,9 +141,7 @@ impl Part {
         let low = (whole % (1 << 64)) as u64;
         let high = ((whole >> 64) % (1 << 64)) as u64;
         let odd = natural >> shift;
-        let multiple = low.wrapping_mul(inverse) as u128 * odd as u128;
-        let carried = ((multiple >> 64) % (1 << 64)) as u64;
-        let left = high.wrapping_sub(carried).cast_signed().unsigned_abs();
+        let left = likely_left(low, high, odd, inverse);
         let common = if left == 0 {
             odd
         } else {

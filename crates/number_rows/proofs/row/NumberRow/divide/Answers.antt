@@ -54,9 +54,9 @@ returns-then-self-clause-ok c =
     let len : length d.new.tops ≡ length r.tops.items = d.ensures.length_is ∙ ap (λ (ts : List ℤ). length ts) old in
     let z : Bool = lt_z (wrap c.index-pivot.result.now) (pos 0) in
     let turned : IsTurned r.tops.items z d.new.tops = subst (λ (ts : List ℤ). IsTurned ts z d.new.tops) old d.ensures in
-    divided_row r.short r.bottom c.unsigned_abs-self-inside.result r.bound r.tops.items d.new.tops r.numbers.items xs c.cancel.new.self c.args.enter z c.self.view_is c.if-self.true c.self.invariant inside c.requires.not_zero
+    divided_row r.short r.bottom c.unsigned_abs-self-inside.result r.bound r.tops.items d.new.tops r.numbers.items xs c.find_inverse.new.self c.args.enter z c.self.view_is c.if-self.true c.self.invariant inside c.requires.not_zero
     (ap (λ z. lt_z z (pos 0)) w) m turned
-    (c.cancel.ensures.same ∙ ap (λ ts. shown r.short c.unsigned_abs-self-inside.result ts r.numbers.items) (with_items_is r.tops d.new.tops (len ∙ sym r.tops.ok.0)))
+    (c.find_inverse.ensures ∙ (c.cancel.ensures.same ∙ ap (λ ts. shown r.short c.unsigned_abs-self-inside.result ts r.numbers.items) (with_items_is r.tops d.new.tops (len ∙ sym r.tops.ok.0))))
   where
     shown : Bool → ℕ → List ℤ → List Fraction → Numbers
     shown s b ts ns = record { items = kept s b ts ns }
