@@ -1,4 +1,4 @@
-use Rattle.std.proofs.Common.{ℕ, take, subst, ◌≡◌, ◌<◌, ◌^◌, ◌∙◌, sym, arith, pos, unsigned_abs, length}
+use Rattle.std.proofs.Common.{ℕ, take, subst, ◌≡◌, ◌<◌, ◌∙◌, sym, arith, pos, length}
 use Rattle.number_rows.specs.Places.{HoldsBut}
 use Rattle.number_rows.specs.Tops.{top_at}
 use Rattle.number_rows.proofs.Lists.{back}
