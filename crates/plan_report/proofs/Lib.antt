@@ -1,4 +1,5 @@
 pub mod PlanTexts
+pub mod QuoteLanes
 pub mod Read
 pub mod Texts
 pub mod WordLemmas

@@ -4,5 +4,5 @@ pub mod Replies
 pub mod Layout
 pub mod Nodes
 pub mod Questions
-pub mod RankEnds
+pub mod RankWords
 pub mod Words

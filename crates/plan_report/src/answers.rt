@@ -5,10 +5,8 @@ ghost use Rattle.plan_report.specs.Layout.{line_then, reply_text};
 ghost use Rattle.plan_report.specs.Questions.{history_words, list_lines, mask_line, masks_words, milestones_lines, missing_lines, reach_line, summary_line, why_lines};
 
 use crate::nodes::node_word;
-use crate::questions::{
-    forbidden_line, push_group_lines, push_mask_end, push_node_lines, push_ranked_lines,
-    push_why_lines,
-};
+use crate::questions::{forbidden_line, push_group_lines, push_mask_end, push_node_lines};
+use crate::ranked::{push_ranked_lines, push_why_lines};
 use crate::words::kind_word;
 use game_types::Game;
 use plan_base::{Items, Kind, NoMemory, NodeId};

@@ -4,6 +4,7 @@
 //! written is in `Words` and `Nodes`.
 #![tactic(auto)]
 
+mod ahead;
 mod answers;
 mod codes;
 pub mod laws;
@@ -12,6 +13,8 @@ mod numbers;
 mod plans;
 mod printing;
 mod questions;
+mod quotes;
+mod ranked;
 mod rates;
 mod solved;
 mod words;

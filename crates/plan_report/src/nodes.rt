@@ -10,8 +10,8 @@ use game_types::Game;
 use plan_base::{GoodId, Kind, NodeId};
 use std::alloc::{AllocError, Global};
 
-// The kind and the name of a node. A node past the last counts as a technology without a name.
-fn kind_and_name(game: &Game, node: NodeId) -> (Kind, &str)
+/// The kind and the name of a node. A node past the last counts as a technology without a name.
+pub fn kind_and_name(game: &Game, node: NodeId) -> (Kind, &str)
     requires { IsSound game.now }
     ensures kind { result.0 ≡ kind_at (shape_of game.now) node.0 }
     ensures name { result.1.now ≡ name_at game.now result.0 (node.0 - first_of (shape_of game.now) result.0) }

@@ -1,10 +1,9 @@
 // The further lines of the replies to questions about nodes.
-ghost use Rattle.std.specs.Prelude.{◌≡◌, ◌∷◌, ◌++◌, [], true, IfOk, OnOk, codes, map, string_bytes, if◌then◌else◌};
+ghost use Rattle.std.specs.Prelude.{◌≡◌, ◌∷◌, ◌++◌, [], true, OnOk, codes, map, string_bytes, if◌then◌else◌};
 ghost use Rattle.game_types.specs.Sound.{IsSound};
 ghost use Rattle.plan_report.specs.Layout.{further_line, further_text, line_then, spaced};
 ghost use Rattle.plan_report.specs.Nodes.{node_word};
-ghost use Rattle.plan_report.specs.Questions.{forbidden_lines, group_line, mask_words, ranked_line, why_line};
-ghost use Rattle.plan_report.specs.RankEnds.{IsRankEnd};
+ghost use Rattle.plan_report.specs.Questions.{forbidden_lines, group_line, mask_words};
 
 use crate::nodes::push_node_word;
 use game_types::Game;
@@ -85,125 +84,6 @@ pub fn push_node_lines(
 {
     for node in nodes {
         push_node_line(alloc, text, game, *node)?;
-    }
-    Ok(())
-}
-
-// The end of the lines of nodes of one rank. Nodes mostly come in the order of their ranks, and so many lines end alike.
-#[derive(Drop)]
-struct RankEnd {
-    rank: u32,
-    text: String,
-}
-
-// The end of the line of a node of this rank.
-fn rank_end(alloc: Global, rank: u32) -> Result<RankEnd, NoMemory>
-    ensures { IfOk result (IsRankEnd rank) }
-{
-    let text = format!(in alloc; " rank {rank}\n")?;
-    Ok(RankEnd { rank, text })
-}
-
-impl RankEnd {
-    // Makes it that of another rank, where it isn't that yet.
-    fn turn_to(&mut self, alloc: Global, rank: u32) -> Result<(), NoMemory>
-        requires { IsRankEnd self.old.rank self.old }
-        ensures { OnOk result (IsRankEnd rank self.new) }
-    {
-        if self.rank != rank {
-            *self = rank_end(alloc, rank)?;
-        }
-        Ok(())
-    }
-}
-
-// Puts the line of a node with its rank behind a text.
-fn push_ranked_line(
-    alloc: Global,
-    text: &mut String,
-    game: &Game,
-    node: NodeId,
-    end: &RankEnd,
-) -> Result<(), NoMemory>
-    requires game { IsSound game.now }
-    requires end { IsRankEnd end.now.rank end.now }
-    ensures { OnOk result (string_bytes text.new ≡ string_bytes text.old ++ further_line (ranked_line game.now (node, end.now.rank))) }
-{
-    text.push_str("  ")?;
-    push_node_word(alloc, text, game, node)?;
-    text.push_str(&end.text)?;
-    Ok(())
-}
-
-/// Puts a line for each node with its rank behind a text.
-pub fn push_ranked_lines(
-    alloc: Global,
-    text: &mut String,
-    game: &Game,
-    nodes: &[(NodeId, u32)],
-) -> Result<(), NoMemory>
-    requires { IsSound game.now }
-    ensures { OnOk result (string_bytes text.new ≡ string_bytes text.old ++ further_text (map (ranked_line game.now) nodes.now)) }
-{
-    let mut end = rank_end(alloc, 0)?;
-    for (node, rank) in nodes {
-        end.turn_to(alloc, *rank)?;
-        push_ranked_line(alloc, text, game, *node, &end)?;
-    }
-    Ok(())
-}
-
-// Puts the line of a node that supports another and is granted behind a text.
-fn push_granted_line(
-    alloc: Global,
-    text: &mut String,
-    game: &Game,
-    node: NodeId,
-    rank: u32,
-) -> Result<(), NoMemory>
-    requires { IsSound game.now }
-    ensures { OnOk result (string_bytes text.new ≡ string_bytes text.old ++ further_line (why_line game.now (node, rank, true))) }
-{
-    text.push_str("  ")?;
-    push_node_word(alloc, text, game, node)?;
-    write!(text, " rank {rank} granted\n")?;
-    Ok(())
-}
-
-// Puts the line of a node that supports another behind a text.
-fn push_why_line(
-    alloc: Global,
-    text: &mut String,
-    game: &Game,
-    node: NodeId,
-    granted: bool,
-    end: &RankEnd,
-) -> Result<(), NoMemory>
-    requires game { IsSound game.now }
-    requires end { IsRankEnd end.now.rank end.now }
-    ensures { OnOk result (string_bytes text.new ≡ string_bytes text.old ++ further_line (why_line game.now (node, end.now.rank, granted))) }
-{
-    if granted {
-        push_granted_line(alloc, text, game, node, end.rank)
-    } else {
-        push_ranked_line(alloc, text, game, node, end)
-    }
-}
-
-/// Puts a line for each node that supports another behind a text.
-pub fn push_why_lines(
-    alloc: Global,
-    text: &mut String,
-    game: &Game,
-    nodes: &[(NodeId, u32, bool)],
-) -> Result<(), NoMemory>
-    requires { IsSound game.now }
-    ensures { OnOk result (string_bytes text.new ≡ string_bytes text.old ++ further_text (map (why_line game.now) nodes.now)) }
-{
-    let mut end = rank_end(alloc, 0)?;
-    for (node, rank, granted) in nodes {
-        end.turn_to(alloc, *rank)?;
-        push_why_line(alloc, text, game, *node, *granted, &end)?;
     }
     Ok(())
 }

@@ -1,9 +1,10 @@
 //! Words as they are printed.
-ghost use Rattle.std.specs.Prelude.{◌≡◌, ◌++◌, ◌∷◌, [], not, IfOk, OnOk, encode_utf8, string_bytes};
-ghost use Rattle.std.specs.List.{flat_map, list_all};
+ghost use Rattle.std.specs.Prelude.{◌≡◌, ◌++◌, ◌∷◌, [], IfOk, OnOk, encode_utf8, string_bytes};
+ghost use Rattle.std.specs.List.{flat_map};
 ghost use Rattle.script_reader.specs.Fields.{kind_word};
-ghost use Rattle.plan_report.specs.Words.{in_quotes, is_bare, needs_quotes, object_word, printed_word, quoted};
+ghost use Rattle.plan_report.specs.Words.{in_quotes, is_bare, object_word, printed_word, quoted};
 
+use crate::quotes::need_no_quotes;
 use plan_base::Kind;
 use std::alloc::{AllocError, Global};
 
@@ -20,18 +21,6 @@ pub fn kind_word(kind: Kind) -> &'static str
         Kind::Machine => "machine",
         Kind::Tech => "tech",
     }
-}
-
-fn needs_quotes(byte: u8) -> bool
-    ensures { result ≡ needs_quotes byte }
-{
-    byte == b' ' || byte == b'\t' || byte == b'\n' || byte == b'\r' || byte == b'"' || byte == b'\\'
-}
-
-fn need_no_quotes(bytes: &[u8]) -> bool
-    ensures { result ≡ list_all (λ byte. not (needs_quotes byte)) bytes.now }
-{
-    bytes.iter().all(|byte| !needs_quotes(*byte))
 }
 
 // Whether the word is printed as it is.

@@ -1,0 +1,40 @@
+// Names that are read ahead of the lines that they are written into.
+ghost use Rattle.game_types.specs.Sound.{IsSound};
+
+use crate::nodes::kind_and_name;
+use crate::quotes::needs_quotes;
+use game_types::Game;
+use plan_base::NodeId;
+
+/// About the room that a line takes beside the name of its node.
+const BESIDE_NAME: usize = 24;
+
+// The room that a byte at an end of a name takes between quotes beside that of the byte.
+fn room_for_quote(end: Option<&u8>) -> usize {
+    match end {
+        Some(byte) => usize::from(needs_quotes(*byte)),
+        None => 0,
+    }
+}
+
+// About the room that the line of a node with this name takes. It looks at both ends of the name, so that all of a name of usual length is read.
+fn room_of_line(name: &[u8]) -> usize {
+    name.len()
+        .saturating_add(room_for_quote(name.first()))
+        .saturating_add(room_for_quote(name.last()))
+        .saturating_add(BESIDE_NAME)
+}
+
+/// About the room that the lines of these nodes take.
+///
+/// The names lie anywhere in memory. None of these reads waits for another, so that the names come from there together; then they are at hand.
+pub fn room_of_lines(game: &Game, nodes: &[(NodeId, u32, bool)]) -> usize
+    requires { IsSound game.now }
+{
+    let mut room = 0usize;
+    for (node, _, _) in nodes {
+        let (_, name) = kind_and_name(game, *node);
+        room = room.saturating_add(room_of_line(name.as_bytes()));
+    }
+    room
+}
