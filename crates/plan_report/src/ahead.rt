@@ -17,7 +17,7 @@ fn room_for_quote(end: Option<&u8>) -> usize {
     }
 }
 
-// About the room that the line of a node with this name takes. It looks at both ends of the name, so that all of a name of usual length is read.
+// About the room that the line of a node with this name takes. It reads both ends of the name, and so all of a usual name comes from memory.
 fn room_of_line(name: &[u8]) -> usize {
     name.len()
         .saturating_add(room_for_quote(name.first()))

@@ -12,7 +12,7 @@ pub fn needs_quotes(byte: u8) -> bool
     byte == b' ' || byte == b'\t' || byte == b'\n' || byte == b'\r' || byte == b'"' || byte == b'\\'
 }
 
-// Whether the first eight bytes are looked at together and none of them is a backslash, a quote or less, as each byte is that needs quotes.
+// Whether none of the first eight bytes is a backslash, a quote or less, by one look at them together. Each byte that needs quotes is one of these.
 #[inline(always)]
 fn eight_are_plain(bytes: &[u8]) -> bool
     requires { 8 ≤ length bytes.now }
@@ -34,7 +34,7 @@ fn sixteen_are_plain(bytes: &[u8]) -> bool
     marked.to_bitmask() == 0
 }
 
-// Whether the first eight bytes and the last eight, which together are all, are so.
+// The same of the first eight bytes and the last eight, which together are all.
 #[inline(always)]
 fn eights_are_plain(bytes: &[u8]) -> bool
     requires some { 8 ≤ length bytes.now }
@@ -45,7 +45,7 @@ fn eights_are_plain(bytes: &[u8]) -> bool
     eight_are_plain(bytes) && eight_are_plain(back)
 }
 
-// Whether the first sixteen bytes and the last sixteen, which together are all, are so.
+// The same of the first sixteen bytes and the last sixteen, which together are all.
 #[inline(always)]
 fn sixteens_are_plain(bytes: &[u8]) -> bool
     requires some { 16 ≤ length bytes.now }
@@ -56,7 +56,7 @@ fn sixteens_are_plain(bytes: &[u8]) -> bool
     sixteen_are_plain(bytes) && sixteen_are_plain(back)
 }
 
-// Whether two looks tell that no byte needs quotes. Most names are that long.
+// Whether two looks tell that no byte needs quotes. Nearly all names that need none are of such a length.
 #[inline(always)]
 fn are_plain(bytes: &[u8]) -> bool
     ensures { result ≡ true → list_all (λ byte. not (needs_quotes byte)) bytes.now ≡ true }

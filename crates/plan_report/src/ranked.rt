@@ -13,7 +13,7 @@ use plan_base::{NoMemory, NodeId};
 use std::alloc::Global;
 
 /// How many lines are written together, so that the names of their nodes are on their way from memory at the same time.
-const BLOCK: usize = 32;
+const BLOCK: usize = 64;
 
 // The words that say a rank. Nodes mostly come in the order of their ranks, and so many lines say the same.
 #[derive(Drop)]
@@ -32,12 +32,14 @@ fn words_of_rank(alloc: Global, rank: u32) -> Result<RankWords, NoMemory>
 
 impl RankWords {
     // Makes them those of another rank, where they aren't that yet.
-    fn turn_to(&mut self, alloc: Global, rank: u32) -> Result<(), NoMemory>
+    fn turn_to(&mut self, rank: u32) -> Result<(), NoMemory>
         requires { AreRankWords self.old.rank self.old }
         ensures { OnOk result (AreRankWords rank self.new) }
     {
         if self.rank != rank {
-            *self = words_of_rank(alloc, rank)?;
+            self.text.clear();
+            write!(self.text, " rank {rank}")?;
+            self.rank = rank;
         }
         Ok(())
     }
@@ -90,7 +92,7 @@ pub fn push_ranked_lines(
 {
     let mut words = words_of_rank(alloc, 0)?;
     for (node, rank) in nodes {
-        words.turn_to(alloc, *rank)?;
+        words.turn_to(*rank)?;
         push_ranked_line(alloc, text, game, *node, &words)?;
     }
     Ok(())
@@ -148,7 +150,7 @@ fn push_why_block(
 {
     text.reserve(room_of_lines(game, nodes))?;
     for (node, rank, granted) in nodes {
-        words.turn_to(alloc, *rank)?;
+        words.turn_to(*rank)?;
         push_why_line(alloc, text, game, *node, *granted, words)?;
     }
     Ok(())
