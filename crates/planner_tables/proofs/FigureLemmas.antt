@@ -1,5 +1,5 @@
 -- Figures of rows, one after another.
-use Rattle.std.proofs.Common.{◌≡◌, ◌∙◌, ℕ, zero, suc, ◌+◌, ◌-◌, ◌*◌, ◌/◌, ◌<◌, ◌≤◌, List, [], ◌∷◌, ◌++◌, Bool, true, false, length, get_or, drop, mul_comm, append_assoc, append-nil, Some, None, Ok, Result, refl, sym, ap, subst, arith}
+use Rattle.std.proofs.Common.{◌≡◌, ◌∙◌, ℕ, zero, suc, ◌+◌, ◌-◌, ◌*◌, ◌/◌, ◌<◌, ◌≤◌, List, [], ◌∷◌, ◌++◌, Bool, true, false, length, get_or, drop, map, mul_comm, append_assoc, append-nil, Some, None, Ok, Result, refl, sym, ap, subst, arith}
 use Rattle.std.specs.Prelude.{if◌then◌else◌, ℤ, pos, negsuc, neg_ℤ, ◌+ℤ◌, ◌*ℤ◌, ◌≤ℤ◌, ◌<ℤ◌}
 use Rattle.std.specs.Bool.{Decides}
 use Rattle.std.proofs.lemmas.Int.{ints}
@@ -10,17 +10,11 @@ use Rattle.fractions.proofs.Order.{≤ʳ_antisymm}
 use Rattle.game_types.specs.declared.effects.Effects.{Effects}
 use Rattle.game_types.specs.declared.effects.Rates.{Rates}
 use Rattle.game_types.specs.declared.effects.Wide.{Wide}
-use Rattle.game_types.specs.declared.games.Game.{Game}
 use Rattle.game_types.specs.Steps.{do_fit, is_narrow}
 use Rattle.game_types.proofs.StepLemmas.{fit_decided, narrow_decided}
 use Rattle.game_types.proofs.Walks.{next as next_of, drop_all}
-use Rattle.linear_table.specs.declared.SolveAnswer.{SolveAnswer}
-use Rattle.linear_table.specs.declared.SolveAnswer.TheVariants.{Planned, Infeasible, TooWide, OutOfBudget}
-use Rattle.table_rows.specs.Columns.{figures_of}
-use Rattle.production_table.specs.declared.tables.TableRow.{TableRow}
-use Rattle.production_table.specs.Linear.{HasFigures}
 use Rattle.plan_lines.specs.declared.reply.Figures.{Figures}
-use Rattle.planner_tables.specs.Figures.{answer_figures, ceiling, figures_at, figures_where, known_answer_figures, known_rows_figures, product, quotient_up, row_figures, rows_figures, summed, total, with_figures}
+use Rattle.planner_tables.specs.Figures.{ceiling, figures_at, product, quotient_up, rows_figures, summed, total, with_figures}
 
 -- ---- products and sums
 some_if : {P : Type 0} (fits : Bool) (x y : Fraction) → Decides fits P → P → y ≡ x → Some y ≡ (if fits then Some x else None)
@@ -49,61 +43,39 @@ total_wide x y p = none_if (do_fit x y) (x +ʳ y) (fit_decided x y) p
 
 -- ---- rows
 pub figures_next : (rows : List (Effects × Rates × Fraction)) (rates : List Fraction) (k : ℕ) (row : Effects × Rates × Fraction) (rate : Fraction) → k < length rows → k < length rates → row ≡ get_or rows k row → rate ≡ get_or rates k rate
-    → known_rows_figures (drop k rows) (drop k rates) ≡ figures_at rate row ∷ known_rows_figures (drop (k + 1) rows) (drop (k + 1) rates)
-unfolding known_rows_figures
+    → rows_figures (map Ok (drop k rows)) (drop k rates) ≡ figures_at rate row ∷ rows_figures (map Ok (drop (k + 1) rows)) (drop (k + 1) rates)
+unfolding rows_figures
 figures_next rows rates k row rate h i e f =
-    ap (λ (xs : List (Effects × Rates × Fraction)). known_rows_figures xs (drop k rates)) (next_of rows k row h e)
-    ∙ ap (λ (ys : List Fraction). known_rows_figures (row ∷ drop (k + 1) rows) ys) (next_of rates k rate i f)
+    ap (λ (xs : List (Effects × Rates × Fraction)). rows_figures (map Ok xs) (drop k rates)) (next_of rows k row h e)
+    ∙ ap (λ (ys : List Fraction). rows_figures (map Ok (row ∷ drop (k + 1) rows)) ys) (next_of rates k rate i f)
 
-no_rates : (rows : List (Effects × Rates × Fraction)) → known_rows_figures rows [] ≡ []
-unfolding known_rows_figures
+no_rates : (rows : List (Result (Effects × Rates × Fraction) Wide)) → rows_figures rows [] ≡ []
+unfolding rows_figures
 no_rates [] = refl
 no_rates (row ∷ rows) = refl
 
-pub figures_end : (rows : List (Effects × Rates × Fraction)) (rates : List Fraction) (k : ℕ) → length rates ≤ k → known_rows_figures (drop k rows) (drop k rates) ≡ []
-figures_end rows rates k h = ap (λ (ys : List Fraction). known_rows_figures (drop k rows) ys) (drop_all rates k h) ∙ no_rates (drop k rows)
+pub figures_end : (rows : List (Effects × Rates × Fraction)) (rates : List Fraction) (k : ℕ) → length rates ≤ k → rows_figures (map Ok (drop k rows)) (drop k rates) ≡ []
+figures_end rows rates k h = ap (λ (ys : List Fraction). rows_figures (map Ok (drop k rows)) ys) (drop_all rates k h) ∙ no_rates (map Ok (drop k rows))
 
-pub figures_over : (rows : List (Effects × Rates × Fraction)) (rates : List Fraction) (k : ℕ) → length rows ≤ k → known_rows_figures (drop k rows) (drop k rates) ≡ []
-unfolding known_rows_figures
-figures_over rows rates k h = ap (λ (xs : List (Effects × Rates × Fraction)). known_rows_figures xs (drop k rates)) (drop_all rows k h)
+pub figures_over : (rows : List (Effects × Rates × Fraction)) (rates : List Fraction) (k : ℕ) → length rows ≤ k → rows_figures (map Ok (drop k rows)) (drop k rates) ≡ []
+unfolding rows_figures
+figures_over rows rates k h = ap (λ (xs : List (Effects × Rates × Fraction)). rows_figures (map Ok xs) (drop k rates)) (drop_all rows k h)
 
 append_first : {A : Type 0} (acc : List A) (x : A) (rest : List A) → (acc ++ x ∷ []) ++ rest ≡ acc ++ (x ∷ rest)
 append_first acc x rest = append_assoc acc (x ∷ []) rest
 
 pub figures_more : (rows : List (Effects × Rates × Fraction)) (rates : List Fraction) (k : ℕ) (row : Effects × Rates × Fraction) (rate : Fraction) (acc more all : List Figures) (new : Figures) → k < length rows → k < length rates → row ≡ get_or rows k row
-    → rate ≡ get_or rates k rate → new ≡ figures_at rate row → more ≡ acc ++ new ∷ [] → acc ++ known_rows_figures (drop k rows) (drop k rates) ≡ all
-    → more ++ known_rows_figures (drop (k + 1) rows) (drop (k + 1) rates) ≡ all
+    → rate ≡ get_or rates k rate → new ≡ figures_at rate row → more ≡ acc ++ new ∷ [] → acc ++ rows_figures (map Ok (drop k rows)) (drop k rates) ≡ all
+    → more ++ rows_figures (map Ok (drop (k + 1) rows)) (drop (k + 1) rates) ≡ all
 figures_more rows rates k row rate acc more all new h i e f n m inv =
-    ap (λ (xs : List Figures). xs ++ known_rows_figures (drop (k + 1) rows) (drop (k + 1) rates)) (m ∙ ap (λ (x : Figures). acc ++ x ∷ []) n)
-    ∙ (append_first acc (figures_at rate row) (known_rows_figures (drop (k + 1) rows) (drop (k + 1) rates))
+    ap (λ (xs : List Figures). xs ++ rows_figures (map Ok (drop (k + 1) rows)) (drop (k + 1) rates)) (m ∙ ap (λ (x : Figures). acc ++ x ∷ []) n)
+    ∙ (append_first acc (figures_at rate row) (rows_figures (map Ok (drop (k + 1) rows)) (drop (k + 1) rates))
     ∙ (ap (λ (xs : List Figures). acc ++ xs) (sym (figures_next rows rates k row rate h i e f)) ∙ inv))
 
-pub figures_done : (rows : List (Effects × Rates × Fraction)) (rates : List Fraction) (k : ℕ) (acc all given : List Figures) → given ≡ acc → known_rows_figures (drop k rows) (drop k rates) ≡ [] → acc ++ known_rows_figures (drop k rows) (drop k rates) ≡ all
+pub figures_done : (rows : List (Effects × Rates × Fraction)) (rates : List Fraction) (k : ℕ) (acc all given : List Figures) → given ≡ acc → rows_figures (map Ok (drop k rows)) (drop k rates) ≡ [] → acc ++ rows_figures (map Ok (drop k rows)) (drop k rates) ≡ all
     → given ≡ all
 figures_done rows rates k acc all given e none inv =
     e ∙ (sym (append-nil acc) ∙ (ap (λ (xs : List Figures). acc ++ xs) (sym none) ∙ inv))
-
--- ---- figures at hand are the rows' own
-row_known : (rate : Fraction) (row : Effects × Rates × Fraction) (meant : Result (Effects × Rates × Fraction) Wide) → meant ≡ Ok row → figures_at rate row ≡ figures_where rate meant
-row_known rate row meant h = sym (ap (figures_where rate) h)
-
-rows_known : (g : Game) (rows : List TableRow) (known : List (Effects × Rates × Fraction)) (rates : List Fraction) → HasFigures g rows known → known_rows_figures known rates ≡ rows_figures g rows rates
-unfolding known_rows_figures rows_figures row_figures
-rows_known g [] [] rates h = refl
-rows_known g [] (row ∷ known) rates h = absurd (cc)
-rows_known g (row ∷ rows) [] rates h = absurd (cc)
-rows_known g (row ∷ rows) (one ∷ known) [] h = refl
-rows_known g (row ∷ rows) (one ∷ known) (rate ∷ rates) h =
-    let is : figures_of g row.setup ≡ Ok one = cc in
-    let others : HasFigures g rows known = cc in
-    ap (λ (first : Figures). first ∷ known_rows_figures known rates) (row_known rate one (figures_of g row.setup) is)
-    ∙ ap (λ (rest : List Figures). figures_where rate (figures_of g row.setup) ∷ rest) (rows_known g rows known rates others)
-
-pub answer_known : (g : Game) (rows : List TableRow) (known : List (Effects × Rates × Fraction)) (a : SolveAnswer) → HasFigures g rows known → known_answer_figures known a ≡ answer_figures g rows a
-answer_known g rows known (Planned plan) h = rows_known g rows known plan.rates h
-answer_known g rows known (Infeasible prices) h = refl
-answer_known g rows known (TooWide trail next place) h = refl
-answer_known g rows known (OutOfBudget trail) h = refl
 
 -- ---- sums
 pub summed_next : (sum : Figures) (rows : List Figures) (k : ℕ) (row : Figures) → k < length rows → row ≡ get_or rows k row → summed sum (drop k rows) ≡ summed (with_figures sum row) (drop (k + 1) rows)

@@ -1,5 +1,5 @@
 -- What is answered about tables.
-use Rattle.std.proofs.Common.{◌≡◌, ◌∙◌, ℕ, ◌+◌, ◌<◌, ◌≤◌, List, [], ◌∷◌, length, get_or, drop, Some, None, Ok, Err, refl, sym, ap, subst}
+use Rattle.std.proofs.Common.{◌≡◌, ◌∙◌, ℕ, ◌+◌, ◌<◌, ◌≤◌, List, [], ◌∷◌, length, get_or, drop, map, Some, None, Ok, Err, refl, sym, ap, subst}
 use Rattle.std.specs.Prelude.{All, Bool, true, false, cond, find, Result}
 use Rattle.std.proofs.lemmas.List.Elements.{All-head, All-tail}
 use Rattle.plan_base.specs.declared.denied.Denied.{Denied}
@@ -11,6 +11,7 @@ use Rattle.linear_table.specs.declared.LinearColumn.{LinearColumn}
 use Rattle.fractions.specs.Fraction.{Fraction}
 use Rattle.game_types.specs.declared.effects.Effects.{Effects}
 use Rattle.game_types.specs.declared.effects.Rates.{Rates}
+use Rattle.game_types.specs.declared.effects.Wide.{Wide}
 use Rattle.game_types.specs.declared.games.Game.{Game}
 use Rattle.game_types.specs.Steps.{◌▸◌}
 use Rattle.game_types.proofs.Walks.{next as next_of, drop_all}
@@ -23,9 +24,8 @@ use Rattle.plan_lines.specs.declared.reply.Reply.{Reply}
 use Rattle.table_rows.specs.declared.refusals.TableRefusal.{TableRefusal}
 use Rattle.planner_tables.specs.Causes.{cause, caused, denied_as}
 use Rattle.planner_tables.specs.Effects.{table_at, table_named}
-use Rattle.planner_tables.specs.Questions.{column_names, rate_outcome, row_rates_outcome, solved_with, IsSolved, IsSolvedWhere, IsSolvedWith, IsSolveReply, IsSolveReplyAt, linear_named, linear_outcome}
+use Rattle.planner_tables.specs.Questions.{column_names, rate_outcome, row_rates_outcome, IsSolved, IsSolvedWhere, IsSolvedWith, IsSolveReply, IsSolveReplyAt, linear_named, linear_outcome}
 use Rattle.table_rows.specs.Refusals.{refused}
-use Rattle.planner_tables.proofs.FigureLemmas.{answer_known}
 
 -- ---- labels
 pub labels_next : (rows : List TableRow) (k : ℕ) (row : TableRow) → k < length rows → row ≡ get_or rows k row → labels_of (drop k rows) ≡ row.label ∷ labels_of (drop (k + 1) rows)
@@ -67,14 +67,10 @@ solve_asked g ts name budget place t r h e s =
     (subst (λ (x : Table). IsSolvedWhere g x budget (linear_outcome g x) r) (sym e) s)
 
 -- what the solver says with figures at hand that are the rows' own
-pub solved_known : (g : Game) (t : Table) (l : Linear) (known : List (Effects × Rates × Fraction)) (budget : ℕ) (r : Reply) → HasFigures g t.rows known → IsSolvedWith t l known budget r → IsSolved g t l budget r
-solved_known g t l known budget r has said = record {
-  answer = said.answer;
-  is_answer = said.is_answer;
-  reply_is = said.reply_is ∙ ap (solved_with t l said.answer) (answer_known g t.rows known said.answer has);
-}
+pub solved_known : (g : Game) (t : Table) (l : Linear) (known : List (Effects × Rates × Fraction)) (budget : ℕ) (r : Reply) → HasFigures g t.rows known → IsSolvedWith t l (map Ok known) budget r → IsSolved g t l budget r
+solved_known g t l known budget r has said = subst (λ (rows : List (Result (Effects × Rates × Fraction) Wide)). IsSolvedWith t l rows budget r) (sym has) said
 
-pub solved_where : (g : Game) (t : Table) (l : Linear) (known : List (Effects × Rates × Fraction)) (budget : ℕ) (r : Reply) → linear_outcome g t ≡ Ok l → HasFigures g t.rows known → IsSolvedWith t l known budget r
+pub solved_where : (g : Game) (t : Table) (l : Linear) (known : List (Effects × Rates × Fraction)) (budget : ℕ) (r : Reply) → linear_outcome g t ≡ Ok l → HasFigures g t.rows known → IsSolvedWith t l (map Ok known) budget r
     → IsSolvedWhere g t budget (linear_outcome g t) r
 solved_where g t l known budget r is has said = subst (λ (o : Result Linear TableRefusal). IsSolvedWhere g t budget o r) (sym is) (solved_known g t l known budget r has said)
 

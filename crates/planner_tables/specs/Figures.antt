@@ -6,12 +6,9 @@ use Rattle.fractions.specs.Fraction.{Fraction, ◌+ʳ◌, ◌*ʳ◌, whole_fract
 use Rattle.game_types.specs.declared.effects.Effects.{Effects}
 use Rattle.game_types.specs.declared.effects.Rates.{Rates}
 use Rattle.game_types.specs.declared.effects.Wide.{Wide}
-use Rattle.game_types.specs.declared.games.Game.{Game}
 use Rattle.game_types.specs.Steps.{do_fit, is_narrow}
 use Rattle.linear_table.specs.declared.SolveAnswer.{SolveAnswer}
 use Rattle.linear_table.specs.declared.SolveAnswer.TheVariants.{Planned, Infeasible, TooWide, OutOfBudget}
-use Rattle.production_table.specs.declared.tables.TableRow.{TableRow}
-use Rattle.table_rows.specs.Columns.{figures_of}
 use Rattle.plan_lines.specs.declared.reply.Figures.{Figures}
 
 -- ---- figures of figures
@@ -71,20 +68,11 @@ abbrev pub figures_where : Fraction → Result (Effects × Rates × Fraction) Wi
 figures_where rate (Ok row) = figures_at rate row
 figures_where rate (Err wide) = no_figures
 
-unfoldable pub row_figures : Game → TableRow → Fraction → Figures
-row_figures g row rate = figures_where rate (figures_of g row.setup)
-
--- ---- the rows of a plan, whose rates begin with those of its rows
-unfoldable pub rows_figures : Game → List TableRow → List Fraction → List Figures
-rows_figures g [] rates = []
-rows_figures g (row ∷ rows) [] = []
-rows_figures g (row ∷ rows) (rate ∷ rates) = row_figures g row rate ∷ rows_figures g rows rates
-
--- the same of the figures of rows that are at hand, one for each row
-unfoldable pub known_rows_figures : List (Effects × Rates × Fraction) → List Fraction → List Figures
-known_rows_figures [] rates = []
-known_rows_figures (row ∷ rows) [] = []
-known_rows_figures (row ∷ rows) (rate ∷ rates) = figures_at rate row ∷ known_rows_figures rows rates
+-- ---- the rows of a plan, whose rates begin with those of its rows, of what each row takes for one craft a second
+unfoldable pub rows_figures : List (Result (Effects × Rates × Fraction) Wide) → List Fraction → List Figures
+rows_figures [] rates = []
+rows_figures (row ∷ rows) [] = []
+rows_figures (row ∷ rows) (rate ∷ rates) = figures_where rate row ∷ rows_figures rows rates
 
 -- ---- all of them: sums in the order of rows from 0, in which machines aren't counted
 abbrev pub nothing : Figures
@@ -110,15 +98,8 @@ summed sum [] = sum
 summed sum (row ∷ rows) = summed (with_figures sum row) rows
 
 -- ---- only a plan has figures
-abbrev pub answer_figures : Game → List TableRow → SolveAnswer → List Figures
-answer_figures g rows (Planned plan) = rows_figures g rows plan.rates
-answer_figures g rows (Infeasible prices) = []
-answer_figures g rows (TooWide trail next place) = []
-answer_figures g rows (OutOfBudget trail) = []
-
--- the same of the figures of rows that are at hand
-abbrev pub known_answer_figures : List (Effects × Rates × Fraction) → SolveAnswer → List Figures
-known_answer_figures rows (Planned plan) = known_rows_figures rows plan.rates
-known_answer_figures rows (Infeasible prices) = []
-known_answer_figures rows (TooWide trail next place) = []
-known_answer_figures rows (OutOfBudget trail) = []
+abbrev pub answer_figures : List (Result (Effects × Rates × Fraction) Wide) → SolveAnswer → List Figures
+answer_figures rows (Planned plan) = rows_figures rows plan.rates
+answer_figures rows (Infeasible prices) = []
+answer_figures rows (TooWide trail next place) = []
+answer_figures rows (OutOfBudget trail) = []

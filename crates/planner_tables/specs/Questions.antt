@@ -16,15 +16,14 @@ use Rattle.linear_table.specs.Trail.{Move}
 use Rattle.production_table.specs.declared.tables.Table.{Table}
 use Rattle.production_table.specs.declared.tables.TableRow.{TableRow}
 use Rattle.table_rows.specs.Columns.{figures_of}
-use Rattle.production_table.specs.Linear.{linear_of}
+use Rattle.production_table.specs.Linear.{figures_of_row, linear_of}
 use Rattle.production_table.specs.Tables.{is_label, labels_of}
-use Rattle.plan_lines.specs.declared.reply.Figures.{Figures}
 use Rattle.plan_lines.specs.declared.reply.Reply.{Reply}
 use Rattle.plan_lines.specs.declared.reply.Reply.TheVariants as reply
 use Rattle.table_rows.specs.declared.refusals.TableRefusal.{TableRefusal}
 use Rattle.table_rows.specs.declared.refusals.TableRefusal.TheVariants.{NoName, Wide as WideRow}
 use Rattle.planner_tables.specs.Effects.{named, table_at, table_named}
-use Rattle.planner_tables.specs.Figures.{answer_figures, known_answer_figures, nothing, summed}
+use Rattle.planner_tables.specs.Figures.{answer_figures, nothing, summed}
 use Rattle.table_rows.specs.Refusals.{refused}
 use Rattle.planner_tables.specs.Causes.{caused}
 
@@ -66,14 +65,13 @@ pub record IsSolveAnswer (l : Linear) (budget : ℕ) (a : SolveAnswer) : Type 0 
 abbrev pub column_names : List LinearColumn → List Column
 column_names columns = map (λ c. c.column) columns
 
--- an answer with the labels, goods and columns of the table, and the figures of its rows
-abbrev pub solved : Game → Table → Linear → SolveAnswer → Reply
-solved g t l a =
-    reply.Solved t.name (labels_of t.rows) l.goods (column_names l.columns) (answer_figures g t.rows a) (summed nothing (answer_figures g t.rows a)) a
+-- an answer with the labels, goods and columns of the table, of what its rows take for one craft a second
+abbrev pub solved_with : Table → Linear → List (Result (Effects × Rates × Fraction) Wide) → SolveAnswer → Reply
+solved_with t l rows a =
+    reply.Solved t.name (labels_of t.rows) l.goods (column_names l.columns) (answer_figures rows a) (summed nothing (answer_figures rows a)) a
 
--- the same with the figures of its rows given
-abbrev pub solved_with : Table → Linear → SolveAnswer → List Figures → Reply
-solved_with t l a rows = reply.Solved t.name (labels_of t.rows) l.goods (column_names l.columns) rows (summed nothing rows) a
+abbrev pub solved : Game → Table → Linear → SolveAnswer → Reply
+solved g t l a = solved_with t l (map (figures_of_row g) t.rows) a
 
 -- the linear form of a table, or the first refusal: no table of this name, a row that is too wide, too many goods
 abbrev pub linear_outcome : Game → Table → Result Linear TableRefusal
@@ -84,16 +82,13 @@ unfoldable pub linear_named : Game → List Table → List ℕ → Result Linear
 linear_named g ts table = table_named ts table ▸ λ place. linear_outcome g (table_at ts place)
 
 -- a reply that holds an answer of the solver
-pub record IsSolved (g : Game) (t : Table) (l : Linear) (budget : ℕ) (r : Reply) : Type 0 where
+pub record IsSolvedWith (t : Table) (l : Linear) (rows : List (Result (Effects × Rates × Fraction) Wide)) (budget : ℕ) (r : Reply) : Type 0 where
   pub answer : SolveAnswer
   pub is_answer : IsSolveAnswer l budget answer
-  pub reply_is : r ≡ solved g t l answer
+  pub reply_is : r ≡ solved_with t l rows answer
 
--- a reply that holds an answer of the solver, of the figures of rows that are at hand
-pub record IsSolvedWith (t : Table) (l : Linear) (rows : List (Effects × Rates × Fraction)) (budget : ℕ) (r : Reply) : Type 0 where
-  pub answer : SolveAnswer
-  pub is_answer : IsSolveAnswer l budget answer
-  pub reply_is : r ≡ solved_with t l answer (known_answer_figures rows answer)
+abbrev pub IsSolved : Game → Table → Linear → ℕ → Reply → Type 0
+IsSolved g t l budget r = IsSolvedWith t l (map (figures_of_row g) t.rows) budget r
 
 abbrev pub IsSolvedWhere : Game → Table → ℕ → Result Linear TableRefusal → Reply → Type 0
 IsSolvedWhere g t budget (Ok l) r = IsSolved g t l budget r

@@ -1,6 +1,6 @@
 //! What the rows of a plan take.
-ghost use Rattle.std.specs.Prelude.{◌≡◌, IfOk};
-ghost use Rattle.planner_tables.specs.Figures.{ceiling, figures_at, known_answer_figures, known_rows_figures, nothing, plus, product, rounded_up, summed, times, total, with_figures};
+ghost use Rattle.std.specs.Prelude.{◌≡◌, map, IfOk, Ok};
+ghost use Rattle.planner_tables.specs.Figures.{answer_figures, ceiling, figures_at, nothing, plus, product, rounded_up, rows_figures, summed, times, total, with_figures};
 
 use fractions::Ratio;
 use game_types::{Effects, Rates};
@@ -89,7 +89,7 @@ fn rows_figures(
     rows: &[(Effects, Rates, Ratio)],
     rates: &[Ratio],
 ) -> Result<Items<Figures>, NoMemory>
-    ensures { IfOk result (λ figures. figures ≡ known_rows_figures rows.now rates.now) }
+    ensures { IfOk result (λ figures. figures ≡ rows_figures (map Ok rows.now) rates.now) }
 {
     let mut figures = Vec::new(alloc);
     for i in 0..rows.len() {
@@ -146,7 +146,7 @@ pub(crate) fn answer_figures(
     rows: &[(Effects, Rates, Ratio)],
     answer: &SolveAnswer,
 ) -> Result<Items<Figures>, NoMemory>
-    ensures { IfOk result (λ figures. figures ≡ known_answer_figures rows.now answer.now) }
+    ensures { IfOk result (λ figures. figures ≡ answer_figures (map Ok rows.now) answer.now) }
 {
     match answer {
         SolveAnswer::Planned(plan) => rows_figures(alloc, rows, plan.rates.as_slice()),

@@ -1,12 +1,12 @@
 //! What the solver says of tables.
-ghost use Rattle.std.specs.Prelude.{◌≡◌, IfOk};
+ghost use Rattle.std.specs.Prelude.{◌≡◌, map, IfOk, Ok};
 ghost use Rattle.plan_base.specs.Outcomes.{Gives, seen_as};
 ghost use Rattle.game_types.specs.Sound.{IsSound};
 ghost use Rattle.linear_table.specs.Plans.{IsWellFormed};
 ghost use Rattle.production_table.specs.Linear.{HasFigures};
 ghost use Rattle.production_table.specs.Tables.{labels_of};
 ghost use Rattle.planner_tables.specs.Effects.{AreSoundTables, IsSoundOn};
-ghost use Rattle.planner_tables.specs.Figures.{known_answer_figures};
+ghost use Rattle.planner_tables.specs.Figures.{answer_figures};
 ghost use Rattle.planner_tables.specs.Questions.{column_names, IsSolvedWhere, IsSolvedWith, IsSolveReply, linear_named, linear_outcome, solved_with};
 
 use crate::changes::table_named;
@@ -64,7 +64,7 @@ fn told_of(
     answer: &SolveAnswer,
 ) -> Result<Told, NoMemory>
     ensures names { IfOk result (λ told. (told.name ≡ table.now.name) × (told.labels ≡ labels_of table.now.rows) × (told.columns ≡ column_names linear.now.columns)) }
-    ensures rows { IfOk result (λ told. told.rows ≡ known_answer_figures figures.now answer.now) }
+    ensures rows { IfOk result (λ told. told.rows ≡ answer_figures (map Ok figures.now) answer.now) }
 {
     let name = Text::copy(alloc, table.name.as_str())?;
     let labels = labels_of(alloc, table.rows.as_slice())?;
@@ -86,7 +86,7 @@ fn solved(
     figures: &[(Effects, Rates, Ratio)],
     answer: SolveAnswer,
 ) -> Result<Reply, NoMemory>
-    ensures { IfOk result (λ reply. reply ≡ solved_with table.now linear answer (known_answer_figures figures.now answer)) }
+    ensures { IfOk result (λ reply. reply ≡ solved_with table.now linear (map Ok figures.now) answer) }
 {
     let Told {
         name,
@@ -114,7 +114,7 @@ fn solved_within(
     budget: u32,
 ) -> Result<Reply, NoMemory>
     requires formed { IsWellFormed linear }
-    ensures { IfOk result (IsSolvedWith table.now linear figures.now budget) }
+    ensures { IfOk result (IsSolvedWith table.now linear (map Ok figures.now) budget) }
 {
     let answer = solve(alloc, &linear, budget)?;
     let reply = solved(alloc, table, linear, figures, answer)?;
