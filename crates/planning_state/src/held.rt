@@ -131,26 +131,22 @@ pub fn apply_held<R: ReplaceRows<L>, L>(
     ensures no_work { IfErr result (λ fault. fault ≢ EntryFault.NoMemory → steps.new ≡ steps.old) }
     ensures later { steps.old ≤ steps.new }
 {
-    match apply_changes(alloc, book, tables, changes) {
-        Ok((edits, undos)) => {
-            match settle_edits(
-                alloc,
-                book,
-                index,
-                graph,
-                worlds,
-                remembered,
-                edits.as_slice(),
-                steps,
-            ) {
-                Ok(()) => Ok(undos),
-                Err(_) => {
-                    take_all_back(alloc, book, tables, undos);
-                    Err(EntryFault::NoMemory)
-                }
-            }
+    let (edits, undos) = apply_changes(alloc, book, tables, changes)?;
+    match settle_edits(
+        alloc,
+        book,
+        index,
+        graph,
+        worlds,
+        remembered,
+        edits.as_slice(),
+        steps,
+    ) {
+        Ok(()) => Ok(undos),
+        Err(_) => {
+            take_all_back(alloc, book, tables, undos);
+            Err(EntryFault::NoMemory)
         }
-        Err(fault) => Err(fault),
     }
 }
 

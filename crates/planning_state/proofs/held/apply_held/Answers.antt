@@ -1,12 +1,23 @@
-use Rattle.std.proofs.Common.{◌∙◌}
+use Rattle.std.proofs.Common.{◌∙◌, Global, Vec, sym, subst}
+use Rattle.std.specs.Prelude.{Result, IfErr}
+use Rattle.edit_undo.specs.Edits.{apply_edits, IsFaultOf}
+use Rattle.edit_undo.specs.declared.editable.EntryFault.{EntryFault}
+use Rattle.game_types.proofs.Walks.{returned}
 use Rattle.milestone_masks.specs.Worlds.{milestones_of}
+use Rattle.state_changes.specs.States.{state_of}
+use Rattle.state_changes.specs.Effects.{effect_of}
+use Rattle.state_changes.specs.declared.undos.Undo.{Undo}
+use Rattle.state_changes.specs.declared.refusals.Refusal.{Refusal}
 use Rattle.planning_state.proofs.HeldLemmas.{work-held}
 use Rattle.planning_state.proofs.held.apply_held.Goals as goal
 
-pub returns-in-Ok-settle_edits-clause-work : goal.returns-in-Ok-settle_edits-clause-work
-returns-in-Ok-settle_edits-clause-work g c =
+pub returns-in-Ok-clause-work : goal.returns-in-Ok-clause-work
+returns-in-Ok-clause-work g c =
     work-held c.args.book.now c.apply_changes.new.book c.args.tables.now.items c.apply_changes.new.tables.items c.args.changes.now c.as_slice.result.now c.args.worlds.now c.settle_edits.new.worlds c.args.steps.now c.settle_edits.new.steps
-    c.requires.kept.worlds c.in-Ok-settle_edits.ensures.kept.worlds c.in-Ok.ensures.ok.names (c.as_slice.ensures.value ∙ c.in-Ok.ensures.ok.edits_are) c.in-Ok-settle_edits.ensures.work
+    c.requires.kept.worlds c.in-Ok.ensures.kept.worlds c.in_ok-edits.ensures.ok.names (c.as_slice.ensures.value ∙ c.in_ok-edits.ensures.ok.edits_are) c.in-Ok.ensures.work
 
-pub returns-clause-fault : goal.returns-clause-fault
-returns-clause-fault g c = c.in-Err.ensures.fault (milestones_of c.args.worlds.now)
+pub returns-in_err-edits-clause-fault : goal.returns-in_err-edits-clause-fault
+returns-in_err-edits-clause-fault g c =
+    let applied = apply_edits effect_of (state_of c.args.book.now (milestones_of c.args.worlds.now) c.args.tables.now.items) c.args.changes.now in
+    subst (λ (r : Result (Vec Undo Global) (EntryFault Refusal)). IfErr r (IsFaultOf applied)) (sym (returned c.from_residual.result c.in_err-edits.field-0.0 c.from_residual.ensures))
+    (c.in_err-edits.ensures.fault (milestones_of c.args.worlds.now))
