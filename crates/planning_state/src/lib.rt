@@ -7,7 +7,6 @@ mod laws;
 mod loading;
 mod milestones;
 mod planning;
-mod questions;
 mod remembered;
 mod settling;
 

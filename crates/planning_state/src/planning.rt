@@ -14,6 +14,8 @@ ghost use Rattle.state_changes.specs.Effects.{effect_of, is_entry};
 ghost use Rattle.state_changes.specs.Undoing.{LeadsBack};
 ghost use Rattle.planning_state.specs.Work.{work_of};
 
+mod questions;
+
 use crate::loading::{Kept, kept_beside};
 use crate::remembered::Remembered;
 use crate::{
@@ -45,13 +47,13 @@ pub enum LoadFault {
 /// put together from and the ranks of every world, which these determine, are kept beside them, and the ranks before the last change.
 #[derive(Drop)]
 pub struct Planning {
-    pub(crate) alloc: Global,
-    pub(crate) book: Book,
-    pub(crate) tables: Vec<Table>,
-    pub(crate) index: Index,
-    pub(crate) graph: Graph,
-    pub(crate) worlds: Worlds,
-    pub(crate) remembered: Remembered,
+    alloc: Global,
+    book: Book,
+    tables: Vec<Table>,
+    index: Index,
+    graph: Graph,
+    worlds: Worlds,
+    remembered: Remembered,
 }
 
 impl Model for Planning {

@@ -10,7 +10,7 @@ ghost use Rattle.milestone_masks.specs.Worlds.{missing_in};
 ghost use Rattle.state_changes.specs.Actions.{node_named};
 ghost use Rattle.planning_state.specs.Worlds.{is_reached, mask_in, rank_of, ranks_in, world_of};
 
-use crate::planning::Planning;
+use super::Planning;
 use graph_store::Group;
 use plan_base::{Denied, Kind, NoMemory, NodeId, Steps};
 use plan_lines::Object;
