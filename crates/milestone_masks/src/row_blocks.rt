@@ -60,10 +60,44 @@ fn row_begins_below(row: &Row, count: usize) -> bool
     true
 }
 
+/// Whether each of these rows has fewer groups than numbers count, as each has.
+fn have_few_groups(block: &[&Row]) -> bool
+    ensures { result ≡ true }
+{
+    for row in block {
+        if row.groups.as_slice().len() == usize::MAX {
+            return false;
+        }
+    }
+    true
+}
+
+/// Whether each group of the row has fewer members than numbers count, as each has.
+fn has_few_members(row: &Row) -> bool
+    ensures { result ≡ true }
+{
+    for group in row.groups.as_slice() {
+        if group.members.as_slice().len() == usize::MAX {
+            return false;
+        }
+    }
+    true
+}
+
+/// Whether each group of all these rows has so few.
+fn have_few_members(block: &[&Row]) -> bool
+    ensures { result ≡ true }
+{
+    for row in block {
+        if !has_few_members(row) {
+            return false;
+        }
+    }
+    true
+}
+
 /// Whether the groups of all these rows begin so.
-///
-/// None of these reads waits for another, so that the rows come from memory together; then they are at hand.
-fn all_begin_below(block: &[&Row], count: usize) -> bool
+fn rows_begin_below(block: &[&Row], count: usize) -> bool
     requires { All (λ r. HasMembersBelow count r.now) block.now }
     ensures { result ≡ true }
 {
@@ -73,6 +107,17 @@ fn all_begin_below(block: &[&Row], count: usize) -> bool
         }
     }
     true
+}
+
+/// Whether the groups of all these rows begin so.
+///
+/// The rows are read first, then their groups, then the members: none of the reads of one kind waits for another, nor does the end of a loop
+/// wait for them, so that all come from memory together; then they are at hand.
+fn all_begin_below(block: &[&Row], count: usize) -> bool
+    requires { All (λ r. HasMembersBelow count r.now) block.now }
+    ensures { result ≡ true }
+{
+    have_few_groups(block) && have_few_members(block) && rows_begin_below(block, count)
 }
 
 /// Adds what the nodes from a place on stand on, whose rows these are.

@@ -15,6 +15,9 @@ use std::alloc::Global;
 /// How many lines are written together, so that the names of their nodes are on their way from memory at the same time.
 const BLOCK: usize = 64;
 
+/// About the room that a line takes.
+const LINE: usize = 40;
+
 // The words that say a rank. Nodes mostly come in the order of their ranks, and so many lines say the same.
 #[derive(Drop)]
 struct RankWords {
@@ -166,6 +169,7 @@ pub fn push_why_lines(
     requires { IsSound game.now }
     ensures { OnOk result (string_bytes text.new ≡ string_bytes text.old ++ further_text (map (why_line game.now) nodes.now)) }
 {
+    text.reserve(nodes.len().saturating_mul(LINE))?;
     let mut words = words_of_rank(alloc, 0)?;
     let mut rest = nodes;
     while !rest.is_empty() {
