@@ -6,7 +6,6 @@ use Rattle.graph_store.specs.declared.Row.{Row}
 use Rattle.graph_store.specs.Rows.{has_node}
 use Rattle.reach_ranks.specs.Rounds.{Nodes}
 use Rattle.graph_store.specs.Replace.{count_of}
-use Rattle.milestone_masks.specs.Worlds.{ranked}
 use Rattle.milestone_masks.specs.Why.{comes_first, is_first_member, is_support, IsSupported}
 
 -- the marks tell which nodes were found, each once
@@ -26,16 +25,22 @@ abbrev pub IsFirstOf : Option NodeId → List ℕ → List NodeId → Type 0
 IsFirstOf None ranks members = (n : ℕ) → is_first_member ranks members n ≡ false
 IsFirstOf (Some m) ranks members = (m.0 < length ranks) × ((n : ℕ) → is_first_member ranks members n ≡ (m.0 == n))
 
--- the best of some members: none has a rank, or this one comes first
-abbrev pub IsBestOf : Option NodeId → List ℕ → List NodeId → Type 0
-IsBestOf None ranks members = All (λ m. ranked ranks m.0 ≡ false) members
-IsBestOf (Some b) ranks members =
-    (has_node members b.0 ≡ true) × (ranked ranks b.0 ≡ true) × All (λ m. (ranked ranks m.0 && comes_first ranks m.0 b.0) ≡ false) members
+-- where a node comes among those that have a rank: by rank, then by node; one without a rank comes past all others
+abbrev pub turn_of : List ℕ → ℕ → ℕ
+turn_of ranks n = (slice_index ranks n + 4294967295) % 4294967296 * 4294967296 + n
 
--- whether the node takes the place of the best so far
-abbrev pub is_better : List ℕ → Option NodeId → ℕ → Bool
-is_better ranks None n = ranked ranks n
-is_better ranks (Some b) n = ranked ranks n && comes_first ranks n b.0
+-- from this turn on there are only nodes without a rank
+abbrev pub no_turn : ℕ
+no_turn = 18446744069414584320
+
+-- the least of the members' turns, if one of them has a rank
+pub record IsLeastTurn (turn : ℕ) (ranks : List ℕ) (members : List NodeId) : Type 0 where
+  pub least : All (λ m. turn ≤ turn_of ranks m.0) members
+  pub few : All (λ m. slice_index ranks m.0 < 4294967296) members
+  pub small : All (λ m. m.0 < 4294967296) members
+  pub member : turn < no_turn → has_node members (turn % 4294967296) ≡ true
+  pub own : turn < no_turn → turn_of ranks (turn % 4294967296) ≡ turn
+  pub below : turn < no_turn → turn % 4294967296 < length ranks
 
 -- whether the node of this row isn't granted and stands on the other
 abbrev pub stands_by : Option Row → List Bool → List ℕ → ℕ → ℕ → Bool

@@ -1,39 +1,37 @@
 //! What nodes stand on: the members of their rows' groups by which they are reached.
-ghost use Rattle.std.specs.Prelude.{◌≡◌, ◌<◌, ◌==◌, Some, All, length, OnOk};
-ghost use Rattle.std.specs.Option.{ForSome};
+ghost use Rattle.std.specs.Prelude.{◌≡◌, ◌<◌, ◌==◌, Some, All, length, slice_index, OnOk};
 ghost use Rattle.graph_store.specs.Rows.{has_node, HasMembersBelow};
-ghost use Rattle.milestone_masks.specs.Why.{comes_first, is_support, is_support_in};
-ghost use Rattle.milestone_masks.specs.Found.{is_better, stands_by, AreSeen, Grows, IsFirstOf};
+ghost use Rattle.milestone_masks.specs.Why.{is_support, is_support_in};
+ghost use Rattle.milestone_masks.specs.Found.{stands_by, turn_of, AreSeen, Grows, IsFirstOf, IsLeastTurn};
 
 use graph_store::{Group, Row};
 use plan_base::NodeId;
 use reach_ranks::Ranks;
 use std::alloc::AllocError;
 
-/// Whether the first node comes before the second: by rank, then by node.
-fn comes_first(ranks: &Ranks, a: NodeId, b: NodeId) -> bool
-    requires a { a.0 < length ranks.now }
-    requires b { b.0 < length ranks.now }
-    ensures { result ≡ comes_first ranks.now a.0 b.0 }
+/// From this turn on there are only nodes without a rank.
+const NO_TURN: u64 = 18_446_744_069_414_584_320;
+
+/// Where a node comes among those that have a rank: a number that grows by rank, then by node. One without a rank comes past all others.
+fn turn_of(ranks: &Ranks, node: NodeId) -> u64
+    requires { node.0 < length ranks.now }
+    ensures turn { result ≡ turn_of ranks.now node.0 }
+    ensures few { slice_index ranks.now node.0 < 4294967296 }
+    ensures small { node.0 < 4294967296 }
 {
-    let first = ranks.rank(a);
-    let second = ranks.rank(b);
-    first < second || (first == second && a.0 < b.0)
+    u64::from(ranks.rank(node).wrapping_sub(1)) * 4_294_967_296 + u64::from(node.0)
 }
 
-/// Whether the node takes the place of the best so far.
-fn is_better(ranks: &Ranks, best: Option<NodeId>, node: NodeId) -> bool
-    requires node { node.0 < length ranks.now }
-    requires best { ForSome best (λ b. b.0 < length ranks.now) }
-    ensures { result ≡ is_better ranks.now best node.0 }
+/// The least of the members' turns.
+fn least_turn(ranks: &Ranks, members: &[NodeId]) -> u64
+    requires { All (λ m. m.0 < length ranks.now) members.now }
+    ensures { IsLeastTurn result ranks.now members.now }
 {
-    if ranks.rank(node) == 0 {
-        return false;
+    let mut least = u64::MAX;
+    for m in members {
+        least = least.min(turn_of(ranks, *m));
     }
-    match best {
-        None => true,
-        Some(b) => comes_first(ranks, node, b),
-    }
+    least
 }
 
 /// The member that comes first among those that have a rank.
@@ -41,13 +39,12 @@ fn first_member(ranks: &Ranks, members: &[NodeId]) -> Option<NodeId>
     requires { All (λ m. m.0 < length ranks.now) members.now }
     ensures { IsFirstOf result ranks.now members.now }
 {
-    let mut best = None;
-    for m in members {
-        if is_better(ranks, best, *m) {
-            best = Some(*m);
-        }
+    let least = least_turn(ranks, members);
+    if least < NO_TURN {
+        Some(NodeId((least % 4_294_967_296) as u32))
+    } else {
+        None
     }
-    best
 }
 
 /// Adds a node to those that were found, if it isn't among them.
