@@ -9,3 +9,4 @@ pub mod ChangeLemmas
 pub mod WhyLemmas
 pub mod Gathered
 pub mod OrderLemmas
+pub mod RiseLemmas

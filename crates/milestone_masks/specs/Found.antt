@@ -73,6 +73,12 @@ key_of ranks n = slice_index ranks n * 4294967296 + n
 abbrev pub node_of : ℕ → NodeId
 node_of key = record { 0 = key % 4294967296 }
 
+-- the nodes are marked, and their numbers grow
+pub record AreRising (ranks : List ℕ) (seen : List Bool) (nodes : List NodeId) : Type 0 where
+  pub below : All (λ m. m.0 < length seen) nodes
+  pub marked : All (λ m. slice_index_or seen m.0 false ≡ true) nodes
+  pub order : AllPairs (λ a b. key_of ranks a.0 < key_of ranks b.0) nodes
+
 -- the same nodes, each as often, by rank, then by node
 pub record IsInOrder (ranks : List ℕ) (nodes sorted : List NodeId) : Type 0 where
   pub as_long : length sorted ≡ length nodes

@@ -7,6 +7,7 @@ mod laws;
 mod masks;
 mod milestones;
 mod missing;
+mod order;
 mod questions;
 mod row_blocks;
 mod slot_repairs;
