@@ -4,7 +4,7 @@ use Rattle.std.proofs.Math.ListN.{set}
 use Rattle.std.proofs.Math.Bool.{or-false, or-true}
 use Rattle.std.proofs.lemmas.Bool.{cases_Bool, cases_eq, eq-eqb, ne_eqb, eqb-true, false≢true, and_parts}
 use Rattle.std.proofs.lemmas.Bool.Decides.{nat_tests}
-use Rattle.std.proofs.lemmas.List.{take_more}
+use Rattle.std.proofs.lemmas.List.{set-get_or, take_more}
 use Rattle.std.proofs.lemmas.List.Elements.{All-push}
 use Rattle.std.proofs.lemmas.List.Folds.{list_any-append, list_any_more}
 use Rattle.std.proofs.lemmas.List.Sums.{sum_by_push}
@@ -46,6 +46,17 @@ seen-push found seen m are inside isnt =
           ];
       below = All-push (λ (x : NodeId). x.0 < length (set seen m.0 true)) found m (λ k d lt. omega (arith, are.below k d lt)) (omega arith);
     }
+
+-- a node that is added if it wasn't marked
+
+pub seen-again : (found : List NodeId) (seen : List Bool) (m : NodeId) → AreSeen found seen → get_or seen m.0 false ≡ true → AreSeen found (set seen m.0 true)
+seen-again found seen m are is = subst (λ (marks : List Bool). AreSeen found marks) (sym (ap (λ b. set seen m.0 b) (sym is) ∙ set-get_or seen m.0 false)) are
+
+pub seen-noted : (found more : List NodeId) (seen : List Bool) (m : NodeId) → AreSeen found seen → m.0 < length seen → more ≡ cond (not (get_or seen m.0 false)) (found ++ m ∷ []) found → AreSeen more (set seen m.0 true)
+seen-noted found more seen m are inside is = elim (cases_Bool (get_or seen m.0 false)) [
+  | inl again ↦ subst (λ (nodes : List NodeId). AreSeen nodes (set seen m.0 true)) (sym (is ∙ ap (λ b. cond (not b) (found ++ m ∷ []) found) again)) (seen-again found seen m are again)
+  | inr new ↦ subst (λ (nodes : List NodeId). AreSeen nodes (set seen m.0 true)) (sym (is ∙ ap (λ b. cond (not b) (found ++ m ∷ []) found) new)) (seen-push found seen m are inside new)
+]
 
 -- the order of nodes
 

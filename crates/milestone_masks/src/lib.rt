@@ -3,6 +3,7 @@
 
 mod additions;
 mod blocks;
+mod found_list;
 mod laws;
 mod masks;
 mod milestones;

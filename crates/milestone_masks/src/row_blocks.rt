@@ -4,6 +4,7 @@ ghost use Rattle.graph_store.specs.declared.Row.{Row};
 ghost use Rattle.graph_store.specs.Rows.{HasMembersBelow};
 ghost use Rattle.milestone_masks.specs.Found.{stood_on, AreRowsOf, AreSeen, Grows};
 
+use crate::found_list::FoundList;
 use crate::supports::visit;
 use graph_store::{Group, Row, Rows};
 use plan_base::{NodeId, Steps};
@@ -122,24 +123,24 @@ fn all_begin_below(block: &[&Row], count: usize) -> bool
 
 /// Adds what the nodes from a place on stand on, whose rows these are.
 fn visit_rows(
-    found: &mut Vec<NodeId>,
+    found: &mut FoundList,
     seen: &mut [bool],
     ranks: &Ranks,
     granted: &[bool],
     start: usize,
     block: &[&Row],
 ) -> Result<(), AllocError>
-    requires seen { AreSeen found.old.items seen.old }
+    requires seen { AreSeen found.old seen.old }
     requires ranks { length ranks.now ≡ length seen.old }
     requires granted { length granted.now ≡ length seen.old }
-    requires within { start + length block.now ≤ length found.old.items }
+    requires within { start + length block.now ≤ length found.old }
     requires members { All (λ r. HasMembersBelow (length seen.old) r.now) block.now }
-    ensures seen { OnOk result (AreSeen found.new.items seen.new) }
-    ensures grows { OnOk result ((rows : List Row) → AreRowsOf rows (take (length block.now) (drop start found.old.items)) (map (λ r. r.now) block.now)
-        → Grows (stood_on rows granted.now ranks.now (take (length block.now) (drop start found.old.items))) found.old.items found.new.items) }
+    ensures seen { OnOk result (AreSeen found.new seen.new) }
+    ensures grows { OnOk result ((rows : List Row) → AreRowsOf rows (take (length block.now) (drop start found.old)) (map (λ r. r.now) block.now)
+        → Grows (stood_on rows granted.now ranks.now (take (length block.now) (drop start found.old))) found.old found.new) }
 {
     for k in 0..block.len() {
-        let node = found[start + k];
+        let node = found.as_slice()[start + k];
         visit(found, seen, ranks, granted, node, block[k])?;
     }
     Ok(())
@@ -148,7 +149,7 @@ fn visit_rows(
 /// Adds what the nodes from a place to another stand on.
 pub fn visit_block<R: Rows<L>, L>(
     alloc: Global,
-    found: &mut Vec<NodeId>,
+    found: &mut FoundList,
     seen: &mut [bool],
     ranks: &Ranks,
     rows: &R,
@@ -157,19 +158,19 @@ pub fn visit_block<R: Rows<L>, L>(
     end: usize,
     steps: &mut Steps<L>,
 ) -> Result<(), AllocError>
-    requires seen { AreSeen found.old.items seen.old }
+    requires seen { AreSeen found.old seen.old }
     requires long { length seen.old ≡ length (R.rows rows.now) }
     requires ranks { length ranks.now ≡ length (R.rows rows.now) }
     requires granted { length granted.now ≡ length (R.rows rows.now) }
     requires start { start ≤ end }
-    requires end { end ≤ length found.old.items }
-    ensures seen { OnOk result (AreSeen found.new.items seen.new) }
-    ensures grows { OnOk result (Grows (stood_on (R.rows rows.now) granted.now ranks.now (take (end - start) (drop start found.old.items))) found.old.items found.new.items) }
+    requires end { end ≤ length found.old }
+    ensures seen { OnOk result (AreSeen found.new seen.new) }
+    ensures grows { OnOk result (Grows (stood_on (R.rows rows.now) granted.now ranks.now (take (end - start) (drop start found.old))) found.old found.new) }
     ensures steps { steps.new ≤ steps.old + (end - start) }
     ensures later { steps.old ≤ steps.new }
 {
     let count = rows.len() as usize;
-    let block = rows_of(alloc, rows, found, start, end - start, steps)?;
+    let block = rows_of(alloc, rows, found.as_slice(), start, end - start, steps)?;
     if all_begin_below(&block, count) {
         visit_rows(found, seen, ranks, granted, start, &block)
     } else {

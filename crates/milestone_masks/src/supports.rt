@@ -4,6 +4,7 @@ ghost use Rattle.graph_store.specs.Rows.{has_node, HasMembersBelow};
 ghost use Rattle.milestone_masks.specs.Why.{is_support, is_support_in};
 ghost use Rattle.milestone_masks.specs.Found.{stands_by, turn_of, AreSeen, Grows, IsFirstOf, IsLeastTurn};
 
+use crate::found_list::FoundList;
 use graph_store::{Group, Row};
 use plan_base::NodeId;
 use reach_ranks::Ranks;
@@ -48,25 +49,24 @@ fn first_member(ranks: &Ranks, members: &[NodeId]) -> Option<NodeId>
 }
 
 /// Adds a node to those that were found, if it isn't among them.
-pub fn note(found: &mut Vec<NodeId>, seen: &mut [bool], node: NodeId) -> Result<(), AllocError>
-    requires seen { AreSeen found.old.items seen.old }
+pub fn note(found: &mut FoundList, seen: &mut [bool], node: NodeId) -> Result<(), AllocError>
+    requires seen { AreSeen found.old seen.old }
     requires node { node.0 < length seen.old }
-    ensures seen { OnOk result (AreSeen found.new.items seen.new) }
-    ensures grows { OnOk result (Grows (λ n. node.0 == n) found.old.items found.new.items) }
+    ensures seen { OnOk result (AreSeen found.new seen.new) }
+    ensures grows { OnOk result (Grows (λ n. node.0 == n) found.old found.new) }
 {
-    if !seen[node.0 as usize] {
-        found.push(node)?;
-        seen[node.0 as usize] = true;
-    }
+    let is_new = !seen[node.0 as usize];
+    found.add(node, is_new)?;
+    seen[node.0 as usize] = true;
     Ok(())
 }
 
 /// Adds each of the nodes.
-fn note_each(found: &mut Vec<NodeId>, seen: &mut [bool], nodes: &[NodeId]) -> Result<(), AllocError>
-    requires seen { AreSeen found.old.items seen.old }
+fn note_each(found: &mut FoundList, seen: &mut [bool], nodes: &[NodeId]) -> Result<(), AllocError>
+    requires seen { AreSeen found.old seen.old }
     requires nodes { All (λ m. m.0 < length seen.old) nodes.now }
-    ensures seen { OnOk result (AreSeen found.new.items seen.new) }
-    ensures grows { OnOk result (Grows (λ n. has_node nodes.now n) found.old.items found.new.items) }
+    ensures seen { OnOk result (AreSeen found.new seen.new) }
+    ensures grows { OnOk result (Grows (λ n. has_node nodes.now n) found.old found.new) }
 {
     for m in nodes {
         note(found, seen, *m)?;
@@ -76,16 +76,16 @@ fn note_each(found: &mut Vec<NodeId>, seen: &mut [bool], nodes: &[NodeId]) -> Re
 
 /// Adds what the group stands on.
 fn note_group(
-    found: &mut Vec<NodeId>,
+    found: &mut FoundList,
     seen: &mut [bool],
     ranks: &Ranks,
     group: &Group,
 ) -> Result<(), AllocError>
-    requires seen { AreSeen found.old.items seen.old }
+    requires seen { AreSeen found.old seen.old }
     requires ranks { length ranks.now ≡ length seen.old }
     requires members { All (λ m. m.0 < length seen.old) group.now.members }
-    ensures seen { OnOk result (AreSeen found.new.items seen.new) }
-    ensures grows { OnOk result (Grows (is_support_in ranks.now group.now) found.old.items found.new.items) }
+    ensures seen { OnOk result (AreSeen found.new seen.new) }
+    ensures grows { OnOk result (Grows (is_support_in ranks.now group.now) found.old found.new) }
 {
     if group.all {
         return note_each(found, seen, group.members.as_slice());
@@ -98,16 +98,16 @@ fn note_group(
 
 /// Adds what the row stands on.
 fn note_row(
-    found: &mut Vec<NodeId>,
+    found: &mut FoundList,
     seen: &mut [bool],
     ranks: &Ranks,
     row: &Row,
 ) -> Result<(), AllocError>
-    requires seen { AreSeen found.old.items seen.old }
+    requires seen { AreSeen found.old seen.old }
     requires ranks { length ranks.now ≡ length seen.old }
     requires members { HasMembersBelow (length seen.old) row.now }
-    ensures seen { OnOk result (AreSeen found.new.items seen.new) }
-    ensures grows { OnOk result (Grows (is_support ranks.now (Some row.now)) found.old.items found.new.items) }
+    ensures seen { OnOk result (AreSeen found.new seen.new) }
+    ensures grows { OnOk result (Grows (is_support ranks.now (Some row.now)) found.old found.new) }
 {
     for group in row.groups.as_slice() {
         note_group(found, seen, ranks, group)?;
@@ -117,20 +117,20 @@ fn note_row(
 
 /// Adds what the node of a row stands on, if it isn't granted.
 pub fn visit(
-    found: &mut Vec<NodeId>,
+    found: &mut FoundList,
     seen: &mut [bool],
     ranks: &Ranks,
     granted: &[bool],
     node: NodeId,
     row: &Row,
 ) -> Result<(), AllocError>
-    requires seen { AreSeen found.old.items seen.old }
+    requires seen { AreSeen found.old seen.old }
     requires ranks { length ranks.now ≡ length seen.old }
     requires granted { length granted.now ≡ length seen.old }
     requires node { node.0 < length seen.old }
     requires members { HasMembersBelow (length seen.old) row.now }
-    ensures seen { OnOk result (AreSeen found.new.items seen.new) }
-    ensures grows { OnOk result (Grows (stands_by (Some row.now) granted.now ranks.now node.0) found.old.items found.new.items) }
+    ensures seen { OnOk result (AreSeen found.new seen.new) }
+    ensures grows { OnOk result (Grows (stands_by (Some row.now) granted.now ranks.now node.0) found.old found.new) }
 {
     if granted[node.0 as usize] {
         return Ok(());

@@ -10,17 +10,17 @@ pub returns-then-all_begin_below-clause-grows : goal.returns-then-all_begin_belo
 returns-then-all_begin_below-clause-grows g c =
     let long : length c.deref-then-all_begin_below.result.now ≡ c.args.end - c.args.start = omega (arith, c.deref-then-all_begin_below.ensures.len, c.in_ok-block.ensures.long) in
     on-ok c.visit_rows.result _ _ (λ visited. subst
-    (λ (n : ℕ). Grows (stood_on (g.R.Rows.rows c.args.rows.now) c.args.granted.now c.args.ranks.now (take n (drop c.args.start c.args.found.now.items))) c.args.found.now.items c.visit_rows.new.found.items)
+    (λ (n : ℕ). Grows (stood_on (g.R.Rows.rows c.args.rows.now) c.args.granted.now c.args.ranks.now (take n (drop c.args.start c.args.found.now))) c.args.found.now c.visit_rows.new.found)
     long
     (visited
     (g.R.Rows.rows c.args.rows.now)
     (subst
-    (λ (n : ℕ). AreRowsOf (g.R.Rows.rows c.args.rows.now) (take n (drop c.args.start c.args.found.now.items)) (map (λ (r : Bor Row). r.now) c.deref-then-all_begin_below.result.now))
+    (λ (n : ℕ). AreRowsOf (g.R.Rows.rows c.args.rows.now) (take n (drop c.args.start c.args.found.now)) (map (λ (r : Bor Row). r.now) c.deref-then-all_begin_below.result.now))
     (sym long)
     (subst
-    (λ (l : List (Bor Row)). AreRowsOf (g.R.Rows.rows c.args.rows.now) (take (c.args.end - c.args.start) (drop c.args.start c.args.found.now.items)) (map (λ (r : Bor Row). r.now) l))
+    (λ (l : List (Bor Row)). AreRowsOf (g.R.Rows.rows c.args.rows.now) (take (c.args.end - c.args.start) (drop c.args.start c.args.found.now)) (map (λ (r : Bor Row). r.now) l))
     (sym c.deref-then-all_begin_below.ensures.value)
     (subst
     (λ (nodes : List NodeId). AreRowsOf (g.R.Rows.rows c.args.rows.now) (take (c.args.end - c.args.start) (drop c.args.start nodes)) (map (λ (r : Bor Row). r.now) c.in_ok-block.block.items))
-    c.deref.ensures.value
+    c.as_slice.ensures
     c.in_ok-block.ensures.rows))))) c.visit_rows.ensures.grows

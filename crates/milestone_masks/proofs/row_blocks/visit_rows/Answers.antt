@@ -1,5 +1,5 @@
 -- One node more was visited.
-use Rattle.std.proofs.Common.{◌∙◌, ◌+◌, ℕ, Bor, Some, arith, drop, get_or, subst, take}
+use Rattle.std.proofs.Common.{◌∙◌, ◌+◌, ℕ, Bor, List, Some, arith, drop, get_or, subst, take}
 use Rattle.plan_base.specs.declared.NodeId.{NodeId}
 use Rattle.graph_store.specs.declared.Row.{Row}
 use Rattle.milestone_masks.specs.Found.{stands_by, stood_on, Grows}
@@ -19,28 +19,28 @@ loop-k-preserved c = record {
       c.args.ranks.now
       c.args.start
       c.loop-k.k
-      c.index-node.result.now
+      (record { 0 = 0 })
       c.index-block-k.result
-      c.args.found.now.items
-      c.loop-k.found.items
-      c.visit.new.found.items
+      c.args.found.now
+      c.loop-k.found
+      c.visit.new.found
       c.requires.within
       (omega (arith, c.loop-k-test.true))
       c.loop-k.invariant.kept
       of
       (c.loop-k.invariant.grows rows of)
       (subst
-      (λ (r : Bor Row). Grows (stands_by (Some r.now) c.args.granted.now c.args.ranks.now (get_or c.loop-k.found.items (c.args.start + c.loop-k.k) c.index-node.result.now).0) c.loop-k.found.items c.visit.new.found.items)
+      (λ (r : Bor Row). Grows (stands_by (Some r.now) c.args.granted.now c.args.ranks.now (get_or c.loop-k.found (c.args.start + c.loop-k.k) (record { 0 = 0 })).0) c.loop-k.found c.visit.new.found)
       c.index-block-k.is
       (subst
-      (λ (m : NodeId). Grows (stands_by (Some c.index-block-k.result.now) c.args.granted.now c.args.ranks.now m.0) c.loop-k.found.items c.visit.new.found.items)
-      c.index-node.ensures
+      (λ (nodes : List NodeId). Grows (stands_by (Some c.index-block-k.result.now) c.args.granted.now c.args.ranks.now (get_or nodes (c.args.start + c.loop-k.k) (record { 0 = 0 })).0) c.loop-k.found c.visit.new.found)
+      c.as_slice.ensures
       c.in_ok-visit.ensures.grows));
 }
 
 pub returns-clause-grows : goal.returns-clause-grows
 returns-clause-grows c = λ rows of.
     subst
-    (λ (n : ℕ). Grows (stood_on rows c.args.granted.now c.args.ranks.now (take n (drop c.args.start c.args.found.now.items))) c.args.found.now.items c.loop-k.found.items)
+    (λ (n : ℕ). Grows (stood_on rows c.args.granted.now c.args.ranks.now (take n (drop c.args.start c.args.found.now))) c.args.found.now c.loop-k.found)
     (omega (arith, c.loop-k.auto.k-end, c.loop-k-test.false))
     (c.loop-k.invariant.grows rows of)

@@ -8,9 +8,9 @@ use Rattle.milestone_masks.proofs.row_blocks.visit_rows.Given as goal
 
 abbrev pub invariant-loop-k : goal.invariant-loop-k
 invariant-loop-k l = record {
-  seen : AreSeen l.found.items l.seen;
-  longer : length l.initial.found.items ≤ length l.found.items;
-  kept : (j : ℕ) (d : NodeId) → j < length l.initial.found.items → slice_index_or l.found.items j d ≡ slice_index_or l.initial.found.items j d;
-  grows : (rows : List Row) → AreRowsOf rows (take (length l.block) (drop l.start l.initial.found.items)) (map (λ r. r.now) l.block)
-      → Grows (stood_on rows l.granted l.ranks (take l.k (drop l.start l.initial.found.items))) l.initial.found.items l.found.items;
+  seen : AreSeen l.found l.seen;
+  longer : length l.initial.found ≤ length l.found;
+  kept : (j : ℕ) (d : NodeId) → j < length l.initial.found → slice_index_or l.found j d ≡ slice_index_or l.initial.found j d;
+  grows : (rows : List Row) → AreRowsOf rows (take (length l.block) (drop l.start l.initial.found)) (map (λ r. r.now) l.block)
+      → Grows (stood_on rows l.granted l.ranks (take l.k (drop l.start l.initial.found))) l.initial.found l.found;
 }

@@ -5,6 +5,6 @@ use Rattle.milestone_masks.proofs.supports.note_each.Given as goal
 
 abbrev pub invariant-loop-m : goal.invariant-loop-m
 invariant-loop-m l = record {
-  seen : AreSeen l.found.items l.seen;
-  grows : Grows (λ n. has_node (take l.m-index l.nodes) n) l.initial.found.items l.found.items;
+  seen : AreSeen l.found l.seen;
+  grows : Grows (λ n. has_node (take l.m-index l.nodes) n) l.initial.found l.found;
 }

@@ -6,6 +6,6 @@ use Rattle.milestone_masks.proofs.supports.note_row.Given as goal
 
 abbrev pub invariant-loop-group : goal.invariant-loop-group
 invariant-loop-group l = record {
-  seen : AreSeen l.found.items l.seen;
-  grows : Grows (λ n. list_any (λ g. is_support_in l.ranks g n) (take l.group-index l.group-items)) l.initial.found.items l.found.items;
+  seen : AreSeen l.found l.seen;
+  grows : Grows (λ n. list_any (λ g. is_support_in l.ranks g n) (take l.group-index l.group-items)) l.initial.found l.found;
 }

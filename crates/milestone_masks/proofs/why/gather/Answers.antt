@@ -1,5 +1,7 @@
 -- A block more was visited; there are no more nodes than there are marks.
-use Rattle.std.proofs.Common.{◌∙◌, arith}
+use Rattle.std.proofs.Common.{◌∙◌, List, arith, subst, sym}
+use Rattle.plan_base.specs.declared.NodeId.{NodeId}
+use Rattle.milestone_masks.specs.Found.{IsFound}
 use Rattle.milestone_masks.proofs.Gathered.{gathered-block, gathered-done}
 use Rattle.milestone_masks.proofs.WhyLemmas.{found-few}
 use Rattle.milestone_masks.proofs.why.gather.Goals as goal
@@ -8,7 +10,7 @@ pub loop-i-smaller : goal.loop-i-smaller
 loop-i-smaller g c =
     omega (
       arith,
-      found-few c.loop-i.found.items c.loop-i.seen c.loop-i.invariant.seen,
+      found-few c.loop-i.found c.loop-i.seen c.loop-i.invariant.seen,
       c.loop-i-test.true,
       c.len.ensures,
       c.len-in-loop-i.ensures,
@@ -30,8 +32,8 @@ loop-i-preserved g c = record {
       c.args.node.0
       c.loop-i.i
       c.min-end.result
-      c.loop-i.found.items
-      c.visit_block.new.found.items
+      c.loop-i.found
+      c.visit_block.new.found
       (omega (arith, c.loop-i-test.true, c.len.ensures, c.len-in-loop-i.ensures, c.saturating_add.ensures, c.min-end.ensures))
       (omega (arith, c.len-in-loop-i.ensures, c.min-end.ensures))
       c.loop-i.invariant.gathered
@@ -43,15 +45,18 @@ loop-i-preserved g c = record {
 
 pub returns-clause-found : goal.returns-clause-found
 returns-clause-found g c =
-    gathered-done
+    subst
+    (λ (nodes : List NodeId). IsFound (g.R.Rows.rows c.args.rows.now) c.args.granted.now c.args.ranks.now c.args.node.0 nodes)
+    (sym c.into_vec.ensures)
+    (gathered-done
     (g.R.Rows.rows c.args.rows.now)
     c.args.granted.now
     c.args.ranks.now
     c.args.node.0
     c.loop-i.i
-    c.loop-i.found.items
+    c.loop-i.found
     c.loop-i.seen
     (omega (arith, c.len.ensures, c.loop-i-test.false))
     c.loop-i.invariant.gathered
     c.loop-i.invariant.seen
-    (c.loop-i.auto.seen ∙ (c.note.auto.seen ∙ c.requires.long))
+    (c.loop-i.auto.seen ∙ (c.note.auto.seen ∙ c.requires.long)))

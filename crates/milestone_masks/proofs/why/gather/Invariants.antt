@@ -5,8 +5,8 @@ use Rattle.milestone_masks.proofs.why.gather.Given as goal
 
 abbrev pub invariant-loop-i : goal.invariant-loop-i
 invariant-loop-i g l = record {
-  gathered : IsGathered (g.R.Rows.rows l.fn.rows) l.fn.granted l.fn.ranks l.fn.node.0 l.i l.found.items;
-  seen : AreSeen l.found.items l.seen;
+  gathered : IsGathered (g.R.Rows.rows l.fn.rows) l.fn.granted l.fn.ranks l.fn.node.0 l.i l.found;
+  seen : AreSeen l.found l.seen;
   steps : l.steps ≤ l.initial.steps + l.i;
   later : l.initial.steps ≤ l.steps;
 }
