@@ -29,7 +29,7 @@ fn rows_of<'a, R: Rows<L>, L>(
     ensures later { steps.old ≤ steps.new }
 {
     let _count = rows.len();
-    let mut block = Vec::new(alloc);
+    let mut block = Vec::with_capacity(alloc, count)?;
     for k in 0..count {
         let node = nodes[start + k];
         block.push(rows.row(node, steps))?;
