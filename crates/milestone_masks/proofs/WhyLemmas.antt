@@ -98,16 +98,6 @@ second-no false b e h = absurd (false≢true e)
 
 -- the least turn of the members so far
 
-pub least-none : (ranks : List ℕ) (turn : ℕ) → no_turn ≤ turn → IsLeastTurn turn ranks []
-least-none ranks turn le = record {
-  least = λ k d lt. absurd (omega arith);
-  few = λ k d lt. absurd (omega arith);
-  small = λ k d lt. absurd (omega arith);
-  member = λ lt. absurd (omega arith);
-  own = λ lt. absurd (omega arith);
-  below = λ lt. absurd (omega arith);
-}
-
 pub least-more : (ranks : List ℕ) (members : List NodeId) (i : ℕ) (d : NodeId) (turn next : ℕ) → i < length members → (get_or members i d).0 < length ranks → get_or ranks (get_or members i d).0 0 < 4294967296 → (get_or members i d).0 < 4294967296 → next ≡ min turn (turn_of ranks (get_or members i d).0) → IsLeastTurn turn ranks (take i members) → IsLeastTurn next ranks (take (i + 1) members)
 least-more ranks members i d turn next lt inside rank node is so_far =
     let m : NodeId = get_or members i d in
