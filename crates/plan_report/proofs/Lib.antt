@@ -1,3 +1,4 @@
+pub mod LineLemmas
 pub mod PlanTexts
 pub mod QuoteLanes
 pub mod Read

@@ -1,10 +1,6 @@
 // Names that are read ahead of the lines that they are written into.
-ghost use Rattle.game_types.specs.Sound.{IsSound};
-
-use crate::nodes::kind_and_name;
 use crate::quotes::needs_quotes;
-use game_types::Game;
-use plan_base::NodeId;
+use crate::ranked::NodeLine;
 
 /// About the room that a line takes beside the name of its node.
 const BESIDE_NAME: usize = 24;
@@ -25,16 +21,13 @@ fn room_of_line(name: &[u8]) -> usize {
         .saturating_add(BESIDE_NAME)
 }
 
-/// About the room that the lines of these nodes take.
+/// About the room that these lines take.
 ///
 /// The names lie anywhere in memory. None of these reads waits for another, so that the names come from there together; then they are at hand.
-pub fn room_of_lines(game: &Game, nodes: &[(NodeId, u32, bool)]) -> usize
-    requires { IsSound game.now }
-{
+pub fn room_of_lines(lines: &[NodeLine<'_>]) -> usize {
     let mut room = 0usize;
-    for (node, _, _) in nodes {
-        let (_, name) = kind_and_name(game, *node);
-        room = room.saturating_add(room_of_line(name.as_bytes()));
+    for line in lines {
+        room = room.saturating_add(room_of_line(line.name.as_bytes()));
     }
     room
 }

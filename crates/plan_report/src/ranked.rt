@@ -1,39 +1,56 @@
 // The lines of nodes with their ranks.
-ghost use Rattle.std.specs.Prelude.{◌≡◌, ◌++◌, ◌∷◌, IfOk, OnOk, map, string_bytes, true};
+ghost use Rattle.std.specs.Prelude.{◌≡◌, ◌++◌, IfOk, OnOk, codes, decimal, map, string_bytes};
 ghost use Rattle.game_types.specs.Sound.{IsSound};
 ghost use Rattle.plan_report.specs.Layout.{further_line, further_text};
-ghost use Rattle.plan_report.specs.Nodes.{node_word};
 ghost use Rattle.plan_report.specs.Questions.{ranked_line, why_line};
-ghost use Rattle.plan_report.specs.RankWords.{AreRankWords, rank_words};
+ghost use Rattle.plan_report.specs.RankWords.{rank_words, words_of, AreRankWords};
 
 use crate::ahead::room_of_lines;
-use crate::nodes::push_node_word;
+use crate::nodes::kind_and_name;
+use crate::words::push_line_of_object;
 use game_types::Game;
-use plan_base::{NoMemory, NodeId};
-use std::alloc::Global;
+use plan_base::{Kind, NoMemory, NodeId};
+use std::alloc::{AllocError, Global};
 
 /// How many lines are written together, so that the names of their nodes are on their way from memory at the same time.
-const BLOCK: usize = 64;
+const BLOCK: usize = 256;
 
 /// About the room that a line takes.
 const LINE: usize = 40;
 
-// The words that say a rank. Nodes mostly come in the order of their ranks, and so many lines say the same.
+/// What stands on the line of a node.
+#[derive(Clone, Copy)]
+pub(crate) struct NodeLine<'a> {
+    pub(crate) kind: Kind,
+    pub(crate) name: &'a str,
+    pub(crate) rank: u32,
+    pub(crate) granted: bool,
+}
+
+// The words that say a rank, and the end of their line. Nodes mostly come in the order of their ranks, and so many lines say the same.
 #[derive(Drop)]
 struct RankWords {
     rank: u32,
     text: String,
 }
 
-// The words of this rank.
-fn words_of_rank(alloc: Global, rank: u32) -> Result<RankWords, NoMemory>
-    ensures { IfOk result (AreRankWords rank) }
+// Puts the words of a rank behind a text.
+fn push_rank(text: &mut String, rank: u32) -> Result<(), AllocError>
+    ensures { OnOk result (string_bytes text.new ≡ string_bytes text.old ++ rank_words rank) }
 {
-    let text = format!(in alloc; " rank {rank}")?;
-    Ok(RankWords { rank, text })
+    write!(text, " rank {rank}\n")
 }
 
 impl RankWords {
+    // The words of this rank.
+    fn new(alloc: Global, rank: u32) -> Result<RankWords, NoMemory>
+        ensures { IfOk result (AreRankWords rank) }
+    {
+        let mut text = String::new(alloc);
+        push_rank(&mut text, rank)?;
+        Ok(RankWords { rank, text })
+    }
+
     // Makes them those of another rank, where they aren't that yet.
     fn turn_to(&mut self, rank: u32) -> Result<(), NoMemory>
         requires { AreRankWords self.old.rank self.old }
@@ -41,45 +58,54 @@ impl RankWords {
     {
         if self.rank != rank {
             self.text.clear();
-            write!(self.text, " rank {rank}")?;
+            push_rank(&mut self.text, rank)?;
             self.rank = rank;
         }
         Ok(())
     }
 }
 
-// Puts the line of a node with its rank behind a text, up to the rank.
-fn push_ranked_node(
-    alloc: Global,
-    text: &mut String,
-    game: &Game,
-    node: NodeId,
-    words: &RankWords,
-) -> Result<(), NoMemory>
-    requires game { IsSound game.now }
-    requires words { AreRankWords words.now.rank words.now }
-    ensures { OnOk result (string_bytes text.new ≡ string_bytes text.old ++ 32 ∷ 32 ∷ (node_word game.now node ++ rank_words words.now.rank)) }
+// What stands on the line of a node.
+#[tactic(auto, unfolding(crate::specs::Nodes::node_word))]
+fn node_line(game: &Game, node: NodeId, rank: u32, granted: bool) -> NodeLine<'_>
+    requires { IsSound game.now }
+    ensures { words_of result ≡ why_line game.now (node, rank, granted) }
 {
-    text.push_str("  ")?;
-    push_node_word(alloc, text, game, node)?;
-    text.push_str(&words.text)?;
-    Ok(())
+    let (kind, name) = kind_and_name(game, node);
+    NodeLine {
+        kind,
+        name,
+        rank,
+        granted,
+    }
 }
 
-// Puts the line of a node with its rank behind a text.
-fn push_ranked_line(
+// Puts the end of a line of a granted node behind a text.
+fn push_granted_end(text: &mut String, rank: u32) -> Result<(), AllocError>
+    ensures { OnOk result (string_bytes text.new ≡ string_bytes text.old ++ (codes " rank " ++ (decimal rank ++ codes " granted\n"))) }
+{
+    write!(text, " rank {rank} granted\n")
+}
+
+#[tactic(auto, using(crate::proofs::LineLemmas::ranked_behind, crate::proofs::LineLemmas::granted_behind))]
+// Puts a line behind a text. The words are those of the last line before it that wasn't granted, and become those of this.
+fn push_line(
     alloc: Global,
     text: &mut String,
-    game: &Game,
-    node: NodeId,
-    words: &RankWords,
+    line: &NodeLine<'_>,
+    words: &mut RankWords,
 ) -> Result<(), NoMemory>
-    requires game { IsSound game.now }
-    requires words { AreRankWords words.now.rank words.now }
-    ensures { OnOk result (string_bytes text.new ≡ string_bytes text.old ++ further_line (ranked_line game.now (node, words.now.rank))) }
+    requires { AreRankWords words.old.rank words.old }
+    ensures line { OnOk result (string_bytes text.new ≡ string_bytes text.old ++ further_line (words_of line.now)) }
+    ensures words { OnOk result (AreRankWords words.new.rank words.new) }
 {
-    push_ranked_node(alloc, text, game, node, words)?;
-    text.push_str("\n")?;
+    push_line_of_object(alloc, text, line.kind, line.name)?;
+    if line.granted {
+        push_granted_end(text, line.rank)?;
+    } else {
+        words.turn_to(line.rank)?;
+        text.push_str(&words.text)?;
+    }
     Ok(())
 }
 
@@ -93,49 +119,46 @@ pub fn push_ranked_lines(
     requires { IsSound game.now }
     ensures { OnOk result (string_bytes text.new ≡ string_bytes text.old ++ further_text (map (ranked_line game.now) nodes.now)) }
 {
-    let mut words = words_of_rank(alloc, 0)?;
+    let mut words = RankWords::new(alloc, 0)?;
     for (node, rank) in nodes {
-        words.turn_to(*rank)?;
-        push_ranked_line(alloc, text, game, *node, &words)?;
+        let line = node_line(game, *node, *rank, false);
+        push_line(alloc, text, &line, &mut words)?;
     }
     Ok(())
 }
 
-// Puts the line of a node that supports another and is granted behind a text.
-fn push_granted_line(
+#[tactic(auto, using(crate::proofs::LineLemmas::mapped_more, crate::proofs::LineLemmas::mapped_end))]
+// What stands on the lines of these nodes.
+fn node_lines<'a>(
     alloc: Global,
-    text: &mut String,
-    game: &Game,
-    node: NodeId,
-    words: &RankWords,
-) -> Result<(), NoMemory>
-    requires game { IsSound game.now }
-    requires words { AreRankWords words.now.rank words.now }
-    ensures { OnOk result (string_bytes text.new ≡ string_bytes text.old ++ further_line (why_line game.now (node, words.now.rank, true))) }
+    game: &'a Game,
+    nodes: &[(NodeId, u32, bool)],
+) -> Result<Vec<NodeLine<'a>>, NoMemory>
+    requires { IsSound game.now }
+    ensures { IfOk result (λ lines. map words_of lines.items ≡ map (why_line game.now) nodes.now) }
 {
-    push_ranked_node(alloc, text, game, node, words)?;
-    text.push_str(" granted\n")?;
-    Ok(())
+    let mut lines = Vec::with_capacity(alloc, nodes.len())?;
+    for (node, rank, granted) in nodes {
+        lines.push(node_line(game, *node, *rank, *granted))?;
+    }
+    Ok(lines)
 }
 
-// Puts the line of a node that supports another behind a text.
-fn push_why_line(
+// Puts these lines behind a text.
+fn push_lines(
     alloc: Global,
     text: &mut String,
-    game: &Game,
-    node: NodeId,
-    granted: bool,
-    words: &RankWords,
+    lines: &[NodeLine<'_>],
+    words: &mut RankWords,
 ) -> Result<(), NoMemory>
-    requires game { IsSound game.now }
-    requires words { AreRankWords words.now.rank words.now }
-    ensures { OnOk result (string_bytes text.new ≡ string_bytes text.old ++ further_line (why_line game.now (node, words.now.rank, granted))) }
+    requires { AreRankWords words.old.rank words.old }
+    ensures lines { OnOk result (string_bytes text.new ≡ string_bytes text.old ++ further_text (map words_of lines.now)) }
+    ensures words { OnOk result (AreRankWords words.new.rank words.new) }
 {
-    if granted {
-        push_granted_line(alloc, text, game, node, words)
-    } else {
-        push_ranked_line(alloc, text, game, node, words)
+    for line in lines {
+        push_line(alloc, text, line, words)?;
     }
+    Ok(())
 }
 
 // Puts a line for each node of a block behind a text.
@@ -151,12 +174,9 @@ fn push_why_block(
     ensures lines { OnOk result (string_bytes text.new ≡ string_bytes text.old ++ further_text (map (why_line game.now) nodes.now)) }
     ensures words { OnOk result (AreRankWords words.new.rank words.new) }
 {
-    text.reserve(room_of_lines(game, nodes))?;
-    for (node, rank, granted) in nodes {
-        words.turn_to(*rank)?;
-        push_why_line(alloc, text, game, *node, *granted, words)?;
-    }
-    Ok(())
+    let lines = node_lines(alloc, game, nodes)?;
+    text.reserve(room_of_lines(&lines))?;
+    push_lines(alloc, text, &lines, words)
 }
 
 /// Puts a line for each node that supports another behind a text.
@@ -170,7 +190,7 @@ pub fn push_why_lines(
     ensures { OnOk result (string_bytes text.new ≡ string_bytes text.old ++ further_text (map (why_line game.now) nodes.now)) }
 {
     text.reserve(nodes.len().saturating_mul(LINE))?;
-    let mut words = words_of_rank(alloc, 0)?;
+    let mut words = RankWords::new(alloc, 0)?;
     let mut rest = nodes;
     while !rest.is_empty() {
         let (block, behind) = rest.split_at(rest.len().min(BLOCK));
