@@ -120,7 +120,7 @@ fn why_lines(
     requires { All (λ m. m.0 < node_count (shape_of planning.now.book.game)) nodes.now }
     ensures { IfOk result (λ lines. lines.items ≡ map (why_line planning.now.book) nodes.now) }
 {
-    let mut lines = Vec::new(alloc);
+    let mut lines = Vec::with_capacity(alloc, nodes.len())?;
     for node in nodes {
         lines.push((*node, planning.rank(*node), planning.is_granted(*node)))?;
     }

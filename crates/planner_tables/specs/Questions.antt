@@ -70,6 +70,7 @@ abbrev pub solved_with : Table → Linear → List (Result (Effects × Rates × 
 solved_with t l rows a =
     reply.Solved t.name (labels_of t.rows) l.goods (column_names l.columns) (answer_figures rows a) (summed nothing (answer_figures rows a)) a
 
+-- the same, the figures of the rows being those of the game
 abbrev pub solved : Game → Table → Linear → SolveAnswer → Reply
 solved g t l a = solved_with t l (map (figures_of_row g) t.rows) a
 
@@ -87,16 +88,20 @@ pub record IsSolvedWith (t : Table) (l : Linear) (rows : List (Result (Effects �
   pub is_answer : IsSolveAnswer l budget answer
   pub reply_is : r ≡ solved_with t l rows answer
 
+-- the same, the figures of the rows being those of the game
 abbrev pub IsSolved : Game → Table → Linear → ℕ → Reply → Type 0
 IsSolved g t l budget r = IsSolvedWith t l (map (figures_of_row g) t.rows) budget r
 
+-- a reply that holds an answer of the solver where the table has a linear form, and else the refusal
 abbrev pub IsSolvedWhere : Game → Table → ℕ → Result Linear TableRefusal → Reply → Type 0
 IsSolvedWhere g t budget (Ok l) r = IsSolved g t l budget r
 IsSolvedWhere g t budget (Err refusal) r = r ≡ refused g refusal None
 
+-- the same of the table at a place, or the refusal of its name
 abbrev pub IsSolveReplyAt : Game → List Table → ℕ → Result ℕ TableRefusal → Reply → Type 0
 IsSolveReplyAt g ts budget (Ok place) r = IsSolvedWhere g (table_at ts place) budget (linear_outcome g (table_at ts place)) r
 IsSolveReplyAt g ts budget (Err refusal) r = r ≡ refused g refusal None
 
+-- the same of the table of a name
 unfoldable pub IsSolveReply : Game → List Table → List ℕ → ℕ → Reply → Type 0
 IsSolveReply g ts table budget r = IsSolveReplyAt g ts budget (table_named ts table) r
