@@ -1,6 +1,8 @@
 """What the tools here read of a checkout: its words, its crates, its version and the toolchain's name."""
 import pathlib
 import re
+import shutil
+import subprocess
 from typing import Dict, List, NamedTuple, Tuple
 
 TOP = pathlib.Path(__file__).resolve().parent.parent
@@ -80,3 +82,16 @@ def version() -> str:
 def kit() -> str:
     """The line by which the toolchain names itself (`rt version`) that the sources are proved with."""
     return (TOP / "tools" / "kit.txt").read_text(encoding="utf-8").strip()
+
+
+def kit_here() -> str:
+    """The line by which the toolchain of this machine names itself, empty where there is none."""
+    if not shutil.which("rt"):
+        return ""
+    return subprocess.run(["rt", "version"], stdout=subprocess.PIPE, universal_newlines=True).stdout.strip()
+
+
+def gate_from_nothing() -> List[str]:
+    """The words of a gate that takes nothing of earlier runs. Some kits keep what they passed, unless they are told to begin anew."""
+    told = subprocess.run(["rt", "help"], stdout=subprocess.PIPE, stderr=subprocess.STDOUT, universal_newlines=True).stdout
+    return ["rt", "ci", *["--anew"] * ("--anew" in told)]
