@@ -3,7 +3,6 @@
 What is sent are the script's own lines. Where the script changed, `undo` goes back to the last line that stays, and the lines behind it are
 sent. So the program answers; nothing here knows what a line means, but which lines make an entry of the history.
 """
-import contextlib
 import os
 import re
 import select
@@ -15,17 +14,12 @@ from collections import deque, namedtuple
 
 from faults import Refused
 from programs import MOST_ANSWER, surroundings, too_much
-
-try:
-    import fcntl
-except ImportError:             # Windows: then pipes stay as they are
-    fcntl = None
+from wide_pipe import widen
 
 MOST_LINES, MOST_BYTES = 100_000, 16 << 20      # of one session; it is started anew before that
 MOST_SCRIPT_LINES = 90_000
 MOST_REPLY = 1_000_000                          # lines of an answer
 CHUNK = 4096                                    # bytes that a pipe which has room takes at once, also while nobody reads the answers
-WIDE, SET_SIZE = 1 << 20, 1031                  # bytes of the pipe of answers, and Linux's F_SETPIPE_SZ, which Python names from 3.10 on
 END = b"."
 EDITS = {b"grant", b"revoke", b"forbid", b"permit", b"milestone", b"unmilestone", b"ingredient", b"product", b"unlock", b"time", b"enabled",
          b"table", b"untable", b"row", b"unrow", b"price", b"want", b"import", b"surplus", b"power"}
@@ -39,13 +33,6 @@ ESCAPES = {b"n": b"\n", b"t": b"\t", b"r": b"\r"}
 # history were done, how many edits an open batch held (None where none was open), and whether quiet was on.
 Sent = namedtuple("Sent", "line number reply done held quiet")
 NOTHING = Sent(b"", 0, [], 0, None, False)
-
-
-def widen(pipe):
-    """Has a pipe take a long answer whole, where the system lends so much, so that the program needn't wait for its reader."""
-    if fcntl:
-        with contextlib.suppress(OSError):
-            fcntl.fcntl(pipe, SET_SIZE, WIDE)
 
 
 def words_of(line):
