@@ -14,7 +14,7 @@ from collections import deque, namedtuple
 
 from faults import Refused
 from programs import MOST_ANSWER, surroundings, too_much
-from wide_pipe import widen
+from wide_pipe import WIDE, widen
 
 MOST_LINES, MOST_BYTES = 100_000, 16 << 20      # of one session; it is started anew before that
 MOST_SCRIPT_LINES = 90_000

@@ -6,7 +6,7 @@ try:
 except ImportError:             # Windows: then pipes stay as they are
     fcntl = None
 
-BYTES = 1 << 20
+WIDE = 1 << 20                 # bytes of the pipe
 SET_SIZE = 1031                 # Linux's F_SETPIPE_SZ, which Python names from 3.10 on
 
 
@@ -14,4 +14,4 @@ def widen(pipe):
     """Has a pipe take a long answer whole, where the system lends so much, so that the program needn't wait for its reader."""
     if fcntl:
         with contextlib.suppress(OSError):
-            fcntl.fcntl(pipe, SET_SIZE, BYTES)
+            fcntl.fcntl(pipe, SET_SIZE, WIDE)
