@@ -6,6 +6,7 @@ ghost use Rattle.graph_store.specs.Users.{users_at, AreClear, IsGraph};
 ghost use Rattle.graph_store.specs.Replace.{count_of, is_changed_user, is_no_user, is_unmarked, nodes_of_changes, pair_of, without, Adds, AreForDifferentNodes, Drops, Marks, MayUse, Replaces};
 
 use crate::Row;
+use crate::packed::PackedRow;
 use plan_base::NodeId;
 use std::alloc::AllocError;
 use std::mem::swap;
@@ -60,13 +61,13 @@ fn add_to_row(users: &mut [Vec<NodeId>], row: &Row, user: NodeId) -> Result<(), 
 }
 
 /// Adds the nodes of the changes to the lists of the members of their rows.
-pub fn add_all(users: &mut [Vec<NodeId>], changes: &[(NodeId, Row)]) -> Result<(), AllocError>
+pub fn add_all(users: &mut [Vec<NodeId>], changes: &[(NodeId, PackedRow)]) -> Result<(), AllocError>
     requires { All (λ c. HasMembersBelow (length users.old) c.1) changes.now }
     ensures adds { Adds (is_changed_user changes.now) users.old users.new }
     ensures there { OnOk result (All (λ c. (n : ℕ) → has_member c.1 n ≡ true → 0 < count_of (users_at users.new n) c.0.0) changes.now) }
 {
     for change in changes {
-        add_to_row(users, &change.1, change.0)?;
+        add_to_row(users, change.1.row(), change.0)?;
     }
     Ok(())
 }
@@ -136,7 +137,12 @@ fn drop_from_row(users: &mut [Vec<NodeId>], marks: &[bool], row: &Row, user: Nod
 }
 
 /// Takes the node of a change out of the lists of the members of its row that its row in the graph doesn't have.
-fn tidy_change(users: &mut [Vec<NodeId>], marks: &mut [bool], rows: &[Row], change: &(NodeId, Row))
+fn tidy_change(
+    users: &mut [Vec<NodeId>],
+    marks: &mut [bool],
+    rows: &[PackedRow],
+    change: &(NodeId, PackedRow),
+)
     requires users { length users.old ≡ length rows.now }
     requires marks { length marks.old ≡ length rows.now }
     requires clear { AreClear marks.old }
@@ -148,14 +154,19 @@ fn tidy_change(users: &mut [Vec<NodeId>], marks: &mut [bool], rows: &[Row], chan
     ensures drops { Drops (pair_of change.now.0.0 (is_no_user rows.now change.now)) users.old users.new }
     ensures gone { (n : ℕ) → n < length rows.now → is_no_user rows.now change.now n ≡ true → count_of (users_at users.new n) change.now.0.0 ≡ 0 }
 {
-    let kept = &rows[change.0.0 as usize];
+    let kept = rows[change.0.0 as usize].row();
     mark_row(marks, kept, true);
-    drop_from_row(users, marks, &change.1, change.0);
+    drop_from_row(users, marks, change.1.row(), change.0);
     mark_row(marks, kept, false);
 }
 
 /// Takes the nodes of the changes out of the lists where they are no users.
-pub fn tidy(users: &mut [Vec<NodeId>], marks: &mut [bool], rows: &[Row], changes: &[(NodeId, Row)])
+pub fn tidy(
+    users: &mut [Vec<NodeId>],
+    marks: &mut [bool],
+    rows: &[PackedRow],
+    changes: &[(NodeId, PackedRow)],
+)
     requires users { MayUse rows.now (is_changed_user changes.now) users.old }
     requires marks { length marks.old ≡ length rows.now }
     requires clear { AreClear marks.old }
@@ -173,7 +184,7 @@ pub fn tidy(users: &mut [Vec<NodeId>], marks: &mut [bool], rows: &[Row], changes
 }
 
 /// Puts the rows of the changes in the place of those of their nodes, which the changes get.
-pub fn exchange(rows: &mut [Row], changes: &mut [(NodeId, Row)])
+pub fn exchange(rows: &mut [PackedRow], changes: &mut [(NodeId, PackedRow)])
     requires nodes { All (λ c. c.0.0 < length rows.old) changes.old }
     requires differ { AreForDifferentNodes changes.old }
     ensures put { Replaces changes.old rows.old rows.new }
@@ -188,10 +199,10 @@ pub fn exchange(rows: &mut [Row], changes: &mut [(NodeId, Row)])
 
 /// Puts the rows of the changes in the place of those of their nodes, which the changes get, and keeps the lists.
 pub fn replace_all(
-    rows: &mut [Row],
+    rows: &mut [PackedRow],
     users: &mut [Vec<NodeId>],
     marks: &mut [bool],
-    changes: &mut [(NodeId, Row)],
+    changes: &mut [(NodeId, PackedRow)],
 ) -> Result<(), AllocError>
     requires graph { IsGraph rows.old users.old marks.old }
     requires nodes { All (λ c. c.0.0 < length rows.old) changes.old }

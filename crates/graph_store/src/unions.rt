@@ -6,8 +6,8 @@ use crate::lists::{distinct, list_of};
 use plan_base::{NoMemory, NodeId};
 use std::alloc::Global;
 
-// Puts the numbers of nodes at the end.
-fn push_numbers(numbers: &mut Vec<u32>, nodes: &[NodeId]) -> Result<(), NoMemory>
+/// Puts the numbers of nodes at the end.
+pub fn push_numbers(numbers: &mut Vec<u32>, nodes: &[NodeId]) -> Result<(), NoMemory>
     ensures { OnOk result (numbers.new.items ≡ numbers.old.items ++ map (λ n. n.0) nodes.now) }
 {
     for node in nodes {
