@@ -1,9 +1,14 @@
 -- The lines of nodes with their ranks.
-use Rattle.std.proofs.Common.{◌≡◌, ◌∙◌, ◌<◌, ◌≤◌, ◌+◌, ◌++◌, ◌∷◌, ℕ, Bool, true, false, List, [], length, map, drop, get_or, ap, sym, append_assoc, decimal, if◌then◌else◌}
-use Rattle.std.specs.Prelude.{codes}
-use Rattle.std.proofs.lemmas.List.{map-append}
-use Rattle.plan_base.proofs.Walks.{map_end, map_next}
+use Rattle.std.proofs.Common.{◌≡◌, ◌∙◌, ◌<◌, ◌++◌, ◌∷◌, ℕ, Bool, true, false, List, [], ap, sym, append_assoc, arith, decimal, if◌then◌else◌}
+use Rattle.std.specs.Prelude.{Some, codes, map, slice_get}
+use Rattle.std.specs.List.{range_with_len}
+use Rattle.std.proofs.lemmas.List.FromFn.{get_or-map-range_with_len, length-map-range_with_len}
+use Rattle.std.proofs.lemmas.Option.{get_or_from_slice_get, slice_get_within}
+use Rattle.plan_base.specs.Shape.{node_count}
+use Rattle.game_types.specs.Nodes.{shape_of}
+use Rattle.game_types.specs.declared.games.Game.{Game}
 use Rattle.plan_report.specs.Layout.{further_line, Line}
+use Rattle.plan_report.specs.LineStarts.{line_start, line_starts}
 use Rattle.plan_report.specs.RankWords.{rank_words}
 
 -- the line of a node that isn't granted, or is
@@ -12,20 +17,19 @@ line_with word rank granted =
     if granted then word ∷ codes "rank" ∷ decimal rank ∷ codes "granted" ∷ []
     else word ∷ codes "rank" ∷ decimal rank ∷ []
 
-pub ranked_behind : (granted : Bool) (old word : List ℕ) (rank : ℕ) → granted ≡ false → (old ++ 32 ∷ 32 ∷ word) ++ rank_words rank ≡ old ++ further_line (line_with word rank granted)
-ranked_behind granted old word rank is = append_assoc old (32 ∷ 32 ∷ word) (rank_words rank) ∙ ap (λ b. old ++ further_line (line_with word rank b)) (sym is)
+pub ranked_behind : (granted : Bool) (old word : List ℕ) (rank : ℕ) → granted ≡ false → (old ++ 32 ∷ 32 ∷ word) ++ rank_words rank (codes "\n") ≡ old ++ further_line (line_with word rank granted)
+ranked_behind granted old word rank is = append_assoc old (32 ∷ 32 ∷ word) (rank_words rank (codes "\n")) ∙ ap (λ b. old ++ further_line (line_with word rank b)) (sym is)
 
 pub granted_behind : (granted : Bool) (old word : List ℕ) (rank : ℕ) → granted ≡ true
-    → (old ++ 32 ∷ 32 ∷ word) ++ (codes " rank " ++ (decimal rank ++ codes " granted\n")) ≡ old ++ further_line (line_with word rank granted)
-granted_behind granted old word rank is = append_assoc old (32 ∷ 32 ∷ word) (codes " rank " ++ (decimal rank ++ codes " granted\n")) ∙ ap (λ b. old ++ further_line (line_with word rank b)) (sym is)
+    → (old ++ 32 ∷ 32 ∷ word) ++ rank_words rank (codes " granted\n") ≡ old ++ further_line (line_with word rank granted)
+granted_behind granted old word rank is = append_assoc old (32 ∷ 32 ∷ word) (rank_words rank (codes " granted\n")) ∙ ap (λ b. old ++ further_line (line_with word rank b)) (sym is)
 
--- what is told of the things found so far, with what is to come
-pub mapped_more : {A B C : Type 0} (told : B → C) (f : A → C) (k : ℕ) (found : List B) (one : B) (xs : List A) (x : A) → k < length xs → x ≡ get_or xs k x → told one ≡ f x
-    → map told found ++ map f (drop k xs) ≡ map f xs → map told (found ++ one ∷ []) ++ map f (drop (k + 1) xs) ≡ map f xs
-mapped_more told f k found one xs x within is same before =
-    ap (λ t. t ++ map f (drop (k + 1) xs)) (map-append told found (one ∷ []) ∙ ap (λ t. map told found ++ t ∷ []) same)
-    ∙ sym (map_next f k (map told found) xs x within is)
-    ∙ before
+-- what stands at a place of a list of one for each number
+one_at : (f : ℕ → List ℕ) (count k : ℕ) (start : List ℕ) → slice_get (map f (range_with_len 0 count)) k ≡ Some start → start ≡ f k
+one_at f count k start found =
+    let within : k < count = omega (arith, slice_get_within (map f (range_with_len 0 count)) k start found, length-map-range_with_len f 0 count) in
+    sym (get_or_from_slice_get (map f (range_with_len 0 count)) k start [] found) ∙ get_or-map-range_with_len f 0 count k k [] within (omega arith)
 
-pub mapped_end : {A B C : Type 0} (told : B → C) (f : A → C) (k : ℕ) (found : List B) (xs : List A) → length xs ≤ k → map told found ++ map f (drop k xs) ≡ map f xs → map told found ≡ map f xs
-mapped_end told f k found xs end before = sym (map_end f k (map told found) xs end) ∙ before
+pub start_at : (g : Game) (starts : List (List ℕ)) (k : ℕ) (start : List ℕ) → starts ≡ line_starts g → slice_get starts k ≡ Some start → start ≡ line_start g k
+unfolding line_starts
+start_at g starts k start are found = one_at (line_start g) (node_count (shape_of g)) k start (ap (λ ss. slice_get ss k) (sym are) ∙ found)

@@ -2,6 +2,7 @@ pub mod Codes
 pub mod Plans
 pub mod Replies
 pub mod Layout
+pub mod LineStarts
 pub mod Nodes
 pub mod Questions
 pub mod RankWords

@@ -1,9 +1,11 @@
 //! The replies to questions about nodes, and the summary.
-ghost use Rattle.std.specs.Prelude.{◌≡◌, ◌∷◌, [], IfOk, string_bytes};
+ghost use Rattle.std.specs.Prelude.{◌≡◌, ◌∷◌, [], IfOk, IfSome, string_bytes};
 ghost use Rattle.game_types.specs.Sound.{IsSound};
 ghost use Rattle.plan_report.specs.Layout.{line_then, reply_text};
+ghost use Rattle.plan_report.specs.LineStarts.{line_starts};
 ghost use Rattle.plan_report.specs.Questions.{history_words, list_lines, mask_line, masks_words, milestones_lines, missing_lines, reach_line, summary_line, why_lines};
 
+use crate::LineStarts;
 use crate::nodes::node_word;
 use crate::questions::{forbidden_line, push_group_lines, push_mask_end, push_node_lines};
 use crate::ranked::{push_ranked_lines, push_why_lines};
@@ -44,16 +46,18 @@ pub fn list_text(
     alloc: Global,
     line: u32,
     game: &Game,
+    starts: Option<&LineStarts>,
     kind: Kind,
     nodes: &[(NodeId, u32)],
 ) -> Result<String, NoMemory>
-    requires { IsSound game.now }
+    requires game { IsSound game.now }
+    requires starts { IfSome starts (λ starts. starts.now ≡ line_starts game.now) }
     ensures { IfOk result (λ text. string_bytes text ≡ reply_text line (list_lines game.now kind nodes.now)) }
 {
     let kind = kind_word(kind);
     let count = nodes.len();
     let mut text = format!(in alloc; "{line} list {kind} {count}\n")?;
-    push_ranked_lines(alloc, &mut text, game, nodes)?;
+    push_ranked_lines(alloc, &mut text, game, starts, nodes)?;
     Ok(text)
 }
 
@@ -66,10 +70,12 @@ pub fn why_text(
     alloc: Global,
     line: u32,
     game: &Game,
+    starts: Option<&LineStarts>,
     node: NodeId,
     nodes: &[(NodeId, u32, bool)],
 ) -> Result<String, NoMemory>
-    requires { IsSound game.now }
+    requires game { IsSound game.now }
+    requires starts { IfSome starts (λ starts. starts.now ≡ line_starts game.now) }
     ensures { IfOk result (λ text. string_bytes text ≡ reply_text line (why_lines game.now node nodes.now)) }
 {
     let node = node_word(alloc, game, node)?;
@@ -77,7 +83,7 @@ pub fn why_text(
         return Ok(format!(in alloc; "{line} why {node} no\n")?);
     }
     let mut text = format!(in alloc; "{line} why {node}\n")?;
-    push_why_lines(alloc, &mut text, game, nodes)?;
+    push_why_lines(alloc, &mut text, game, starts, nodes)?;
     Ok(text)
 }
 

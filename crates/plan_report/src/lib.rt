@@ -8,20 +8,19 @@ mod ahead;
 mod answers;
 mod codes;
 pub mod laws;
+mod line_starts;
 mod nodes;
 mod numbers;
 mod plans;
 mod printing;
 mod questions;
-mod quotes;
 mod ranked;
 mod rates;
 mod solved;
 mod words;
 
-pub use answers::{
-    list_text, mask_text, milestones_text, missing_text, reach_text, summary_text, why_text,
-};
+pub use answers::{mask_text, milestones_text, missing_text, reach_text, summary_text};
+pub use line_starts::LineStarts;
 pub use nodes::{good_word, node_word};
-pub use printing::print_reply;
+pub use printing::{print_reply, print_reply_by};
 pub use words::{kind_word, object_word, printed_word};

@@ -3,6 +3,7 @@ ghost use Rattle.std.specs.Prelude.{◌≡◌, ◌+◌, ◌<◌, ◌-◌, ◌++�
 ghost use Rattle.plan_base.specs.Shape.{first_of};
 ghost use Rattle.game_types.specs.Nodes.{shape_of};
 ghost use Rattle.game_types.specs.Sound.{IsSound};
+ghost use Rattle.plan_report.specs.LineStarts.{line_start};
 ghost use Rattle.plan_report.specs.Nodes.{good_word, kind_at, name_at, node_word};
 
 use crate::words::push_object_word;
@@ -10,8 +11,8 @@ use game_types::Game;
 use plan_base::{GoodId, Kind, NodeId};
 use std::alloc::{AllocError, Global};
 
-/// The kind and the name of a node. A node past the last counts as a technology without a name.
-pub fn kind_and_name(game: &Game, node: NodeId) -> (Kind, &str)
+// The kind and the name of a node. A node past the last counts as a technology without a name.
+fn kind_and_name(game: &Game, node: NodeId) -> (Kind, &str)
     requires { IsSound game.now }
     ensures kind { result.0 ≡ kind_at (shape_of game.now) node.0 }
     ensures name { result.1.now ≡ name_at game.now result.0 (node.0 - first_of (shape_of game.now) result.0) }
@@ -37,6 +38,20 @@ pub fn push_node_word(
 {
     let (kind, name) = kind_and_name(game, node);
     push_object_word(alloc, text, kind, name)
+}
+
+/// Puts the start of the further line that is about a node behind a text.
+pub fn push_line_start(
+    alloc: Global,
+    text: &mut String,
+    game: &Game,
+    node: NodeId,
+) -> Result<(), AllocError>
+    requires { IsSound game.now }
+    ensures { OnOk result (string_bytes text.new ≡ string_bytes text.old ++ line_start game.now node.0) }
+{
+    text.push_str("  ")?;
+    push_node_word(alloc, text, game, node)
 }
 
 /// The word of a node.

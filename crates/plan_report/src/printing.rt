@@ -1,15 +1,17 @@
 //! The text of a reply.
-ghost use Rattle.std.specs.Prelude.{◌≡◌, ◌++◌, [], IfOk, string_bytes};
+ghost use Rattle.std.specs.Prelude.{◌≡◌, ◌++◌, [], IfOk, IfSome, string_bytes};
 ghost use Rattle.game_types.specs.Sound.{IsSound};
 ghost use Rattle.plan_report.specs.Layout.{line_then};
+ghost use Rattle.plan_report.specs.LineStarts.{line_starts};
 ghost use Rattle.plan_report.specs.Replies.{at_words, detail_words, named_word, printed_reply};
 
+use crate::answers::{list_text, why_text};
 use crate::codes::{code_word, effect_word};
 use crate::rates::rate_text;
 use crate::solved::solved_text;
 use crate::{
-    list_text, mask_text, milestones_text, missing_text, node_word, object_word, printed_word,
-    reach_text, summary_text, why_text,
+    LineStarts, mask_text, milestones_text, missing_text, node_word, object_word, printed_word,
+    reach_text, summary_text,
 };
 use game_types::Game;
 use plan_base::{Kind, NoMemory, Text};
@@ -85,9 +87,16 @@ fn refused_text(
     Ok(format!(in alloc; "{line} refused {code}{detail}")?)
 }
 
-// The text of a reply, whole.
-fn reply_string(alloc: Global, line: u32, reply: &Reply, game: &Game) -> Result<String, NoMemory>
-    requires { IsSound game.now }
+// The text of a reply, whole. The lines of nodes are written from the starts where they are given.
+fn reply_string(
+    alloc: Global,
+    line: u32,
+    reply: &Reply,
+    game: &Game,
+    starts: Option<&LineStarts>,
+) -> Result<String, NoMemory>
+    requires game { IsSound game.now }
+    requires starts { IfSome starts (λ starts. starts.now ≡ line_starts game.now) }
     ensures { IfOk result (λ text. string_bytes text ≡ printed_reply game.now line reply.now) }
 {
     match reply {
@@ -95,8 +104,12 @@ fn reply_string(alloc: Global, line: u32, reply: &Reply, game: &Game) -> Result<
         Reply::Nothing => Ok(String::new(alloc)),
         Reply::Held => Ok(format!(in alloc; "{line} held\n")?),
         Reply::Reach { node, rank } => reach_text(alloc, line, game, *node, *rank),
-        Reply::List { kind, nodes } => list_text(alloc, line, game, *kind, nodes.as_slice()),
-        Reply::Why { node, nodes } => why_text(alloc, line, game, *node, nodes.as_slice()),
+        Reply::List { kind, nodes } => {
+            list_text(alloc, line, game, starts, *kind, nodes.as_slice())
+        }
+        Reply::Why { node, nodes } => {
+            why_text(alloc, line, game, starts, *node, nodes.as_slice())
+        }
         Reply::Missing {
             node,
             reached,
@@ -186,6 +199,27 @@ pub fn print_reply(alloc: Global, line: u32, reply: &Reply, game: &Game) -> Resu
     requires { IsSound game.now }
     ensures { IfOk result (λ text. text ≡ printed_reply game.now line reply.now) }
 {
-    let text = reply_string(alloc, line, reply, game)?;
+    let text = reply_string(alloc, line, reply, game, None)?;
+    Ok(Text::from_string(text))
+}
+
+/// The text of the reply to the line with this number, for which the starts of the lines of the game's nodes are at hand. It is that of
+/// `print_reply`, and a reply of many lines is written in a fraction of the time.
+///
+/// # Errors
+///
+/// `NoMemory` where memory could not be had.
+pub fn print_reply_by(
+    alloc: Global,
+    line: u32,
+    reply: &Reply,
+    game: &Game,
+    starts: &LineStarts,
+) -> Result<Text, NoMemory>
+    requires game { IsSound game.now }
+    requires starts { starts.now ≡ line_starts game.now }
+    ensures { IfOk result (λ text. text ≡ printed_reply game.now line reply.now) }
+{
+    let text = reply_string(alloc, line, reply, game, Some(starts))?;
     Ok(Text::from_string(text))
 }

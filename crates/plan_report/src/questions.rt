@@ -5,7 +5,7 @@ ghost use Rattle.plan_report.specs.Layout.{further_line, further_text, line_then
 ghost use Rattle.plan_report.specs.Nodes.{node_word};
 ghost use Rattle.plan_report.specs.Questions.{forbidden_lines, group_line, mask_words};
 
-use crate::nodes::push_node_word;
+use crate::nodes::{push_line_start, push_node_word};
 use game_types::Game;
 use plan_base::{Items, NoMemory, NodeId};
 use std::alloc::Global;
@@ -66,8 +66,7 @@ fn push_node_line(
     requires { IsSound game.now }
     ensures { OnOk result (string_bytes text.new ≡ string_bytes text.old ++ further_line (node_word game.now node ∷ [])) }
 {
-    text.push_str("  ")?;
-    push_node_word(alloc, text, game, node)?;
+    push_line_start(alloc, text, game, node)?;
     text.push_str("\n")?;
     Ok(())
 }

@@ -1,10 +1,9 @@
 //! Words as they are printed.
-ghost use Rattle.std.specs.Prelude.{◌≡◌, ◌++◌, ◌∷◌, [], IfOk, OnOk, encode_utf8, string_bytes};
-ghost use Rattle.std.specs.List.{flat_map};
+ghost use Rattle.std.specs.Prelude.{◌≡◌, ◌++◌, ◌∷◌, [], IfOk, OnOk, encode_utf8, not, string_bytes};
+ghost use Rattle.std.specs.List.{flat_map, list_all};
 ghost use Rattle.script_reader.specs.Fields.{kind_word};
-ghost use Rattle.plan_report.specs.Words.{in_quotes, is_bare, object_word, printed_word, quoted};
+ghost use Rattle.plan_report.specs.Words.{in_quotes, is_bare, needs_quotes, object_word, printed_word, quoted};
 
-use crate::quotes::need_no_quotes;
 use plan_base::Kind;
 use std::alloc::{AllocError, Global};
 
@@ -21,6 +20,20 @@ pub fn kind_word(kind: Kind) -> &'static str
         Kind::Machine => "machine",
         Kind::Tech => "tech",
     }
+}
+
+// Whether a byte stands between quotes alone.
+fn needs_quotes(byte: u8) -> bool
+    ensures { result ≡ needs_quotes byte }
+{
+    byte == b' ' || byte == b'\t' || byte == b'\n' || byte == b'\r' || byte == b'"' || byte == b'\\'
+}
+
+// Whether no byte stands between quotes alone.
+fn need_no_quotes(bytes: &[u8]) -> bool
+    ensures { result ≡ list_all (λ byte. not (needs_quotes byte)) bytes.now }
+{
+    bytes.iter().all(|byte| !needs_quotes(*byte))
 }
 
 // Whether the word is printed as it is.
@@ -103,37 +116,6 @@ fn kind_start(kind: Kind) -> &'static str
     }
 }
 
-// The kind of an object and the colon behind it, at the start of a further line.
-fn line_start(kind: Kind) -> &'static str
-    ensures { result.now ≡ 32 ∷ 32 ∷ (kind_word kind ++ 58 ∷ []) }
-{
-    match kind {
-        Kind::Special => "  special:",
-        Kind::Item => "  item:",
-        Kind::Fluid => "  fluid:",
-        Kind::Recipe => "  recipe:",
-        Kind::Source => "  source:",
-        Kind::Machine => "  machine:",
-        Kind::Tech => "  tech:",
-    }
-}
-
-// Puts the name of an object behind a text as it is, at the start of a further line.
-fn push_bare_line(text: &mut String, kind: Kind, name: &str) -> Result<(), AllocError>
-    ensures { OnOk result (string_bytes text.new ≡ string_bytes text.old ++ 32 ∷ 32 ∷ (kind_word kind ++ 58 ∷ name.now)) }
-{
-    text.push_str(line_start(kind))?;
-    text.push_str(name)
-}
-
-// Puts a word behind a text as it is, at the start of a further line.
-fn push_line_of_word(text: &mut String, word: &str) -> Result<(), AllocError>
-    ensures { OnOk result (string_bytes text.new ≡ string_bytes text.old ++ 32 ∷ 32 ∷ word.now) }
-{
-    text.push_str("  ")?;
-    text.push_str(word)
-}
-
 // Puts the name of an object behind a text as it is.
 fn push_bare_object(text: &mut String, kind: Kind, name: &str) -> Result<(), AllocError>
     ensures { OnOk result (string_bytes text.new ≡ string_bytes text.old ++ (kind_word kind ++ 58 ∷ name.now)) }
@@ -177,23 +159,4 @@ pub fn object_word(alloc: Global, kind: Kind, name: &str) -> Result<String, Allo
     let mut text = String::new(alloc);
     push_object_word(alloc, &mut text, kind, name)?;
     Ok(text)
-}
-
-#[tactic(auto, using(crate::proofs::WordLemmas::bare_object, crate::proofs::WordLemmas::quoted_object))]
-/// Puts the name of an object behind a text as it is printed, at the start of a further line.
-pub fn push_line_of_object(
-    alloc: Global,
-    text: &mut String,
-    kind: Kind,
-    name: &str,
-) -> Result<(), AllocError>
-    ensures { OnOk result (string_bytes text.new ≡ string_bytes text.old ++ 32 ∷ 32 ∷ object_word kind name.now) }
-{
-    // No kind has a byte that needs quotes.
-    if need_no_quotes(name.as_bytes()) {
-        push_bare_line(text, kind, name)
-    } else {
-        let word = quoted_object(alloc, kind, name)?;
-        push_line_of_word(text, word.as_str())
-    }
 }
