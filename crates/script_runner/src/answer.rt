@@ -1,6 +1,7 @@
 //! The answer to one line.
 ghost use Rattle.std.specs.Prelude.{◌≡◌, ◌≤◌, ◌+◌, IfOk};
 ghost use Rattle.game_types.specs.Sound.{IsSound};
+ghost use Rattle.plan_report.specs.LineStarts.{line_starts};
 ghost use Rattle.plan_report.specs.Replies.{printed_reply};
 ghost use Rattle.state_changes.specs.States.{State};
 ghost use Rattle.planner_core.specs.Lines.{IsSessionOf};
@@ -14,7 +15,7 @@ use linear_table::SolveAnswer;
 use plan_base::{NoMemory, Steps, Text};
 use plan_io::Line;
 use plan_lines::Reply;
-use plan_report::print_reply;
+use plan_report::{LineStarts, print_reply_by};
 use planner_core::Planner;
 use std::alloc::Global;
 
@@ -40,11 +41,18 @@ fn solved_in(reply: Reply) -> Option<SolveAnswer>
 }
 
 // A reply as it is told.
-fn told_as(alloc: Global, number: u32, reply: Reply, game: &Game) -> Result<Told, NoMemory>
-    requires { IsSound game.now }
+fn told_as(
+    alloc: Global,
+    number: u32,
+    reply: Reply,
+    game: &Game,
+    starts: &LineStarts,
+) -> Result<Told, NoMemory>
+    requires game { IsSound game.now }
+    requires starts { starts.now ≡ line_starts game.now }
     ensures { IfOk result (λ told. (told.text ≡ printed_reply game.now number reply) × (told.refused ≡ is_refusal_reply reply) × (told.solved ≡ solved_in reply)) }
 {
-    let printed = print_reply(alloc, number, &reply, game);
+    let printed = print_reply_by(alloc, number, &reply, game, starts);
     let refused = is_refusal(&reply);
     let solved = solved_in(reply);
     match printed {
@@ -82,5 +90,5 @@ pub fn answer_line<W: Listener, L>(
         bytes: line,
     };
     listener.hears(planner, script, heard, &reply);
-    told_as(alloc, number, reply, planner.game())
+    told_as(alloc, number, reply, planner.game(), planner.line_starts())
 }

@@ -1,6 +1,7 @@
 //! The lines of a script.
 ghost use Rattle.std.specs.Prelude.{◌≡◌, ◌≤◌, IfOk};
 ghost use Rattle.game_types.specs.Sound.{IsSound};
+ghost use Rattle.plan_report.specs.LineStarts.{line_starts};
 ghost use Rattle.plan_report.specs.Replies.{printed_reply};
 ghost use Rattle.state_changes.specs.States.{State};
 ghost use Rattle.planner_core.specs.Lines.{IsSessionOf};
@@ -11,7 +12,7 @@ use crate::forced::{Deed, deed_of};
 use game_types::Game;
 use plan_base::{NoMemory, Steps, Text};
 use plan_lines::Reply;
-use plan_report::print_reply;
+use plan_report::{LineStarts, print_reply_by};
 use planner_core::Planner;
 use script_runner::{is_refusal, reading_of, reply_to};
 use std::alloc::Global;
@@ -34,11 +35,13 @@ fn told_as(
     reply: Reply,
     deed: Deed,
     game: &Game,
+    starts: &LineStarts,
 ) -> Result<Told, NoMemory>
-    requires { IsSound game.now }
+    requires game { IsSound game.now }
+    requires starts { starts.now ≡ line_starts game.now }
     ensures { IfOk result (λ told. (told.text ≡ printed_reply game.now number reply) × (told.refused ≡ is_refusal_reply reply)) }
 {
-    let printed = print_reply(alloc, number, &reply, game);
+    let printed = print_reply_by(alloc, number, &reply, game, starts);
     let refused = is_refusal(&reply);
     match printed {
         Ok(text) => Ok(Told {
@@ -68,5 +71,12 @@ pub fn answer_script<L>(
     let reading = reading_of(alloc, line)?;
     let deed = deed_of(&reading);
     let reply = reply_to(planner, number, reading, steps)?;
-    told_as(alloc, number, reply, deed, planner.game())
+    told_as(
+        alloc,
+        number,
+        reply,
+        deed,
+        planner.game(),
+        planner.line_starts(),
+    )
 }
