@@ -10,3 +10,4 @@ pub mod WhyLemmas
 pub mod Gathered
 pub mod OrderLemmas
 pub mod RiseLemmas
+pub mod NumberLemmas

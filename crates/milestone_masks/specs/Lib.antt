@@ -4,3 +4,4 @@ pub mod Held
 pub mod Laws
 pub mod Why
 pub mod Found
+pub mod Numbers

@@ -6,7 +6,7 @@ ghost use Rattle.milestone_masks.specs.Found.{stood_on, AreRowsOf, AreSeen, Grow
 
 use crate::found_list::FoundList;
 use crate::supports::visit;
-use graph_store::{Group, Row, Rows};
+use graph_store::{PackedRow, Rows};
 use plan_base::{NodeId, Steps};
 use reach_ranks::Ranks;
 use std::alloc::{AllocError, Global};
@@ -19,7 +19,7 @@ fn rows_of<'a, R: Rows<L>, L>(
     start: usize,
     count: usize,
     steps: &mut Steps<L>,
-) -> Result<Vec<&'a Row>, AllocError>
+) -> Result<Vec<&'a PackedRow>, AllocError>
     requires nodes { All (λ m. m.0 < length (R.rows rows.now)) nodes.now }
     requires within { start + count ≤ length nodes.now }
     ensures long { IfOk result (λ block. length block.items ≡ count) }
@@ -32,93 +32,23 @@ fn rows_of<'a, R: Rows<L>, L>(
     let mut block = Vec::with_capacity(alloc, count)?;
     for k in 0..count {
         let node = nodes[start + k];
-        block.push(rows.row(node, steps))?;
+        block.push(rows.packed(node, steps))?;
     }
     Ok(block)
 }
 
-/// Whether the first member of the group is one of the first so many nodes, as each is.
-fn begins_below(group: &Group, count: usize) -> bool
-    requires { All (λ m. m.0 < count) group.now.members }
-    ensures { result ≡ true }
-{
-    match group.members.as_slice().first() {
-        Some(m) => (m.0 as usize) < count,
-        None => true,
-    }
-}
-
-/// Whether the groups of the row begin so.
-fn row_begins_below(row: &Row, count: usize) -> bool
-    requires { HasMembersBelow count row.now }
-    ensures { result ≡ true }
-{
-    for group in row.groups.as_slice() {
-        if !begins_below(group, count) {
-            return false;
-        }
-    }
-    true
-}
-
-/// Whether each of these rows has fewer groups than numbers count, as each has.
-fn have_few_groups(block: &[&Row]) -> bool
-    ensures { result ≡ true }
-{
-    for row in block {
-        if row.groups.as_slice().len() == usize::MAX {
-            return false;
-        }
-    }
-    true
-}
-
-/// Whether each group of the row has fewer members than numbers count, as each has.
-fn has_few_members(row: &Row) -> bool
-    ensures { result ≡ true }
-{
-    for group in row.groups.as_slice() {
-        if group.members.as_slice().len() == usize::MAX {
-            return false;
-        }
-    }
-    true
-}
-
-/// Whether each group of all these rows has so few.
-fn have_few_members(block: &[&Row]) -> bool
-    ensures { result ≡ true }
-{
-    for row in block {
-        if !has_few_members(row) {
-            return false;
-        }
-    }
-    true
-}
-
-/// Whether the groups of all these rows begin so.
-fn rows_begin_below(block: &[&Row], count: usize) -> bool
-    requires { All (λ r. HasMembersBelow count r.now) block.now }
-    ensures { result ≡ true }
-{
-    for row in block {
-        if !row_begins_below(row, count) {
-            return false;
-        }
-    }
-    true
-}
-
-/// Whether the groups of all these rows begin so.
+/// Whether each of these rows is at hand, as it is then.
 ///
-/// The rows are read first, then their groups, then the members: none of the reads of one kind waits for another, nor does the end of a loop
-/// wait for them, so that all come from memory together; then they are at hand.
-fn all_begin_below(block: &[&Row], count: usize) -> bool
-    requires { All (λ r. HasMembersBelow count r.now) block.now }
+/// None of the reads waits for another, nor does the end of the loop wait for them, so that all rows come from memory together.
+fn are_at_hand(block: &[&PackedRow]) -> bool
     ensures { result ≡ true }
 {
-    have_few_groups(block) && have_few_members(block) && rows_begin_below(block, count)
+    for row in block {
+        if !row.is_at_hand() {
+            return false;
+        }
+    }
+    true
 }
 
 /// Adds what the nodes from a place on stand on, whose rows these are.
@@ -128,7 +58,7 @@ fn visit_rows(
     ranks: &Ranks,
     granted: &[bool],
     start: usize,
-    block: &[&Row],
+    block: &[&PackedRow],
 ) -> Result<(), AllocError>
     requires seen { AreSeen found.old seen.old }
     requires ranks { length ranks.now ≡ length seen.old }
@@ -169,9 +99,9 @@ pub fn visit_block<R: Rows<L>, L>(
     ensures steps { steps.new ≤ steps.old + (end - start) }
     ensures later { steps.old ≤ steps.new }
 {
-    let count = rows.len() as usize;
+    let _count = rows.len();
     let block = rows_of(alloc, rows, found.as_slice(), start, end - start, steps)?;
-    if all_begin_below(&block, count) {
+    if are_at_hand(&block) {
         visit_rows(found, seen, ranks, granted, start, &block)
     } else {
         Ok(())

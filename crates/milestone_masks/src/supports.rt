@@ -1,11 +1,12 @@
 //! What nodes stand on: the members of their rows' groups by which they are reached.
 ghost use Rattle.std.specs.Prelude.{◌≡◌, ◌<◌, ◌==◌, Some, All, length, slice_index, OnOk};
 ghost use Rattle.graph_store.specs.Rows.{has_node, HasMembersBelow};
+ghost use Rattle.milestone_masks.specs.Numbers.{group_at, nodes_at};
 ghost use Rattle.milestone_masks.specs.Why.{is_support, is_support_in};
 ghost use Rattle.milestone_masks.specs.Found.{stands_by, turn_of, AreSeen, Grows, IsFirstOf, IsLeastTurn};
 
 use crate::found_list::FoundList;
-use graph_store::{Group, Row};
+use graph_store::{PackedRow, first_group};
 use plan_base::NodeId;
 use reach_ranks::Ranks;
 use std::alloc::AllocError;
@@ -24,21 +25,21 @@ fn turn_of(ranks: &Ranks, node: NodeId) -> u64
 }
 
 /// The least of the members' turns.
-fn least_turn(ranks: &Ranks, members: &[NodeId]) -> u64
-    requires { All (λ m. m.0 < length ranks.now) members.now }
-    ensures { IsLeastTurn result ranks.now members.now }
+fn least_turn(ranks: &Ranks, members: &[u32]) -> u64
+    requires { All (λ m. m < length ranks.now) members.now }
+    ensures { IsLeastTurn result ranks.now (nodes_at members.now) }
 {
     let mut least = u64::MAX;
     for m in members {
-        least = least.min(turn_of(ranks, *m));
+        least = least.min(turn_of(ranks, NodeId(*m)));
     }
     least
 }
 
 /// The member that comes first among those that have a rank.
-fn first_member(ranks: &Ranks, members: &[NodeId]) -> Option<NodeId>
-    requires { All (λ m. m.0 < length ranks.now) members.now }
-    ensures { IsFirstOf result ranks.now members.now }
+fn first_member(ranks: &Ranks, members: &[u32]) -> Option<NodeId>
+    requires { All (λ m. m < length ranks.now) members.now }
+    ensures { IsFirstOf result ranks.now (nodes_at members.now) }
 {
     let least = least_turn(ranks, members);
     if least < NO_TURN {
@@ -61,47 +62,48 @@ pub fn note(found: &mut FoundList, seen: &mut [bool], node: NodeId) -> Result<()
     Ok(())
 }
 
-/// Adds each of the nodes.
-fn note_each(found: &mut FoundList, seen: &mut [bool], nodes: &[NodeId]) -> Result<(), AllocError>
+/// Adds each of the nodes with these numbers.
+fn note_each(found: &mut FoundList, seen: &mut [bool], nodes: &[u32]) -> Result<(), AllocError>
     requires seen { AreSeen found.old seen.old }
-    requires nodes { All (λ m. m.0 < length seen.old) nodes.now }
+    requires nodes { All (λ m. m < length seen.old) nodes.now }
     ensures seen { OnOk result (AreSeen found.new seen.new) }
-    ensures grows { OnOk result (Grows (λ n. has_node nodes.now n) found.old found.new) }
+    ensures grows { OnOk result (Grows (λ n. has_node (nodes_at nodes.now) n) found.old found.new) }
 {
     for m in nodes {
-        note(found, seen, *m)?;
+        note(found, seen, NodeId(*m))?;
     }
     Ok(())
 }
 
-/// Adds what the group stands on.
+/// Adds what the group of these members stands on.
 fn note_group(
     found: &mut FoundList,
     seen: &mut [bool],
     ranks: &Ranks,
-    group: &Group,
+    all: bool,
+    members: &[u32],
 ) -> Result<(), AllocError>
     requires seen { AreSeen found.old seen.old }
     requires ranks { length ranks.now ≡ length seen.old }
-    requires members { All (λ m. m.0 < length seen.old) group.now.members }
+    requires members { All (λ m. m < length seen.old) members.now }
     ensures seen { OnOk result (AreSeen found.new seen.new) }
-    ensures grows { OnOk result (Grows (is_support_in ranks.now group.now) found.old found.new) }
+    ensures grows { OnOk result (Grows (is_support_in ranks.now (group_at all members.now)) found.old found.new) }
 {
-    if group.all {
-        return note_each(found, seen, group.members.as_slice());
+    if all {
+        return note_each(found, seen, members);
     }
-    match first_member(ranks, group.members.as_slice()) {
+    match first_member(ranks, members) {
         Some(m) => note(found, seen, m),
         None => Ok(()),
     }
 }
 
-/// Adds what the row stands on.
+/// Adds what the row stands on. Only its list of numbers is read.
 fn note_row(
     found: &mut FoundList,
     seen: &mut [bool],
     ranks: &Ranks,
-    row: &Row,
+    row: &PackedRow,
 ) -> Result<(), AllocError>
     requires seen { AreSeen found.old seen.old }
     requires ranks { length ranks.now ≡ length seen.old }
@@ -109,8 +111,12 @@ fn note_row(
     ensures seen { OnOk result (AreSeen found.new seen.new) }
     ensures grows { OnOk result (Grows (is_support ranks.now (Some row.now)) found.old found.new) }
 {
-    for group in row.groups.as_slice() {
-        note_group(found, seen, ranks, group)?;
+    let mut rest = row.words();
+    for k in 0..row.group_count() {
+        let _place = k;
+        let (all, members, behind) = first_group(rest);
+        note_group(found, seen, ranks, all, members)?;
+        rest = behind;
     }
     Ok(())
 }
@@ -122,7 +128,7 @@ pub fn visit(
     ranks: &Ranks,
     granted: &[bool],
     node: NodeId,
-    row: &Row,
+    row: &PackedRow,
 ) -> Result<(), AllocError>
     requires seen { AreSeen found.old seen.old }
     requires ranks { length ranks.now ≡ length seen.old }

@@ -18,16 +18,16 @@ loop-k-preserved g c = record {
       (All-push
       (λ (r : Bor Row). HasMembersBelow (length (g.R.Rows.rows c.args.rows.now)) r.now)
       c.loop-k.block.items
-      c.row.result
+      c.packed.result
       c.loop-k.invariant.members
-      (get-all (HasMembersBelow (length (g.R.Rows.rows c.args.rows.now))) (g.R.Rows.rows c.args.rows.now) _ c.row.result.now c.row.ensures.row c.len-count.ensures.members));
+      (get-all (HasMembersBelow (length (g.R.Rows.rows c.args.rows.now))) (g.R.Rows.rows c.args.rows.now) _ c.packed.result.now c.packed.ensures.row c.len-count.ensures.members));
   rows = subst
       (λ (l : List (Bor Row)). AreRowsOf (g.R.Rows.rows c.args.rows.now) (take (c.loop-k.k + 1) (drop c.args.start c.args.nodes.now)) (map (λ (r : Bor Row). r.now) l))
       (sym c.in_ok-push.ensures.items)
-      (row-read (λ (r : Bor Row). r.now) c.loop-k.block.items c.row.result (g.R.Rows.rows c.args.rows.now) (drop c.args.start c.args.nodes.now) c.loop-k.k (record { 0 = 0 })
+      (row-read (λ (r : Bor Row). r.now) c.loop-k.block.items c.packed.result (g.R.Rows.rows c.args.rows.now) (drop c.args.start c.args.nodes.now) c.loop-k.k (record { 0 = 0 })
       (omega (arith, c.loop-k-test.true, c.requires.within, length-drop c.args.start c.args.nodes.now))
       c.loop-k.invariant.rows
-      (ap (λ (n : NodeId). slice_get (g.R.Rows.rows c.args.rows.now) n.0) (get_or-drop c.args.start c.args.nodes.now c.loop-k.k (record { 0 = 0 })) ∙ c.row.ensures.row));
-  steps = omega (arith, c.row.ensures.step, c.loop-k.invariant.steps);
-  later = omega (arith, c.row.ensures.later, c.loop-k.invariant.later);
+      (ap (λ (n : NodeId). slice_get (g.R.Rows.rows c.args.rows.now) n.0) (get_or-drop c.args.start c.args.nodes.now c.loop-k.k (record { 0 = 0 })) ∙ c.packed.ensures.row));
+  steps = omega (arith, c.packed.ensures.step, c.loop-k.invariant.steps);
+  later = omega (arith, c.packed.ensures.later, c.loop-k.invariant.later);
 }
