@@ -40,6 +40,10 @@ use Rattle.planning_state.proofs.Kept.{kept-is}
 use Rattle.state_changes.proofs.NameLemmas.{edits-same}
 use Rattle.state_changes.proofs.Changing.{all-parts, edits-split, effect-book, effect-tables, names-refl, names-sym, names-trans, marks-game, one-mark, stays-refl, stays-sym, stays-trans, untouched-more, untouched-one}
 
+-- ---- a book that stays
+pub names-still : (before after : Book) → after ≡ before → KeepsNames before.game after.game
+names-still before after same = subst (λ (b : Book). KeepsNames before.game b.game) (sym same) (names-refl before.game)
+
 -- ---- the work of an entry
 pub work-held : (before after : Book) (tables left : List ProductionTable) (changes : List Change) (edits : List Edit) (old_kept new_kept : Kept) (old new : ℕ) → AreWorlds (rows_of before.game) before.barred before.granted old_kept → AreWorlds (rows_of after.game) after.barred after.granted new_kept
     → KeepsNames before.game after.game → edits ≡ edits_named before.game changes → new ≤ old + 8 * size_of_all (rows_of after.game) (touched_by_all (shape_of after.game) edits) old_kept new_kept

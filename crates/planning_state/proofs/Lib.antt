@@ -8,3 +8,4 @@ pub mod MilestoneLemmas
 pub mod SettleLemmas
 pub mod HeldLemmas
 mod RememberedLemmas
+mod StartLemmas

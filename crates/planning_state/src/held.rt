@@ -5,6 +5,7 @@ ghost use Rattle.game_types.specs.Nodes.{shape_of};
 ghost use Rattle.game_types.specs.declared.games.Game.{Game as GameOf};
 ghost use Rattle.data_edit.specs.declared.books.Book.{Book as BookOf};
 ghost use Rattle.data_edit.specs.Books.{IsSoundBook};
+ghost use Rattle.data_edit.specs.Names.{KeepsNames};
 ghost use Rattle.depend_index.specs.Indexed.{IsIndex};
 ghost use Rattle.depend_rows.specs.Rows.{rows_of};
 ghost use Rattle.depend_rows.specs.Touched.{touched_by_all};
@@ -120,6 +121,7 @@ pub fn apply_held<R: ReplaceRows<L>, L>(
     requires entry { IsEntry is_entry changes.now }
     requires held { list_all can_be_held changes.now ≡ true }
     ensures kept { IsKept book.new (R.rows graph.new) worlds.new }
+    ensures names { KeepsNames book.old.game book.new.game }
     ensures remembers { Remembers book.new (R.rows graph.new) remembered.new }
     ensures tables { AreSoundTables book.new.game tables.new.items }
     ensures index { IsIndex book.new.game index.new }
@@ -173,6 +175,7 @@ pub fn restore_held<R: ReplaceRows<L>, L>(
     requires index { IsIndex book.old.game index.old }
     requires leads { (before : BookOf) × (stood : List Table) × TakesBack book.old tables.old.items changes.now undos.now before stood }
     ensures kept { IsKept book.new (R.rows graph.new) worlds.new }
+    ensures names { KeepsNames book.old.game book.new.game }
     ensures remembers { Remembers book.new (R.rows graph.new) remembered.new }
     ensures tables { AreSoundTables book.new.game tables.new.items }
     ensures index { IsIndex book.new.game index.new }

@@ -1,4 +1,5 @@
-//! What is kept beside a book that was just loaded: its rows, the index that they are put together from, and the ranks of its base world.
+//! What is kept beside a book that was just loaded: its rows, the index that they are put together from, the ranks of its base world, and the
+//! starts of the lines of its nodes.
 ghost use Rattle.std.specs.Prelude.{◌≡◌, ◌+◌, ◌*◌, ◌<◌, ◌≤◌, [], IfOk, MatchResult, length};
 ghost use Rattle.plan_base.specs.Shape.{node_count};
 ghost use Rattle.graph_store.specs.Rows.{AreMembersBelow, member_count};
@@ -7,6 +8,7 @@ ghost use Rattle.data_edit.specs.Books.{IsSoundBook};
 ghost use Rattle.depend_index.specs.Indexed.{IsIndex};
 ghost use Rattle.depend_rows.specs.Rows.{rows_of};
 ghost use Rattle.milestone_masks.specs.Worlds.{AreWorlds};
+ghost use Rattle.plan_report.specs.LineStarts.{line_starts};
 
 use crate::LoadFault;
 use data_edit::Book;
@@ -15,6 +17,7 @@ use depend_rows::{RowsFault, rows_within};
 use graph_store::{Graph, Row, Rows};
 use milestone_masks::Worlds;
 use plan_base::{NoMemory, Steps};
+use plan_report::LineStarts;
 use reach_ranks::{WorldMarks, ranks_afresh};
 use std::alloc::Global;
 
@@ -45,6 +48,7 @@ pub struct Kept {
     pub index: Index,
     pub graph: Graph,
     pub worlds: Worlds,
+    pub starts: LineStarts,
 }
 
 /// What is kept beside a book with no milestones.
@@ -57,6 +61,7 @@ pub fn kept_beside<L>(alloc: Global, book: &Book, steps: &mut Steps<L>) -> Resul
     ensures graph { IfOk result (λ kept. kept.graph ≡ rows_of book.now.game) }
     ensures worlds { IfOk result (λ kept. AreWorlds (rows_of book.now.game) book.now.barred book.now.granted kept.worlds) }
     ensures none { IfOk result (λ kept. kept.worlds.milestones ≡ []) }
+    ensures starts { IfOk result (λ kept. kept.starts ≡ line_starts book.now.game) }
     ensures steps { IfOk result (λ _. steps.new ≤ steps.old + node_count (shape_of book.now.game) + 4 * (node_count (shape_of book.now.game) + member_count (rows_of book.now.game))) }
     ensures later { steps.old ≤ steps.new }
 {
@@ -64,11 +69,16 @@ pub fn kept_beside<L>(alloc: Global, book: &Book, steps: &mut Steps<L>) -> Resul
         Ok(made) => made,
         Err(fault) => return Err(load_fault(fault)),
     };
+    let starts = match LineStarts::make(alloc, &book.game) {
+        Ok(starts) => starts,
+        Err(NoMemory) => return Err(LoadFault::NoMemory),
+    };
     match graph_and_worlds(alloc, book, rows, steps) {
         Ok((graph, worlds)) => Ok(Kept {
             index,
             graph,
             worlds,
+            starts,
         }),
         Err(NoMemory) => Err(LoadFault::NoMemory),
     }

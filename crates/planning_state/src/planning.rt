@@ -8,6 +8,7 @@ ghost use Rattle.data_edit.specs.Books.{IsSoundBook};
 ghost use Rattle.depend_index.specs.Indexed.{IsIndex};
 ghost use Rattle.depend_rows.specs.Rows.{rows_of};
 ghost use Rattle.milestone_masks.specs.Worlds.{AreWorlds};
+ghost use Rattle.plan_report.specs.LineStarts.{line_starts};
 ghost use Rattle.planner_tables.specs.Effects.{AreSoundTables};
 ghost use Rattle.state_changes.specs.States.{first_state, state_of, State};
 ghost use Rattle.state_changes.specs.Effects.{effect_of, is_entry};
@@ -29,6 +30,7 @@ use graph_store::Graph;
 use milestone_masks::Worlds;
 use plan_base::{NoMemory, Steps};
 use plan_lines::Change;
+use plan_report::LineStarts;
 use production_table::Table;
 use state_changes::{Back, Entry, Refusal, Undo, back_of, entry_of};
 use std::alloc::Global;
@@ -44,7 +46,8 @@ pub enum LoadFault {
 }
 
 /// A planning state. It is seen as its book, its milestones and its tables; the rows of the game, the index that they are
-/// put together from and the ranks of every world, which these determine, are kept beside them, and the ranks before the last change.
+/// put together from, the ranks of every world and the starts of the lines of its nodes, which these determine, are kept beside
+/// them, and the ranks before the last change.
 #[derive(Drop)]
 pub struct Planning {
     alloc: Global,
@@ -54,9 +57,11 @@ pub struct Planning {
     graph: Graph,
     worlds: Worlds,
     remembered: Remembered,
+    starts: LineStarts,
 }
 
 impl Model for Planning {
+    ghost use Rattle.std.specs.Prelude.{◌≡◌};
     ghost use Rattle.state_changes.specs.States.{State, state_of};
     ghost use Rattle.milestone_masks.specs.Worlds.{milestones_of};
     ghost use Rattle.planning_state.specs.Worlds.{IsKept};
@@ -68,8 +73,9 @@ impl Model for Planning {
     ghost view = { λ p. state_of p.book (milestones_of p.worlds) p.tables.items };
 
     ghost use Rattle.planning_state.specs.Remembered.{Remembers};
+    ghost use Rattle.plan_report.specs.LineStarts.{line_starts};
 
-    ghost invariant = { λ p. IsKept p.book p.graph p.worlds × AreSoundTables p.book.game p.tables.items × IsIndex p.book.game p.index × Remembers p.book p.graph p.remembered };
+    ghost invariant = { λ p. IsKept p.book p.graph p.worlds × AreSoundTables p.book.game p.tables.items × IsIndex p.book.game p.index × Remembers p.book p.graph p.remembered × (p.starts ≡ line_starts p.book.game) };
 }
 
 // A planning state with no milestones and no tables.
@@ -79,12 +85,14 @@ fn assemble(alloc: Global, book: Book, kept: Kept) -> Planning
     requires rows { kept.graph ≡ rows_of book.game }
     requires none { kept.worlds.milestones ≡ [] }
     requires worlds { AreWorlds (rows_of book.game) book.barred book.granted kept.worlds }
+    requires starts { kept.starts ≡ line_starts book.game }
     ensures { result ≡ state_of book [] [] }
 {
     let Kept {
         index,
         graph,
         worlds,
+        starts,
     } = kept;
     Planning {
         alloc,
@@ -94,6 +102,7 @@ fn assemble(alloc: Global, book: Book, kept: Kept) -> Planning
         graph,
         worlds,
         remembered: Remembered::none(),
+        starts,
     }
 }
 
@@ -144,6 +153,14 @@ impl Planning {
         ensures sound { AreSoundTables self.now.book.game result.now }
     {
         self.tables.as_slice()
+    }
+
+    /// The start of the line of each node. It is made once, where the game is loaded: no edit changes which things there are, or
+    /// their names.
+    pub fn line_starts(&self) -> &LineStarts
+        ensures { result.now ≡ line_starts self.now.book.game }
+    {
+        &self.starts
     }
 }
 

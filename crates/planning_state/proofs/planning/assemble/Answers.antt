@@ -10,4 +10,5 @@ invariant_of-result c = (
   subst (AreSoundTables c.args.book.game) (sym c.new.ensures.items) (no-tables c.args.book.game),
   c.requires.index,
   remembers-nothing c.args.book c.args.kept.graph c.none.result c.none.ensures.marks c.none.ensures.before,
+  c.requires.starts,
 )

@@ -1,10 +1,11 @@
-use Rattle.std.proofs.Common.{◌≤◌, ◌+◌, ℕ, IfErr, List, OnOk, subst, sym}
+use Rattle.std.proofs.Common.{◌≤◌, ◌+◌, ◌∙◌, ℕ, IfErr, List, OnOk, subst, sym}
 use Rattle.edit_undo.specs.Edits.{apply_edits, IsFaultOf}
 use Rattle.plan_lines.specs.declared.change.Change.{Change}
 use Rattle.milestone_masks.specs.Worlds.{milestones_of}
 use Rattle.state_changes.specs.States.{State, state_of}
 use Rattle.state_changes.specs.Effects.{effect_of}
 use Rattle.planning_state.proofs.EntryLemmas.{work-add, work-book}
+use Rattle.planning_state.proofs.StartLemmas.{line_starts-kept}
 use Rattle.planning_state.proofs.planning.PlanningEditable.apply_all.Goals as goal
 
 pub returns-in-Add-clause-work : goal.returns-in-Add-clause-work
@@ -30,4 +31,13 @@ returns-in-Take-clause-fault g c =
     (c.take_milestone.ensures.fault c.self.inside.tables.items))
 
 pub invariant_of-self-in-Take : goal.invariant_of-self-in-Take
-invariant_of-self-in-Take g c = (c.take_milestone.ensures.kept c.self.inside.graph c.self.invariant.0, c.self.invariant.1, c.self.invariant.2, c.self.invariant.3)
+invariant_of-self-in-Take g c = (c.take_milestone.ensures.kept c.self.inside.graph c.self.invariant.0, c.self.invariant.1, c.self.invariant.2, c.self.invariant.3, c.self.invariant.4)
+
+pub invariant_of-self-in-Held : goal.invariant_of-self-in-Held
+invariant_of-self-in-Held g c = (
+  c.apply_held.ensures.kept,
+  c.apply_held.ensures.tables,
+  c.apply_held.ensures.index,
+  c.apply_held.ensures.remembers,
+  c.self.invariant.4 ∙ sym (line_starts-kept c.self.inside.book.game c.apply_held.new.book.game c.apply_held.ensures.names),
+)

@@ -1,4 +1,4 @@
-use Rattle.std.proofs.Common.{◌<◌, ◌≤◌, ◌+◌, ℕ, OnOk, sym, subst, refl, length}
+use Rattle.std.proofs.Common.{◌<◌, ◌≤◌, ◌+◌, ◌∙◌, ℕ, OnOk, sym, subst, refl, length}
 use Rattle.plan_base.specs.Shape.{node_count}
 use Rattle.game_types.specs.Nodes.{shape_of}
 use Rattle.std.specs.Prelude.{insert}
@@ -7,6 +7,7 @@ use Rattle.state_changes.specs.Undoing.{FitsTaken}
 use Rattle.planning_state.specs.Books.{TakesBack}
 use Rattle.planning_state.proofs.HeldLemmas.{held-changes, takes-back}
 use Rattle.planning_state.proofs.EntryLemmas.{fits-put, put-sound, put-within, work-book, work-put}
+use Rattle.planning_state.proofs.StartLemmas.{line_starts-kept}
 use Rattle.planning_state.proofs.planning.PlanningEditable.restore_all.Goals as goal
 
 pub put_milestone-requires-clause-node : goal.put_milestone-requires-clause-node
@@ -40,4 +41,13 @@ returns-in-Parts-clause-work g c =
     (work-book c.args.self.now _ _ c.args.edits.now c.self.view_is (held-changes c.requires.0 c.args.self.now c.args.edits.now c.args.inverses.now c.in-Parts.ensures c.requires.1)) c.restore_held.ensures.work
 
 pub invariant_of-self : goal.invariant_of-self
-invariant_of-self g c = (c.drop_milestone.ensures.kept c.self.inside.book c.self.inside.graph c.self.invariant.0, c.self.invariant.1, c.self.invariant.2, c.self.invariant.3)
+invariant_of-self g c = (c.drop_milestone.ensures.kept c.self.inside.book c.self.inside.graph c.self.invariant.0, c.self.invariant.1, c.self.invariant.2, c.self.invariant.3, c.self.invariant.4)
+
+pub invariant_of-self-in-Parts : goal.invariant_of-self-in-Parts
+invariant_of-self-in-Parts g c = (
+  c.restore_held.ensures.kept,
+  c.restore_held.ensures.tables,
+  c.restore_held.ensures.index,
+  c.restore_held.ensures.remembers,
+  c.self.invariant.4 ∙ sym (line_starts-kept c.self.inside.book.game c.restore_held.new.book.game c.restore_held.ensures.names),
+)
