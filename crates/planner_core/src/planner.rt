@@ -5,6 +5,7 @@ ghost use Rattle.graph_store.specs.Rows.{member_count};
 ghost use Rattle.game_types.specs.Nodes.{shape_of};
 ghost use Rattle.game_types.specs.Sound.{IsSound};
 ghost use Rattle.depend_rows.specs.Rows.{rows_of};
+ghost use Rattle.plan_report.specs.LineStarts.{line_starts};
 ghost use Rattle.state_changes.specs.States.{State};
 ghost use Rattle.planner_tables.specs.Effects.{AreSoundTables};
 ghost use Rattle.edit_undo.specs.Session.{last_of, redo_of, undo_of};
@@ -22,6 +23,7 @@ use edit_undo::{DoFault, History};
 use game_types::Game;
 use plan_base::{Denied, NoMemory, Steps, Text};
 use plan_lines::{Change, Command, RefusalCode, Reply};
+use plan_report::LineStarts;
 use planner_tables::{linear_named, rate_reply, solve_reply};
 use planning_state::{LoadFault, Planning, Undo};
 use production_table::Table;
@@ -83,6 +85,13 @@ impl Planner {
         ensures sound { IsSound result.now }
     {
         self.planning.game()
+    }
+
+    /// The start of the line of each node, which no edit changes.
+    pub fn line_starts(&self) -> &LineStarts
+        ensures { result.now ≡ line_starts self.now.state.book.game }
+    {
+        self.planning.line_starts()
     }
 
     /// The tables as the edits left them, in the order in which they were added.
