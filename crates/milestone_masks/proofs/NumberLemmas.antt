@@ -6,8 +6,7 @@ use Rattle.std.proofs.lemmas.List.Elements.{All-map}
 use Rattle.std.proofs.lemmas.List.Folds.{list_any_more}
 use Rattle.plan_base.specs.declared.NodeId.{NodeId}
 use Rattle.graph_store.specs.declared.Group.{Group}
-use Rattle.graph_store.specs.declared.Row.{Row}
-use Rattle.graph_store.specs.Rows.{has_node, HasMembersBelow}
+use Rattle.graph_store.specs.Rows.{has_node}
 use Rattle.graph_store.specs.Packed.{packed_groups, IsFirstGroup}
 use Rattle.milestone_masks.specs.Why.{is_support_in}
 use Rattle.milestone_masks.specs.Found.{turn_of, Grows, IsLeastTurn}

@@ -1,7 +1,6 @@
 -- One group more was taken from the numbers.
 use Rattle.std.proofs.Common.{◌<◌, ◌+◌, List, [], false, length, get_or, drop, arith}
 use Rattle.graph_store.specs.declared.Group.{Group}
-use Rattle.graph_store.specs.Packed.{IsFirstGroup}
 use Rattle.milestone_masks.proofs.NumberLemmas.{group-noted, left-first, numbers-below}
 use Rattle.milestone_masks.proofs.supports.note_row.Goals as goal
 

@@ -7,10 +7,10 @@ pub returns-then-rank-eq0 : goal.returns-then-rank-eq0
 returns-then-rank-eq0 c = λ k lt.
     sym
     (fails_by
-    (λ m. within c.args.ranks.now k m.0)
+    (within c.args.ranks.now k)
     c.args.members.now
     c.loop-m.m-index
-    (record { 0 = 0 })
+    0
     (is_one_to (k + 1) c.loop-m.rank)
     (is_one_to (k + 1) c.next_rank.result)
     (omega arith)

@@ -5,4 +5,4 @@ use Rattle.reach_ranks.proofs.given.all_rank.Given as goal
 
 abbrev pub invariant-loop-m : goal.invariant-loop-m
 invariant-loop-m l =
-    (k : ℕ) → k < 4294967295 → is_one_to (k + 1) l.rank ≡ list_all (λ m. within l.ranks k m.0) (take l.m-index l.members)
+    (k : ℕ) → k < 4294967295 → is_one_to (k + 1) l.rank ≡ list_all (within l.ranks k) (take l.m-index l.members)

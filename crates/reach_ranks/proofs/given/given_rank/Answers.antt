@@ -32,10 +32,10 @@ row_rank-requires g c =
     (length c.args.ranks.now)
     (g.R.Rows.rows c.args.rows.now)
     c.args.node.0
-    c.row.result.now
+    c.packed.result.now
     c.len-count.ensures.members
     c.requires.node
-    c.row.ensures.row
+    c.packed.ensures.row
     c.requires.ranks
 
 pub returns-clause-given : goal.returns-clause-given
@@ -46,9 +46,9 @@ returns-clause-given g c =
     c.args.ranks.now
     c.args.node.0
     c.row_rank.result
-    c.row.result.now
+    c.packed.result.now
     (omega arith)
     (sym c.is_barred.ensures ∙ c.if-is_barred.false)
     c.if-marks-node.false
-    c.row.ensures.row
+    c.packed.ensures.row
     c.row_rank.ensures
