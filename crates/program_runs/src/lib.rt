@@ -23,7 +23,7 @@ mod watch;
 mod words;
 
 /// The version of the programs.
-pub const VERSION: &str = "0.15.0";
+pub const VERSION: &str = "0.16.0";
 
 /// The file of a run without a script: it is empty.
 pub const NO_SCRIPT: &str = "/dev/null";
