@@ -23,9 +23,11 @@ class Run(NamedTuple):
     said: str
 
 
-def launched() -> Dict[str, str]:
-    """The environment that the launcher gives to a program: memory in large pages, where the machine lends them to who asks."""
-    return {"GLIBC_TUNABLES": "glibc.malloc.hugetlb=1", **os.environ}
+def launched(stays: bool = False) -> Dict[str, str]:
+    """The environment that the launcher gives to a program: memory in large pages, where the machine lends them to who asks, which one that
+    stays gives back, and another keeps."""
+    kept = "" if stays else ":glibc.malloc.tcache_count=65535:glibc.malloc.trim_threshold=4294967296:glibc.malloc.top_pad=33554432"
+    return {"GLIBC_TUNABLES": "glibc.malloc.hugetlb=1" + kept, **os.environ}
 
 
 def run(words: Sequence[Word], given: Optional[Word] = None, environment: Optional[Dict[str, str]] = None) -> Run:
