@@ -3,6 +3,7 @@ import atexit
 import functools
 import os
 import pathlib
+import re
 import shutil
 import subprocess
 import sys
@@ -24,10 +25,9 @@ class Run(NamedTuple):
 
 
 def launched(stays: bool = False) -> Dict[str, str]:
-    """The environment that the launcher gives to a program: memory in large pages, where the machine lends them to who asks, which one that
-    stays gives back, and another keeps."""
-    kept = "" if stays else ":glibc.malloc.tcache_count=65535:glibc.malloc.trim_threshold=4294967296:glibc.malloc.top_pad=33554432"
-    return {"GLIBC_TUNABLES": "glibc.malloc.hugetlb=1" + kept, **os.environ}
+    """The environment that the launcher gives to a program that ends with its run, or to one that stays: its own lines tell it."""
+    large, kept = re.findall(r"\bmemory=(\S+)", (TOP / "factoplan").read_text(encoding="utf-8"))
+    return {"GLIBC_TUNABLES": large if stays else kept.replace("$memory", large), **os.environ}
 
 
 def run(words: Sequence[Word], given: Optional[Word] = None, environment: Optional[Dict[str, str]] = None) -> Run:
