@@ -1,4 +1,4 @@
-"""The programs that are measured, and runs of them with the time and the memory that they took."""
+"""The program that is measured, and others, and runs of them with the time and the memory that they took."""
 import atexit
 import functools
 import os
@@ -33,7 +33,13 @@ def launched(stays: bool = False) -> Dict[str, str]:
 def run(words: Sequence[Word], given: Optional[Word] = None, environment: Optional[Dict[str, str]] = None) -> Run:
     """Runs a program, with a file as its standard input. What it says on standard error is not kept."""
     with open(given or os.devnull, "rb") as source:
-        child = subprocess.Popen([str(word) for word in words], stdin=source, stdout=subprocess.PIPE, stderr=subprocess.DEVNULL, env=environment)
+        child = subprocess.Popen(
+            [str(word) for word in words],
+            stdin=source,
+            stdout=subprocess.PIPE,
+            stderr=subprocess.DEVNULL,
+            env=environment,
+        )
     said = child.stdout.read().decode(errors="replace")
     _, status, used = os.wait4(child.pid, 0)
     child.stdout.close()
@@ -55,41 +61,56 @@ def least(runs: Sequence[Run]) -> float:
 
 
 @functools.lru_cache(maxsize=None)
-def found(name: str) -> Tuple[pathlib.Path, str]:
-    """The path of a program of factoplan, and whence it is.
+def found() -> Tuple[pathlib.Path, str]:
+    """The path of the program, and whence it is.
 
     One that was built here of these sources comes first, or the release where it is of these sources, as the launcher tells it; then one
-    that was built here before a change, then the release of other sources. A program that no release has is built.
+    that was built here before a change, then the release of other sources. Where there is none, it is built.
     """
-    told = subprocess.run([str(TOP / "factoplan"), "--where", name], stdout=subprocess.PIPE, stderr=subprocess.DEVNULL, universal_newlines=True)
+    told = subprocess.run(
+        [str(TOP / "factoplan"), "--where"], stdout=subprocess.PIPE, stderr=subprocess.DEVNULL, universal_newlines=True
+    )
     if told.returncode == 0:
         path = pathlib.Path(told.stdout.strip())
         return path, "built here" if TOP in path.parents else "of the release of the same sources"
-    built = TOP / "crates" / name / "out" / name
-    if os.access(str(built), os.X_OK):
-        return built, "built here of older sources"
-    released = of_release(name)
+    own = TOP / "crates" / "factoplan" / "out" / "factoplan"
+    if os.access(str(own), os.X_OK):
+        return own, "built here of older sources"
+    released = of_release()
     if released:
         return released, "of the release %s, whose sources are others" % released.parent.parent.parent.name
-    if not shutil.which("rt"):
-        sys.exit("crates/%s isn't built, no release has it, and the toolchain's rt isn't there" % name)
-    subprocess.run(["rt", "run"], cwd=str(built.parent.parent), stdin=subprocess.DEVNULL, stdout=subprocess.DEVNULL, stderr=subprocess.DEVNULL)
-    if not os.access(str(built), os.X_OK):
+    return built("factoplan"), "built here"
+
+
+def program() -> pathlib.Path:
+    """The path of the program."""
+    return found()[0]
+
+
+def built(name: str) -> pathlib.Path:
+    """The path of the program of a crate that no release has. It is built where it isn't there."""
+    path = TOP / "crates" / name / "out" / name
+    if not os.access(str(path), os.X_OK):
+        if not shutil.which("rt"):
+            sys.exit("crates/%s isn't built, and the toolchain's rt isn't there" % name)
+        subprocess.run(
+            ["rt", "run"],
+            cwd=str(path.parent.parent),
+            stdin=subprocess.DEVNULL,
+            stdout=subprocess.DEVNULL,
+            stderr=subprocess.DEVNULL,
+        )
+    if not os.access(str(path), os.X_OK):
         sys.exit("rt run in crates/%s built no program" % name)
-    return built, "built here"
+    return path
 
 
-def program(name: str) -> pathlib.Path:
-    """The path of a program of factoplan."""
-    return found(name)[0]
-
-
-def of_release(name: str) -> Optional[pathlib.Path]:
-    """A program of the release, unpacked until this process ends; none where there is no release or it hasn't the program."""
-    for archive in sorted((TOP / "release").glob("*.tar.xz")):
+def of_release() -> Optional[pathlib.Path]:
+    """The program of the release, unpacked until this process ends; none where there is no release."""
+    for archive in sorted((TOP / "release").glob("*.tar.gz")):
         with tarfile.open(str(archive)) as packed:
             for member in packed.getmembers():
-                if member.name.endswith("/libexec/factoplan/" + name):
+                if member.name.endswith("/libexec/factoplan/factoplan"):
                     packed.extract(member, scratch())
                     return scratch() / member.name
     return None
@@ -109,7 +130,9 @@ def compiled(source: Word, name: str, words: Sequence[str] = ()) -> Optional[pat
     compiler = "gcc" if str(source).endswith(".c") else "g++"
     if not shutil.which(compiler):
         return None
-    done = subprocess.run([compiler, "-O2", "-o", str(path), str(TOP / "bench" / source), *words], stderr=subprocess.DEVNULL)
+    done = subprocess.run(
+        [compiler, "-O2", "-o", str(path), str(TOP / "bench" / source), *words], stderr=subprocess.DEVNULL
+    )
     return path if done.returncode == 0 else None
 
 
@@ -135,7 +158,14 @@ def built_copy(name: str, main: Word, crates: Sequence[str]) -> pathlib.Path:
     if not shutil.which("rt"):
         sys.exit("the toolchain's rt isn't there, which builds %s" % main)
     folder = copied(name, main, crates)
-    done = subprocess.run(["rt", "run"], cwd=str(folder), stdin=subprocess.DEVNULL, stdout=subprocess.PIPE, stderr=subprocess.STDOUT, universal_newlines=True)
+    done = subprocess.run(
+        ["rt", "run"],
+        cwd=str(folder),
+        stdin=subprocess.DEVNULL,
+        stdout=subprocess.PIPE,
+        stderr=subprocess.STDOUT,
+        universal_newlines=True,
+    )
     path = folder / "out" / name
     if not os.access(str(path), os.X_OK):
         sys.exit("%s wasn't built:\n%s" % (main, done.stdout[-2000:]))

@@ -28,7 +28,7 @@ def figures_in(said: str) -> Iterator[Figure]:
     """The figures among the lines that a bench printed."""
     for line in said.splitlines():
         if line.startswith(MARK):
-            yield Figure(*(cell.strip() for cell in line[len(MARK):].split("|")))
+            yield Figure(*(cell.strip() for cell in line[len(MARK) :].split("|")))
 
 
 def table(rows: Iterable[Tuple[Figure, str]]) -> str:
@@ -59,7 +59,9 @@ def memory(megabytes: float) -> str:
     return "%.0f MB" % megabytes
 
 
-def beside(what: str, ours: Sequence[float], name: str, theirs: Sequence[float], holds: str, more: Tuple[str, str] = ("", "")) -> Figure:
+def beside(
+    what: str, ours: Sequence[float], name: str, theirs: Sequence[float], holds: str, more: Tuple[str, str] = ("", "")
+) -> Figure:
     """Seconds beside those of a peer, which took the same in the same order; `more` stands behind each of the two."""
     ratios = [our / max(their, 1e-9) for our, their in zip(ours, theirs)]
     return Figure(what, amount(*ours) + more[0], "%s %s%s" % (name, amount(*theirs), more[1]), holds, ratio(*ratios))

@@ -40,8 +40,13 @@ spidertron-remote tool armor repair-tool""".split()
 SOURCES = "resource tree simple-entity fish".split()
 MACHINES = """assembling-machine furnace rocket-silo mining-drill offshore-pump boiler generator burner-generator
 solar-panel reactor lab beacon""".split()
-SECTIONS = ([(s, "item") for s in ITEMS] + [("fluid", "fluid"), ("recipe", "recipe")] + [(s, "source") for s in SOURCES]
-            + [(s, "machine") for s in MACHINES] + [("technology", "tech")])
+SECTIONS = (
+    [(s, "item") for s in ITEMS]
+    + [("fluid", "fluid"), ("recipe", "recipe")]
+    + [(s, "source") for s in SOURCES]
+    + [(s, "machine") for s in MACHINES]
+    + [("technology", "tech")]
+)
 SPECIAL = ["special:character", "special:electricity", "special:heat"]
 NOTHING = {
     "item": "no recipe or source gives it, and no fuel leaves it",
@@ -52,24 +57,25 @@ NOTHING = {
     "tech": "it is disabled, or no lab takes its science packs",
     "special": "no machine makes it",
 }
-LINES = 100_000         # the most lines that a script may have
-MILESTONES = 256        # the most milestones
+LINES = 100_000  # the most lines that a script may have
+MILESTONES = 256  # the most milestones
 ESCAPES = {"\\": "\\", '"': '"', "n": "\n", "t": "\t", "r": "\r"}
 HERE = os.path.dirname(os.path.abspath(__file__))
 
-Group = Tuple[str, List[str]]           # the word `all`, `any` or `forbidden`, and the members
+Group = Tuple[str, List[str]]  # the word `all`, `any` or `forbidden`, and the members
 
 
 class Reached(NamedTuple):
-    rank: Optional[int]                 # None of a thing that is not reached
+    rank: Optional[int]  # None of a thing that is not reached
     milestones: Tuple[str, ...]
 
 
 class Cause(NamedTuple):
     """What is nearest in the way of a thing: another thing and why that isn't there, or a ring of things that wait for each other."""
+
     things: List[str]
     why: str
-    steps: int                          # how many things away it is; 0 where it is the thing itself
+    steps: int  # how many things away it is; 0 where it is the thing itself
 
     def text(self) -> str:
         if len(self.things) == 1:
@@ -84,6 +90,7 @@ def give_up(status: int, text: str) -> NoReturn:
 
 # ---- dumps
 
+
 def read_dump(path: str) -> dict:
     """The dump as Python's objects. The game writes inf and nan as bare words, which become null."""
     try:
@@ -92,7 +99,10 @@ def read_dump(path: str) -> dict:
     except OSError as fault:
         give_up(2, "%s: %s" % (path, fault.strerror))
     except UnicodeDecodeError:
-        give_up(2, "%s: no text in UTF-8, as the game's data-raw-dump.json is; a packed file has to be unpacked first" % path)
+        give_up(
+            2,
+            "%s: no text in UTF-8, as the game's data-raw-dump.json is; a packed file has to be unpacked first" % path,
+        )
     text = re.sub(r'"(?:[^"\\]|\\.)*"|-?\b(?:inf|nan)\b', lambda m: m[0] if m[0].startswith('"') else "null", text)
     try:
         dump = json.loads(text)
@@ -108,7 +118,8 @@ def is_hidden(kind: str, prototype: dict) -> bool:
     marked = isinstance(flags, (list, dict)) and "hidden" in (flags if isinstance(flags, list) else flags.values())
     parts = [prototype] + [prototype[key] for key in ("normal", "expensive") if isinstance(prototype.get(key), dict)]
     return kind in ("item", "fluid", "recipe", "tech") and (
-        marked or any(part.get("hidden") in (True, "true") for part in parts[:2]))
+        marked or any(part.get("hidden") in (True, "true") for part in parts[:2])
+    )
 
 
 def things_of(dump: dict) -> Dict[str, bool]:
@@ -116,7 +127,7 @@ def things_of(dump: dict) -> Dict[str, bool]:
     things: Dict[str, bool] = {}
     for section, kind in SECTIONS:
         prototypes = dump.get(section)
-        for name, prototype in (prototypes.items() if isinstance(prototypes, dict) else ()):
+        for name, prototype in prototypes.items() if isinstance(prototypes, dict) else ():
             if isinstance(prototype, dict) and (kind != "source" or isinstance(prototype.get("minable"), dict)):
                 things["%s:%s" % (kind, name)] = is_hidden(kind, prototype)
     return things
@@ -135,6 +146,7 @@ def packs_of(dump: dict) -> List[str]:
 
 
 # ---- words, files and runs
+
 
 def as_word(thing: str) -> str:
     """A thing as a word of a script."""
@@ -204,7 +216,7 @@ class Game:
         found: List[List[List[str]]] = []
         room = LINES - len(self.prelude)
         for start in range(0, len(questions), room):
-            asked = questions[start:start + room]
+            asked = questions[start : start + room]
             answers: List[List[List[str]]] = [[] for _ in asked]
             at = -1
             for line in run(self.command, self.path, self.prelude + asked):
@@ -224,8 +236,11 @@ class Game:
     def missing(self, things: List[str]) -> Dict[str, List[Group]]:
         """For each thing that is not reached its groups."""
         replies = self.replies(["missing " + as_word(thing) for thing in things])
-        return {thing: [(words[0], words[1:]) for words in lines[1:]]
-                for thing, lines in zip(things, replies) if lines and lines[0][0] == "missing" and lines[0][2:] != ["none"]}
+        return {
+            thing: [(words[0], words[1:]) for words in lines[1:]]
+            for thing, lines in zip(things, replies)
+            if lines and lines[0][0] == "missing" and lines[0][2:] != ["none"]
+        }
 
     def all_missing(self, things: List[str]) -> Dict[str, List[Group]]:
         """As `missing`, and then also for what stands in the answers and was not asked for."""
@@ -255,6 +270,7 @@ class Game:
 
 # ---- causes
 
+
 def reason(thing: str, groups: List[Group]) -> Optional[str]:
     """Why a thing is an end of the search, or None where others stand in its way."""
     if any(word == "forbidden" for word, _ in groups):
@@ -278,8 +294,10 @@ def rings_of(groups: Dict[str, List[Group]]) -> Dict[str, List[str]]:
         if not now:
             break
         left -= now
-    after = {thing: next(m for group in groups[thing] if not is_met(group, left) for m in group[1] if m in left)
-             for thing in left}
+    after = {
+        thing: next(m for group in groups[thing] if not is_met(group, left) for m in group[1] if m in left)
+        for thing in left
+    }
     rings: Dict[str, List[str]] = {}
     for thing in sorted(left):
         way = [thing]
@@ -287,7 +305,7 @@ def rings_of(groups: Dict[str, List[Group]]) -> Dict[str, List[str]]:
         while way[-1] not in rings and after[way[-1]] not in places:
             way.append(after[way[-1]])
             places[way[-1]] = len(way) - 1
-        ring = rings.get(way[-1]) or way[places[after[way[-1]]]:]
+        ring = rings.get(way[-1]) or way[places[after[way[-1]]] :]
         first = ring.index(min(ring))
         ring = ring[first:] + ring[:first]
         rings.update((one, ring) for one in way)
@@ -312,6 +330,7 @@ def nearest_cause(thing: str, groups: Dict[str, List[Group]], rings: Dict[str, L
 
 # ---- results
 
+
 class Change(NamedTuple):
     thing: str
     what: str
@@ -321,11 +340,11 @@ class Change(NamedTuple):
 class Result(NamedTuple):
     dump: str
     judged: List[str]
-    allowed: List[str]                  # things that are not reached, and need not be
-    wrong: Dict[str, Cause]             # the others, each with its nearest cause
+    allowed: List[str]  # things that are not reached, and need not be
+    wrong: Dict[str, Cause]  # the others, each with its nearest cause
     changes: List[Change]
     against: Optional[str]
-    listed: List[Tuple[str, str]]       # things of a list that are reached, each with the list
+    listed: List[Tuple[str, str]]  # things of a list that are reached, each with the list
 
     def faults(self) -> Dict[str, str]:
         """What the check fails for, by thing."""
@@ -341,8 +360,11 @@ def changes_of(old: Game, new: Game, judged: List[str], allowed: Set[str], wrong
     shared = [thing for thing in judged if thing in old.things]
     before, after = old.reached(shared, packs), new.reached(shared, packs)
     kinds = {thing.split(":", 1)[0] for thing in judged}
-    changes = [Change(thing, "is gone", False) for thing in old.things
-               if thing not in new.things and thing.split(":", 1)[0] in kinds]
+    changes = [
+        Change(thing, "is gone", False)
+        for thing in old.things
+        if thing not in new.things and thing.split(":", 1)[0] in kinds
+    ]
     for thing in judged:
         if thing not in before:
             is_worse = thing in wrong
@@ -360,8 +382,10 @@ def changes_of(old: Game, new: Game, judged: List[str], allowed: Set[str], wrong
         else:
             parts = ["rank %d, was %d" % (now.rank, was.rank)] if was.rank != now.rank else []
             if was.milestones != now.milestones:
-                parts.append("stands behind %s, was %s"
-                             % (", ".join(now.milestones) or "no milestone", ", ".join(was.milestones) or "none"))
+                parts.append(
+                    "stands behind %s, was %s"
+                    % (", ".join(now.milestones) or "no milestone", ", ".join(was.milestones) or "none")
+                )
             changes.append(Change(thing, "; ".join(parts), False))
     return changes
 
@@ -376,8 +400,12 @@ def count_causes(wrong: Dict[str, Cause]) -> List[Tuple[int, str]]:
 
 def summary(result: Result) -> str:
     unreached = len(result.wrong) + len(result.allowed)
-    return ("%d of %d reached, %d allowed not to be, %d in question"
-            % (len(result.judged) - unreached, len(result.judged), len(result.allowed), len(result.wrong)))
+    return "%d of %d reached, %d allowed not to be, %d in question" % (
+        len(result.judged) - unreached,
+        len(result.judged),
+        len(result.allowed),
+        len(result.wrong),
+    )
 
 
 def as_text(result: Result) -> str:
@@ -390,16 +418,22 @@ def as_text(result: Result) -> str:
     lines.extend("%s %s" % (change.thing, change.what) for change in result.changes)
     lines.append(summary(result))
     if result.against is not None:
-        lines.append("against %s: %d changed, %d worse"
-                     % (result.against, len(result.changes), sum(change.is_worse for change in result.changes)))
+        lines.append(
+            "against %s: %d changed, %d worse"
+            % (result.against, len(result.changes), sum(change.is_worse for change in result.changes))
+        )
     return "".join(re.sub(r"[\x00-\x1f\x7f]", "?", line) + "\n" for line in lines)
 
 
 def as_json(result: Result) -> str:
     data = {
-        "dump": result.dump, "judged": len(result.judged), "allowed": result.allowed,
-        "unreached": [{"thing": thing, "cause": cause.things, "why": cause.why, "steps": cause.steps}
-                      for thing, cause in result.wrong.items()],
+        "dump": result.dump,
+        "judged": len(result.judged),
+        "allowed": result.allowed,
+        "unreached": [
+            {"thing": thing, "cause": cause.things, "why": cause.why, "steps": cause.steps}
+            for thing, cause in result.wrong.items()
+        ],
         "reached_but_listed": [thing for thing, _ in result.listed],
         "faults": [{"thing": thing, "what": what} for thing, what in result.faults().items()],
     }
@@ -418,12 +452,22 @@ def as_junit(result: Result) -> str:
     """A test case for each thing that is judged, in a suite of its kind, as the schema of JUnit has it."""
     faults = result.faults()
     allowed = set(result.allowed)
-    lines = ['<?xml version="1.0" encoding="UTF-8"?>',
-             '<testsuites name=%s tests="%d" failures="%d">' % (quoteattr(plain(result.dump)), len(result.judged), len(faults))]
+    lines = [
+        '<?xml version="1.0" encoding="UTF-8"?>',
+        '<testsuites name=%s tests="%d" failures="%d">'
+        % (quoteattr(plain(result.dump)), len(result.judged), len(faults)),
+    ]
     for kind in dict.fromkeys(thing.split(":", 1)[0] for thing in result.judged):
         things = [thing for thing in result.judged if thing.split(":", 1)[0] == kind]
-        lines.append('<testsuite name="%s" tests="%d" failures="%d" errors="0" skipped="%d">'
-                     % (kind, len(things), sum(t in faults for t in things), sum(t in allowed and t not in faults for t in things)))
+        lines.append(
+            '<testsuite name="%s" tests="%d" failures="%d" errors="0" skipped="%d">'
+            % (
+                kind,
+                len(things),
+                sum(t in faults for t in things),
+                sum(t in allowed and t not in faults for t in things),
+            )
+        )
         for thing in things:
             case = '<testcase classname="%s" name=%s' % (kind, quoteattr(plain(thing)))
             if thing in faults:
@@ -440,8 +484,11 @@ def as_junit(result: Result) -> str:
 
 # ---- the run
 
+
 def read_words() -> argparse.Namespace:
-    parser = argparse.ArgumentParser(usage="factoplan check-mod DUMP [--allow FILE] ..; --help tells more", add_help=False)
+    parser = argparse.ArgumentParser(
+        usage="factoplan check-mod DUMP [--allow FILE] ..; --help tells more", add_help=False
+    )
     parser.add_argument("dump")
     parser.add_argument("--allow", "--expect")
     parser.add_argument("--write-allow")
@@ -495,7 +542,9 @@ def main() -> int:
     if options.against:
         changes = changes_of(Game(command, options.against, prelude), new, judged, allowed, wrong)
     stale = [(t, options.allow) for t in sorted(listed & (set(judged) - set(unreached)))]
-    result = Result(options.dump, judged, [t for t in unreached if t in allowed], wrong, changes, options.against, stale)
+    result = Result(
+        options.dump, judged, [t for t in unreached if t in allowed], wrong, changes, options.against, stale
+    )
     sys.stdout.reconfigure(encoding="utf-8", newline="\n")
     sys.stdout.write(as_junit(result) if options.junit else as_json(result) if options.json else as_text(result))
     return 1 if result.faults() else 0

@@ -1,9 +1,9 @@
 #!/usr/bin/env python3
-"""Writes a walk: the comments of a script as text, and its commands with the replies to them.
+"""Writes a walk: the comments of scripts as text, and their commands with the replies to them.
 
-    make_walk.py SCRIPT REPORT > docs/WALK.md
+    make_walk.py SCRIPT REPORT [SCRIPT REPORT ..] > docs/WALK.md
 
-In the script a line that begins with ## is a heading and one that begins with # is text.
+In a script a line that begins with ## is a heading and one that begins with # is text.
 """
 import sys
 
@@ -53,10 +53,16 @@ def walk(script, replies):
 
 
 def main():
-    script, report = (open(path, encoding="utf-8").read() for path in sys.argv[1:3])
-    print("# A walk\n\n(Made by `tools/make_walk.py` from `%s` and `%s`. Behind `>` stands a line of the script, and under it the\n"
-          "reply, which begins with the line's number.)\n" % (sys.argv[1], sys.argv[2]))
-    print(walk(script, replies_of(report)))
+    paths = sys.argv[1:]
+    pairs = list(zip(paths[::2], paths[1::2]))
+    made_of = ", and from ".join(f"`{script}` and `{report}`" for script, report in pairs)
+    print(
+        f"# A walk\n\n(Made by `tools/make_walk.py` from {made_of}.\nBehind `>` stands a line of the script, and under it the "
+        "reply, which begins with the line's number.)\n"
+    )
+    for number, pair in enumerate(pairs):
+        script, report = (open(path, encoding="utf-8").read() for path in pair)
+        print("\n" * (number > 0) + walk(script, replies_of(report)))
 
 
 if __name__ == "__main__":

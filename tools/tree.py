@@ -1,46 +1,16 @@
-"""What the tools here read of a checkout: its words, its crates, its version and the toolchain's name."""
+"""What the tools here read of a checkout: its crates, its version and the toolchain's name."""
 import pathlib
 import re
 import shutil
 import subprocess
-from typing import Dict, List, NamedTuple, Tuple
+from typing import Dict, List
 
 TOP = pathlib.Path(__file__).resolve().parent.parent
+# The crate of the program.
+PROGRAM = "factoplan"
 # What is proved of a crate, and what its program is run on.
 PARTS = ("src", "specs", "proofs")
 RUN_ON = ("stdin", "stdout", "args", "status", "data")
-
-
-class Word(NamedTuple):
-    """A word of the launcher, as a line of tools/words.txt has it, with the lines below."""
-
-    name: str
-    program: str
-    first: str
-    behind: str
-    does: str
-    page: str
-    options: List[Tuple[str, str]]
-    exits: List[Tuple[str, str]]
-
-    @property
-    def is_script(self) -> bool:
-        return "/" in self.program
-
-
-def read_words() -> List[Word]:
-    words: List[Word] = []
-    for line in (TOP / "tools" / "words.txt").read_text(encoding="utf-8").splitlines():
-        if not line or line.startswith("#"):
-            continue
-        columns = [column.strip() for column in line.split("|")]
-        if not line.startswith(" "):
-            words.append(Word(*columns, [], []))
-        elif columns[0].startswith("exit "):
-            words[-1].exits.append((columns[0][len("exit "):], columns[1]))
-        else:
-            words[-1].options.append((columns[0], columns[1]))
-    return words
 
 
 def read_crates() -> Dict[str, List[str]]:
@@ -68,15 +38,18 @@ def closure(names: List[str], crates: Dict[str, List[str]]) -> List[str]:
     return found
 
 
-def programs() -> List[str]:
-    """The programs of the words that are crates of this tree."""
-    names = dict.fromkeys(word.program for word in read_words() if not word.is_script)
-    return [name for name in names if (TOP / "crates" / name / "src" / "main.rt").is_file()]
+def of_launcher(name: str) -> str:
+    """What the launcher gives to a variable at its start."""
+    return re.search(rf"(?m)^{name}=(.+)$", (TOP / "factoplan").read_text(encoding="utf-8"))[1]
 
 
 def version() -> str:
-    """The version, which stands in the launcher."""
-    return re.search(r"(?m)^version=(.+)$", (TOP / "factoplan").read_text(encoding="utf-8"))[1]
+    return of_launcher("version")
+
+
+def glibc() -> str:
+    """The oldest glibc on which the programs of a release run, as 2.34."""
+    return of_launcher("glibc")
 
 
 def kit() -> str:
@@ -93,5 +66,7 @@ def kit_here() -> str:
 
 def gate_from_nothing() -> List[str]:
     """The words of a gate that takes nothing of earlier runs. Some kits keep what they passed, unless they are told to begin anew."""
-    told = subprocess.run(["rt", "help"], stdout=subprocess.PIPE, stderr=subprocess.STDOUT, universal_newlines=True).stdout
+    told = subprocess.run(
+        ["rt", "help"], stdout=subprocess.PIPE, stderr=subprocess.STDOUT, universal_newlines=True
+    ).stdout
     return ["rt", "ci", *["--anew"] * ("--anew" in told)]

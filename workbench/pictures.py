@@ -1,12 +1,30 @@
-"""Names and pictures of the game: what `factorio --dump-icon-sprites` and `--dump-prototype-locale` leave in its folder script-output."""
+"""Names and pictures of the game.
+
+They are what `factorio --dump-icon-sprites` and `--dump-prototype-locale` leave in its folder script-output.
+"""
+from __future__ import annotations
+
 import json
 import os
 import re
 
 # The folders of pictures and the files of names by the kind of a thing, in the game's words for its prototypes.
-FOLDERS = {"item": ("item",), "fluid": ("fluid",), "recipe": ("recipe", "item", "fluid"), "tech": ("technology",),
-           "machine": ("entity", "item"), "source": ("entity", "item", "fluid")}
-LOCALES = {"item": "item", "fluid": "fluid", "recipe": "recipe", "tech": "technology", "machine": "entity", "source": "entity"}
+FOLDERS = {
+    "item": ("item",),
+    "fluid": ("fluid",),
+    "recipe": ("recipe", "item", "fluid"),
+    "tech": ("technology",),
+    "machine": ("entity", "item"),
+    "source": ("entity", "item", "fluid"),
+}
+LOCALES = {
+    "item": "item",
+    "fluid": "fluid",
+    "recipe": "recipe",
+    "tech": "technology",
+    "machine": "entity",
+    "source": "entity",
+}
 NAME = re.compile(r"[^/\\\0]{1,200}\Z")
 MOST_PICTURE, MOST_NAMES = 1 << 20, 32 << 20
 
@@ -14,10 +32,10 @@ MOST_PICTURE, MOST_NAMES = 1 << 20, 32 << 20
 class Pictures:
     """The pictures and the names of a folder; of none there are none."""
 
-    def __init__(self, folder):
+    def __init__(self, folder: str | None) -> None:
         self.folder = folder and os.path.realpath(folder)
 
-    def names(self):
+    def names(self) -> dict[str, dict[str, str]]:
         """The names that the game shows, by kind and by the name of the prototype."""
         out = {}
         for kind, file in LOCALES.items():
@@ -29,18 +47,20 @@ class Pictures:
                 pass
         return out
 
-    def known(self):
+    def known(self) -> dict[str, list[str]]:
         """Of which things there is a picture, by kind."""
-        return {kind: sorted({name[:-4] for folder in folders for name in self.listed(folder) if name.endswith(".png")})
-                for kind, folders in FOLDERS.items()}
+        return {
+            kind: sorted({name[:-4] for folder in folders for name in self.listed(folder) if name.endswith(".png")})
+            for kind, folders in FOLDERS.items()
+        }
 
-    def listed(self, folder):
+    def listed(self, folder: str) -> list[str]:
         try:
             return os.listdir(os.path.join(self.folder, folder)) if self.folder else []
         except OSError:
             return []
 
-    def picture(self, kind, name):
+    def picture(self, kind: str, name: str) -> bytes | None:
         """The bytes of a picture, or None. A name is no path."""
         if not self.folder or not NAME.match(name):
             return None

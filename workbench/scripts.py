@@ -1,4 +1,6 @@
 """The scripts of a folder. Each is saved whole or not at all, and only over the text that whoever saves it has seen."""
+from __future__ import annotations
+
 import contextlib
 import ctypes
 import hashlib
@@ -6,13 +8,14 @@ import os
 import re
 import tempfile
 import threading
+from typing import Iterator
 
 from faults import Refused
 
 try:
     import fcntl
-except ImportError:             # Windows: then two workbenches on one folder aren't kept apart
-    fcntl = None
+except ImportError:  # Windows: then two workbenches on one folder aren't kept apart
+    fcntl = None  # type: ignore[assignment]
 
 MOST_SCRIPT = 16 << 20
 MOST_FILES = 200
@@ -21,7 +24,7 @@ NAME = re.compile(r"(?![. ])[^/\\\0-\x1f\x7f]{1,100}\.txt\Z")
 PREFIX = ".workbench-"
 
 
-def version_of(data):
+def version_of(data: bytes) -> str:
     """The version of a script: the sum of its bytes, so that an editor beside the workbench counts as another tab."""
     return hashlib.sha256(data).hexdigest()[:20]
 
@@ -29,11 +32,11 @@ def version_of(data):
 class Scripts:
     """The scripts of a folder, by name."""
 
-    def __init__(self, folder, first):
+    def __init__(self, folder: str, first: str) -> None:
         self.folder, self.first = os.path.realpath(folder), first
         self.lock = threading.Lock()
 
-    def path(self, name):
+    def path(self, name: str) -> str:
         """The path of a name. A name that is none, and what is no plain file of the folder, is refused."""
         if name != self.first and not NAME.match(name):
             raise Refused(400, "a script's name ends with .txt and has no slash")
@@ -42,13 +45,13 @@ class Scripts:
             raise Refused(404, "there is no such script")
         return path
 
-    def names(self):
+    def names(self) -> list[str]:
         """The names of the scripts that are there, and of the one that the workbench was started with."""
         with os.scandir(self.folder) as found:
             there = [it.name for it in found if NAME.match(it.name) and it.is_file(follow_symlinks=False)]
         return sorted({*there[:MOST_FILES], self.first})
 
-    def read(self, name):
+    def read(self, name: str) -> bytes:
         """The bytes of a script: none where there is no file yet."""
         try:
             with open(self.path(name), "rb") as file:
@@ -59,8 +62,11 @@ class Scripts:
             raise Refused(413, "the script has more than %d bytes" % MOST_SCRIPT)
         return data
 
-    def save(self, name, data, version):
-        """Saves a script over that of the version: the new version, or None where the file is another by now, which is left as it is."""
+    def save(self, name: str, data: bytes, version: str) -> str | None:
+        """Saves a script over that of the version, and answers the new version.
+
+        Where the file is another by now, it is left as it is, and None is answered.
+        """
         if len(data) > MOST_SCRIPT:
             raise Refused(413, "the script has more than %d bytes" % MOST_SCRIPT)
         path = self.path(name)
@@ -72,7 +78,7 @@ class Scripts:
                 return None
             return version_of(data)
 
-    def create(self, name, data):
+    def create(self, name: str, data: bytes) -> str:
         """A new script. A name that is there already is refused."""
         path = self.path(name)
         with self.lock, alone_in(self.folder):
@@ -82,7 +88,7 @@ class Scripts:
 
 
 @contextlib.contextmanager
-def alone_in(folder):
+def alone_in(folder: str) -> Iterator[None]:
     """Keeps other workbenches of the folder out while a script is saved."""
     holder = os.open(folder, os.O_RDONLY)
     try:
@@ -93,9 +99,12 @@ def alone_in(folder):
         os.close(holder)
 
 
-def put_in_place(path, data, version):
-    """Writes beside, syncs, and puts it in the place of the file. What stood there is looked at then: where an editor wrote meanwhile, or put
-    a file of its own there, its text comes back, and False is answered."""
+def put_in_place(path: str, data: bytes, version: str) -> bool:
+    """Writes beside, syncs, and puts it in the place of the file.
+
+    What stood there is looked at then: where an editor wrote meanwhile, or put a file of its own there, its text comes
+    back, and False is answered.
+    """
     folder = os.path.dirname(path)
     made, new = tempfile.mkstemp(prefix=PREFIX, dir=folder)
     held = new + "~"
@@ -115,18 +124,18 @@ def put_in_place(path, data, version):
                 os.unlink(path)
 
 
-def stood_alone(new, path):
+def stood_alone(new: str, path: str) -> bool:
     """Puts a file where none is; False where one is there by then."""
     try:
         os.link(new, path)
     except FileExistsError:
         return False
-    except OSError:                 # (on disks that know no second names)
+    except OSError:  # (on disks that know no second names)
         os.replace(new, path)
     return True
 
 
-def took_place(new, path, held, data, version):
+def took_place(new: str, path: str, held: str, data: bytes, version: str) -> bool:
     """Puts a file in the place of that of the version; False where another stood there, which is there again then."""
     if not exchanged(new, path):
         return replaced(new, path, held, version)
@@ -136,17 +145,21 @@ def took_place(new, path, held, data, version):
             found = version_of(file.read())
         if found == known:
             return known == version
-        # What came out goes back, and what was put in comes out; if it isn't that, an editor was there once more, whose text goes back, too.
+        # What came out goes back, and what was put in comes out; if it isn't that, an editor was there once more,
+        # whose text goes back, too.
         put, known = found, put
         if not exchanged(new, path):
             stood_alone(new, path)
             return False
 
 
-def replaced(new, path, held, version):
-    """The same where no two files can be exchanged: what stood there is held by a second name until it is known to be that of the version.
-    (So an editor that writes into the file is noticed, but not one that puts another file there at the very moment.)"""
-    with contextlib.suppress(OSError):      # (there are disks that know no second names)
+def replaced(new: str, path: str, held: str, version: str) -> bool:
+    """The same where no two files can be exchanged.
+
+    What stood there is held by a second name until it is known to be that of the version. So an editor that writes into
+    the file is noticed, but not one that puts another file there at the very moment.
+    """
+    with contextlib.suppress(OSError):  # (there are disks that know no second names)
         os.link(path, held)
     os.replace(new, path)
     if os.path.exists(held):
@@ -158,15 +171,15 @@ def replaced(new, path, held, version):
     return True
 
 
-def exchanged(one, other):
+def exchanged(one: str, other: str) -> bool:
     """Whether two files took each other's place in one step; where the system can't do that all is as it was."""
     try:
-        return ctypes.CDLL(None).renameat2(-100, os.fsencode(one), -100, os.fsencode(other), 2) == 0
+        return bool(ctypes.CDLL(None).renameat2(-100, os.fsencode(one), -100, os.fsencode(other), 2) == 0)
     except (AttributeError, OSError, TypeError):
         return False
 
 
-def mode_of(path):
+def mode_of(path: str) -> int:
     """The permissions of the file that is there, or those of a new one."""
     try:
         return os.stat(path).st_mode & 0o777
@@ -174,7 +187,7 @@ def mode_of(path):
         return 0o644
 
 
-def sync(folder):
+def sync(folder: str) -> None:
     """The folder's own entries, too, survive a cut of power."""
     holder = os.open(folder, os.O_RDONLY)
     try:

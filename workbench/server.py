@@ -1,7 +1,10 @@
 """The door: what comes over the network, and who is let in.
 
-It listens on 127.0.0.1 alone. A page of another site, a name of others that leads here, and whoever doesn't hold the token get nothing.
+It listens on 127.0.0.1 alone. A page of another site, a name of others that leads here, and whoever doesn't hold the
+token get nothing.
 """
+from __future__ import annotations
+
 import hmac
 import http.server
 import json
@@ -10,19 +13,20 @@ import re
 import socket
 import threading
 import urllib.parse
+from typing import Any
 
-from bench import CALLS
+from bench import CALLS, Bench
 from faults import Refused
 
 HERE = os.path.dirname(os.path.abspath(__file__))
 ADDRESS = "127.0.0.1"
-MOST_ASKED = 48 << 20           # a script of 16 MB whose letters JSON writes with escapes
-MOST_OPEN = 64                  # connections at once
-PATIENCE = 30                   # seconds for a request to come
+MOST_ASKED = 48 << 20  # a script of 16 MB whose letters JSON writes with escapes
+MOST_OPEN = 64  # connections at once
+PATIENCE = 30  # seconds for a request to come
 KINDS = {".html": "text/html", ".css": "text/css", ".js": "text/javascript"}
 HEADERS = {
-    "Content-Security-Policy": "default-src 'none'; script-src 'self'; style-src 'self'; img-src 'self' data:; connect-src 'self'; "
-                               "base-uri 'none'; form-action 'none'; frame-ancestors 'none'",
+    "Content-Security-Policy": "default-src 'none'; script-src 'self'; style-src 'self'; img-src 'self' data:; "
+    "connect-src 'self'; base-uri 'none'; form-action 'none'; frame-ancestors 'none'",
     "X-Content-Type-Options": "nosniff",
     "Referrer-Policy": "no-referrer",
     "Cache-Control": "no-store",
@@ -31,21 +35,25 @@ HEADERS = {
 }
 
 
-def page_files():
+def page_files() -> dict[str, str]:
     """The files of the page by their paths: these and no others are given out."""
     folder = os.path.join(HERE, "page")
-    files = {"/" + name: os.path.join(folder, name) for name in os.listdir(folder) if os.path.splitext(name)[1] in KINDS}
+    files = {
+        "/" + name: os.path.join(folder, name) for name in os.listdir(folder) if os.path.splitext(name)[1] in KINDS
+    }
     return {"/": files["/index.html"], **files}
 
 
 class Handler(http.server.BaseHTTPRequestHandler):
     """One connection."""
+
+    server: Server
     server_version, sys_version, protocol_version, timeout = "workbench", "", "HTTP/1.1", PATIENCE
 
-    def log_message(self, *_):
+    def log_message(self, format: str, *_: Any) -> None:
         """Nothing is logged: what is asked is the user's."""
 
-    def answer(self, status, data, kind, **more):
+    def answer(self, status: int, data: bytes, kind: str, **more: str) -> None:
         self.send_response(status)
         for key, value in {**HEADERS, **more, "Content-Type": kind, "Content-Length": str(len(data))}.items():
             self.send_header(key.replace("_", "-"), value)
@@ -58,22 +66,22 @@ class Handler(http.server.BaseHTTPRequestHandler):
 
     # ---- Who is let in ----
 
-    def names_us(self):
-        """Whether the request is for this address by its own name: a name of others that was made to lead here is none."""
+    def names_us(self) -> bool:
+        """Whether the request is for this address by its own name, and not by one of others that leads here."""
         return self.headers.get_all("Host", []) in [[name] for name in self.server.names]
 
-    def is_of_our_page(self):
+    def is_of_our_page(self) -> bool:
         """Whether no other page sent it."""
-        origin = self.headers.get("Origin")
-        return ((origin is None or origin in ["http://" + name for name in self.server.names])
-                and self.headers.get("Sec-Fetch-Site", "none") in ("none", "same-origin"))
+        origin, site = self.headers.get("Origin"), self.headers.get("Sec-Fetch-Site", "none")
+        is_ours = origin is None or origin in ["http://" + name for name in self.server.names]
+        return is_ours and site in ("none", "same-origin")
 
-    def has_token(self, given):
+    def has_token(self, given: str | None) -> bool:
         return hmac.compare_digest((given or "").encode("utf-8", "replace"), self.server.token.encode())
 
     # ---- Files and pictures ----
 
-    def do_GET(self):
+    def do_GET(self) -> None:
         path, parts = self.path.split("?")[0], self.path.split("/")
         if not self.names_us() or not self.is_of_our_page():
             return self.answer(403, b"not from here", "text/plain")
@@ -91,7 +99,7 @@ class Handler(http.server.BaseHTTPRequestHandler):
 
     # ---- Calls ----
 
-    def do_POST(self):
+    def do_POST(self) -> None:
         try:
             status, reply = 200, self.called()
         except Refused as fault:
@@ -100,7 +108,7 @@ class Handler(http.server.BaseHTTPRequestHandler):
             status, reply = 500, {"error": str(fault)}
         self.answer(status, json.dumps(reply).encode(), "application/json")
 
-    def called(self):
+    def called(self) -> dict[str, Any]:
         """The answer to a call. What is refused isn't read."""
         if not self.names_us() or not self.is_of_our_page() or self.headers.get("Origin") is None:
             raise Refused(403, "not from here")
@@ -122,34 +130,39 @@ class Handler(http.server.BaseHTTPRequestHandler):
             raise Refused(400, "no JSON")
         if not isinstance(asked, dict):
             raise Refused(400, "no JSON object")
-        return getattr(self.server.bench, "do_" + call.group(1))(asked)
+        answer: dict[str, Any] = getattr(self.server.bench, "do_" + call.group(1))(asked)
+        return answer
 
 
 class Server(http.server.ThreadingHTTPServer):
     """The listener, with the token that each call must hold."""
+
     daemon_threads = True
     request_queue_size = 32
 
-    def __init__(self, port, bench, token):
+    def __init__(self, port: int, bench: Bench, token: str) -> None:
         super().__init__((ADDRESS, port), Handler)
         self.bench, self.token, self.files = bench, token, page_files()
         self.names = ["%s:%d" % (name, self.server_port) for name in (ADDRESS, "localhost")]
         self.room = threading.BoundedSemaphore(MOST_OPEN)
 
-    def process_request(self, request, client_address):
+    def process_request(self, request: Any, client_address: Any) -> None:
         """Who comes while too many are in is turned away."""
         if not self.room.acquire(blocking=False):
             return self.shutdown_request(request)
         super().process_request(request, client_address)
 
-    def process_request_thread(self, request, client_address):
+    def process_request_thread(self, request: Any, client_address: Any) -> None:
         try:
             super().process_request_thread(request, client_address)
         finally:
             self.room.release()
 
-    def shutdown_request(self, request):
-        """What was sent with a refused request is read, where little of it came, so that the answer isn't lost with the connection."""
+    def shutdown_request(self, request: Any) -> None:
+        """Reads what was sent with a refused request, where little of it came.
+
+        Otherwise the answer would be lost with the connection.
+        """
         try:
             request.shutdown(socket.SHUT_WR)
             request.settimeout(0.2)
@@ -163,5 +176,5 @@ class Server(http.server.ThreadingHTTPServer):
             pass
         self.close_request(request)
 
-    def handle_error(self, *_):
+    def handle_error(self, *_: Any) -> None:
         """A browser that went away is no fault."""

@@ -39,12 +39,19 @@ class Mod:
         machines = count(MACHINES, 8)
         self.machine_items = [items[number * len(items) // machines] for number in range(machines)]
         self.of_tier: List[List[dict]] = [[] for _ in range(TIERS)]
-        self.technologies = [self.technology(number, 1 + number * (TIERS - 1) // count(TECHNOLOGIES, TIERS)) for number in range(count(TECHNOLOGIES, TIERS))]
+        self.technologies = [
+            self.technology(number, 1 + number * (TIERS - 1) // count(TECHNOLOGIES, TIERS))
+            for number in range(count(TECHNOLOGIES, TIERS))
+        ]
         self.recipes: Dict[str, dict] = {}
         for place in range(self.sources, goods):
             self.add_recipe("recipe-%d" % place, place, place)
         for number in range(goods - self.sources, recipes):
-            self.add_recipe("way-%d" % number, self.random.randrange(self.sources, goods), self.random.randrange(self.sources + 1, goods))
+            self.add_recipe(
+                "way-%d" % number,
+                self.random.randrange(self.sources, goods),
+                self.random.randrange(self.sources + 1, goods),
+            )
 
     def name_of_good(self, place: int) -> str:
         tier, within = divmod(place, self.tier_length)
@@ -76,10 +83,18 @@ class Mod:
         """A recipe for a good of what stands before a place, which the technologies of its tier unlock."""
         r, tier, category = self.random, self.tier(place), self.category(place)
         takes = sorted({self.before(place) for _ in range(r.randint(1, 5))} - {made})
-        gives = [made] if category == "by-hand" or r.random() < 0.75 else [made, r.randrange(self.sources, len(self.goods))]
-        self.recipes[name] = {"type": "recipe", "name": name, "category": category, "energy_required": r.randint(1, 240) / 8, "enabled": tier == 0,
-                              "ingredients": [self.part(good, r.randint(1, 12)) for good in takes],
-                              "results": [self.part(good, r.randint(1, 4)) for good in gives]}
+        gives = (
+            [made] if category == "by-hand" or r.random() < 0.75 else [made, r.randrange(self.sources, len(self.goods))]
+        )
+        self.recipes[name] = {
+            "type": "recipe",
+            "name": name,
+            "category": category,
+            "energy_required": r.randint(1, 240) / 8,
+            "enabled": tier == 0,
+            "ingredients": [self.part(good, r.randint(1, 12)) for good in takes],
+            "results": [self.part(good, r.randint(1, 4)) for good in gives],
+        }
         if tier > 0:
             r.choice(self.of_tier[tier])["effects"].append({"type": "unlock-recipe", "recipe": name})
 
@@ -88,8 +103,12 @@ class Mod:
         r = self.random
         packs = [pack for k, pack in enumerate(self.packs[:tier]) if k == tier - 1 or r.random() < 0.8]
         needs = sorted({r.randrange(max(0, number - 40), number) for _ in range(r.randint(0, 3))}) if number else []
-        made = {"type": "technology", "prerequisites": ["technology-%d" % k for k in needs], "effects": [],
-                "unit": {"count": 100, "time": 30, "ingredients": [[pack, 1] for pack in packs]}}
+        made = {
+            "type": "technology",
+            "prerequisites": ["technology-%d" % k for k in needs],
+            "effects": [],
+            "unit": {"count": 100, "time": 30, "ingredients": [[pack, 1] for pack in packs]},
+        }
         self.of_tier[tier].append(made)
         return made
 
@@ -100,20 +119,36 @@ class Mod:
         if number == 2:
             return "lab", {"inputs": self.packs, "energy_usage": "60kW", "energy_source": {"type": "electric"}}
         r = self.random
-        source = r.choice([{"type": "electric", "emissions_per_minute": 2}, {"type": "burner", "fuel_category": "chemical"}]) if number else {"type": "void"}
+        source = (
+            r.choice([{"type": "electric", "emissions_per_minute": 2}, {"type": "burner", "fuel_category": "chemical"}])
+            if number
+            else {"type": "void"}
+        )
         return "assembling-machine", {
-            "crafting_speed": r.randint(1, 12) / 4, "crafting_categories": ["family-%d" % (number // FAMILY)], "energy_usage": "%dkW" % r.randint(50, 900),
-            "energy_source": source, "module_specification": {"module_slots": r.randrange(5)}, "allowed_effects": ["speed", "consumption", "pollution"]}
+            "crafting_speed": r.randint(1, 12) / 4,
+            "crafting_categories": ["family-%d" % (number // FAMILY)],
+            "energy_usage": "%dkW" % r.randint(50, 900),
+            "energy_source": source,
+            "module_specification": {"module_slots": r.randrange(5)},
+            "allowed_effects": ["speed", "consumption", "pollution"],
+        }
 
     def dump(self) -> dict:
-        items = {good: {"stack_size": 50, "icon": "__mod__/graphics/icons/%s.png" % good} for good in self.goods if not good.startswith("fluid")}
+        items = {
+            good: {"stack_size": 50, "icon": "__mod__/graphics/icons/%s.png" % good}
+            for good in self.goods
+            if not good.startswith("fluid")
+        }
         items[self.goods[0]].update(fuel_category="chemical", fuel_value="4MJ")
         made = {
             "character": {"character": {"crafting_categories": ["by-hand"], "mining_categories": ["basic-solid"]}},
             "item": items,
             "fluid": {good: {"default_temperature": 15} for good in self.goods if good.startswith("fluid")},
             "recipe": self.recipes,
-            "resource": {"source-%d" % place: {"autoplace": {}, "minable": {"mining_time": 1, "result": self.goods[place]}} for place in range(self.sources)},
+            "resource": {
+                "source-%d" % place: {"autoplace": {}, "minable": {"mining_time": 1, "result": self.goods[place]}}
+                for place in range(self.sources)
+            },
             "technology": {"technology-%d" % number: technology for number, technology in enumerate(self.technologies)},
         }
         for number, place in enumerate(self.machine_items):
@@ -125,9 +160,13 @@ class Mod:
     def script(self) -> Iterator[str]:
         """A milestone for each pack, and then marks, each undone, among questions, without an end."""
         r = random.Random("script")
-        things = [["item:" + good for good in self.goods if not good.startswith("fluid")], ["fluid:" + good for good in self.goods if good.startswith("fluid")],
-                  ["recipe:" + recipe for recipe in self.recipes], ["machine:machine-%d" % number for number in range(len(self.machine_items))],
-                  ["tech:technology-%d" % number for number in range(len(self.technologies))]]
+        things = [
+            ["item:" + good for good in self.goods if not good.startswith("fluid")],
+            ["fluid:" + good for good in self.goods if good.startswith("fluid")],
+            ["recipe:" + recipe for recipe in self.recipes],
+            ["machine:machine-%d" % number for number in range(len(self.machine_items))],
+            ["tech:technology-%d" % number for number in range(len(self.technologies))],
+        ]
 
         def thing() -> str:
             return r.choice(r.choice(things))
@@ -139,12 +178,21 @@ class Mod:
         yield from ("milestone item:" + pack for pack in self.packs)
         while True:
             kind = r.random()
-            yield from (["forbid " + thing(), "undo"] if kind < 0.07 else
-                        ["forbid " + thing(), "reach " + thing(), "undo"] if kind < 0.1 else
-                        ["grant " + thing(), "undo", "redo", "undo"] if kind < 0.13 else
-                        [switched(), "undo"] if kind < 0.15 else
-                        ["why " + thing()] if kind < 0.18 else ["summary"] if kind < 0.23 else
-                        ["%s %s" % (r.choice(["reach", "mask", "missing"]), thing())])
+            yield from (
+                ["forbid " + thing(), "undo"]
+                if kind < 0.07
+                else ["forbid " + thing(), "reach " + thing(), "undo"]
+                if kind < 0.1
+                else ["grant " + thing(), "undo", "redo", "undo"]
+                if kind < 0.13
+                else [switched(), "undo"]
+                if kind < 0.15
+                else ["why " + thing()]
+                if kind < 0.18
+                else ["summary"]
+                if kind < 0.23
+                else ["%s %s" % (r.choice(["reach", "mask", "missing"]), thing())]
+            )
 
 
 def main() -> None:

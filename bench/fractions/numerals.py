@@ -39,11 +39,11 @@ def read(text):
     mantissa, _, power = text.lower().partition("e")
     if Fraction(mantissa) == 0:
         return "0"
-    if abs(int(power or "0")) > 10 ** 5 > len(text):
+    if abs(int(power or "0")) > 10**5 > len(text):
         return "0" if int(power) < 0 else "F2"
     exact = Fraction(text)
     size = rounded(abs(exact))
-    if size >= 10 ** 18:
+    if size >= 10**18:
         return "F2"
     return show(-size if exact < 0 else size)
 
@@ -56,7 +56,13 @@ FIXED = """0.29999999999999998 1e-05 0.333333333333333315 0.0000000000000005 0.0
 1e-16 0.5e-15 0.05e-14 -5e-16 123e-2 123e+2 123E2 0.000001e6 1000000e-6 12345678901234567890e-5 1.7976931348623157e308
 0.30000000000000004 3.0000000000000004 0.1e1 1e0 1e00 1e-0 1.0000000000000005 1.00000000000000049999 2.00000000000000050001
 1e99999999999999999999999999 1e-99999999999999999999999999 0e99999999999999999999999999 -7.5e18446744073709551616""".split()
-FIXED += ["0." + "0" * 300 + "25e300", "1" + "0" * 400 + "e-400", "12" + "0" * 400 + "e-430", "0." + "9" * 200, "9" * 17 + "." + "9" * 60]
+FIXED += [
+    "0." + "0" * 300 + "25e300",
+    "1" + "0" * 400 + "e-400",
+    "12" + "0" * 400 + "e-430",
+    "0." + "9" * 200,
+    "9" * 17 + "." + "9" * 60,
+]
 
 
 def rows():
@@ -89,13 +95,13 @@ def energy_rows():
             if not m:
                 answers.append("E1")
                 continue
-            rest = text[m.end():]
+            rest = text[m.end() :]
             prefix = rest[:-1]
             if prefix not in prefixes or rest[-1:] not in units:
                 answers.append("E2")
                 continue
             number = read(m.group())
-            if number == "F2" or Fraction(number) * 10 ** prefixes[prefix] >= 10 ** 30:
+            if number == "F2" or Fraction(number) * 10 ** prefixes[prefix] >= 10**30:
                 answers.append("E3")
             else:
                 answers.append(show(Fraction(number) * 10 ** prefixes[prefix] * units[rest[-1]]))

@@ -14,9 +14,15 @@ from fractions import Fraction as F
 
 # module: speed, productivity, consumption, pollution in hundredths
 MODULES = {
-    "speed1": (20, 0, 50, 0), "speed2": (30, 0, 60, 0), "speed3": (50, 0, 70, 0),
-    "productivity1": (-5, 4, 40, 5), "productivity2": (-10, 6, 60, 7), "productivity3": (-15, 10, 80, 10),
-    "efficiency1": (0, 0, -30, 0), "efficiency2": (0, 0, -40, 0), "efficiency3": (0, 0, -50, 0),
+    "speed1": (20, 0, 50, 0),
+    "speed2": (30, 0, 60, 0),
+    "speed3": (50, 0, 70, 0),
+    "productivity1": (-5, 4, 40, 5),
+    "productivity2": (-10, 6, 60, 7),
+    "productivity3": (-15, 10, 80, 10),
+    "efficiency1": (0, 0, -30, 0),
+    "efficiency2": (0, 0, -40, 0),
+    "efficiency3": (0, 0, -50, 0),
 }
 # machine: speed, usage in watts, pollution a minute, effectivity of a burner, slots
 MACHINES = {
@@ -31,8 +37,13 @@ MACHINES = {
     "chemical-plant": (F(1), 210_000, 4, None, 3),
 }
 # fuel: joules, pollution multiplier
-FUELS = {"wood": (2_000_000, F(1)), "coal": (4_000_000, F(1)), "solid-fuel": (12_000_000, F(1)),
-         "rocket-fuel": (100_000_000, F(1)), "nuclear-fuel": (1_210_000_000, F(1))}
+FUELS = {
+    "wood": (2_000_000, F(1)),
+    "coal": (4_000_000, F(1)),
+    "solid-fuel": (12_000_000, F(1)),
+    "rocket-fuel": (100_000_000, F(1)),
+    "nuclear-fuel": (1_210_000_000, F(1)),
+}
 
 SETUPS = [
     # machine, seconds, fuel, modules, beacons with two modules each and effectivity 1/2
@@ -102,8 +113,25 @@ def line(machine, time, fuel, modules, beacons):
     value, multiplier = FUELS[fuel] if fuel else (0, F(1))
     burnt = use / (effectivity * value) if fuel else F(0)
     pollution = emissions * effect[2] * effect[3] * multiplier * machines
-    words = [machine, F(0), *hundredths, *shared, time, speed, usage, effectivity or 0, value, emissions, F(1), multiplier,
-             *effect, machines, use, burnt, pollution]
+    words = [
+        machine,
+        F(0),
+        *hundredths,
+        *shared,
+        time,
+        speed,
+        usage,
+        effectivity or 0,
+        value,
+        emissions,
+        F(1),
+        multiplier,
+        *effect,
+        machines,
+        use,
+        burnt,
+        pollution,
+    ]
     return " ".join(str(word) for word in words)
 
 

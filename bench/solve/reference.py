@@ -33,7 +33,9 @@ class System:
     def entries(self, basis):
         """The coefficients of each column, and of the wants, in the basis."""
         n = self.goods
-        rows = [[self.part[c][g] for c in basis] + [self.part[c][g] for c in self.all] + [self.want[g]] for g in range(n)]
+        rows = [
+            [self.part[c][g] for c in basis] + [self.part[c][g] for c in self.all] + [self.want[g]] for g in range(n)
+        ]
         for i in range(n):
             p = next(r for r in range(i, n) if rows[r][i] != 0)
             rows[i], rows[p] = rows[p], rows[i]
@@ -70,6 +72,7 @@ class System:
     def forms_wide(self, basis, entry, value, enter, leave):
         def less(t, u, v):
             return fits(u * v) and sum_fits(t, -(u * v))
+
         row = [entry[c][leave] / entry[enter][leave] for c in self.all]
         last = value[leave] / entry[enter][leave]
         if not all(fits(x) for x in row) or not fits(last):
@@ -82,7 +85,8 @@ class System:
         u = self.reduced(entry, enter)
         total = sum(value[b] * self.price[b] for b in basis)
         return not all(less(self.reduced(entry, c), u, row[c]) for c in self.all) or not (
-            fits(u * last) and sum_fits(total, u * last))
+            fits(u * last) and sum_fits(total, u * last)
+        )
 
 
 def show(x):
@@ -115,7 +119,9 @@ def solve(table):
     prices = [-s.reduced(entry, g) for g in range(s.goods)]
     rates = [value.get(c, Fraction(0)) for c in s.table]
     cost = sum(r * s.price[c] for r, c in zip(rates, s.table))
-    return " ".join(["plan", show(cost), "rates"] + [show(x) for x in rates] + ["prices"] + [show(x) for x in prices] + ["checked"])
+    return " ".join(
+        ["plan", show(cost), "rates"] + [show(x) for x in rates] + ["prices"] + [show(x) for x in prices] + ["checked"]
+    )
 
 
 def text(table):

@@ -34,7 +34,7 @@ def factory(rows, seed):
     goods, columns, spare = raw, [], set()
     while len(columns) < rows:
         kind = r.random()
-        if kind < 0.12 and len(spare) > 1:                  # cracking
+        if kind < 0.12 and len(spare) > 1:  # cracking
             a, b = r.sample(sorted(spare), 2)
             columns.append(("row", Fraction(0), {a: Fraction(-r.choice([2, 4])), b: Fraction(r.choice([1, 2]))}))
             continue
@@ -43,11 +43,11 @@ def factory(rows, seed):
         made = goods
         goods += 1
         parts[made] = Fraction(r.choice([1, 1, 1, 2]))
-        if kind < 0.35:                                     # a by-product
+        if kind < 0.35:  # a by-product
             parts[goods] = Fraction(1, r.choice([1, 2]))
             spare.update((made, goods))
             goods += 1
-        elif kind < 0.45:                                   # a loop: a part of an ingredient comes back
+        elif kind < 0.45:  # a loop: a part of an ingredient comes back
             parts[take[0]] = parts[take[0]] * Fraction(1, 2)
         columns.append(("row", Fraction(r.randint(0, 3)), parts))
     columns += [("import", Fraction(r.randint(1, 9)), {g: Fraction(1)}) for g in range(raw)]
@@ -62,7 +62,11 @@ def linear_program(table):
     """The table as CPLEX LP text, whose numbers are decimals."""
     wants, columns = table
     number = lambda x: repr(float(x))
-    lines = ["minimize", " cost: " + " + ".join("%s x%d" % (number(c[1]), j) for j, c in enumerate(columns)), "subject to"]
+    lines = [
+        "minimize",
+        " cost: " + " + ".join("%s x%d" % (number(c[1]), j) for j, c in enumerate(columns)),
+        "subject to",
+    ]
     by_good = [[] for _ in wants]
     for j, (_, _, parts) in enumerate(columns):
         for g, x in parts.items():
@@ -75,7 +79,9 @@ def linear_program(table):
 
 def solved(table, budget):
     """The solver's run on a table with a budget, and its words: the kind of the answer, the cost and the nanoseconds."""
-    ran = programs.well([programs.program("solve_tables"), "time"], programs.written("table.txt", text((budget,) + table)))
+    ran = programs.well(
+        [programs.built("solve_tables"), "time"], programs.written("table.txt", text((budget,) + table))
+    )
     return ran, ran.said.split()
 
 
@@ -131,9 +137,21 @@ def measured(size: int, rounds: int) -> None:
         kinds.append(kind)
         ours.append(min(ran.seconds for ran, _ in mine))
         count = exchanges(table)
-        print("%d rows, seed %d: %d goods, %d columns, %s after %d exchanges, %.1f us each; the process %.2f ms; glpsol %s" % (
-            size, seed, len(table[0]), len(table[1]), kind, count, min(int(words[2]) for _, words in mine) / 1e3 / max(1, count), ours[-1] * 1e3,
-            ", ".join("%.2f ms" % (spent[-1] * 1e3) for spent in theirs if spent)), flush=True)
+        print(
+            "%d rows, seed %d: %d goods, %d columns, %s after %d exchanges, %.1f us each; the process %.2f ms; glpsol %s"
+            % (
+                size,
+                seed,
+                len(table[0]),
+                len(table[1]),
+                kind,
+                count,
+                min(int(words[2]) for _, words in mine) / 1e3 / max(1, count),
+                ours[-1] * 1e3,
+                ", ".join("%.2f ms" % (spent[-1] * 1e3) for spent in theirs if spent),
+            ),
+            flush=True,
+        )
     kinds = sorted(set(kinds))
     what = "%d random tables of %d rows (%s)" % (len(SEEDS), size, ", ".join(kinds))
     if not has_peer:

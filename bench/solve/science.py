@@ -28,8 +28,16 @@ from table import beside, ratio, tell, without_peer  # noqa: E402
 DUMP = programs.TOP / "examples" / "factory.json"
 ITEMS = ["item", "tool", "module", "ammo", "gun", "armor", "capsule", "repair-tool", "rail-planner"]
 PACKS = ["automation", "logistic", "military", "chemical", "production", "utility"]
-PRICES = {"item:iron-ore": "1", "item:copper-ore": "1", "item:coal": "1/2", "item:stone": "1/3", "item:wood": "2",
-          "item:uranium-ore": "5", "fluid:crude-oil": "1/10", "fluid:water": "1/1000"}
+PRICES = {
+    "item:iron-ore": "1",
+    "item:copper-ore": "1",
+    "item:coal": "1/2",
+    "item:stone": "1/3",
+    "item:wood": "2",
+    "item:uranium-ore": "5",
+    "fluid:crude-oil": "1/10",
+    "fluid:water": "1/1000",
+}
 MODULES = ["productivity-module", "productivity-module-3"]
 
 
@@ -75,8 +83,12 @@ class Science:
 
     def machine(self, name):
         category = self.game["recipe"][name].get("category", "crafting")
-        fitting = [m for section in ("assembling-machine", "furnace") for m in self.game[section].values()
-                   if category in m["crafting_categories"] and m["energy_source"]["type"] == "electric"]
+        fitting = [
+            m
+            for section in ("assembling-machine", "furnace")
+            for m in self.game[section].values()
+            if category in m["crafting_categories"] and m["energy_source"]["type"] == "electric"
+        ]
         return max(fitting, key=lambda m: m["crafting_speed"], default=None)
 
     def add(self, label, name, module):
@@ -90,7 +102,9 @@ class Science:
             column[good] = column.get(good, 0) - amount
         for good, amount, multiplied in given:
             column[good] = column.get(good, 0) + amount + bonus * multiplied
-        self.rows.append((label, column, "row science %s recipe:%s by machine:%s%s" % (label, name, machine["name"], fill)))
+        self.rows.append(
+            (label, column, "row science %s recipe:%s by machine:%s%s" % (label, name, machine["name"], fill))
+        )
 
     def goods(self):
         return sorted({good for _, column, _ in self.rows for good in column})
@@ -109,11 +123,15 @@ class Science:
 
     def linear_table(self):
         """The table as `solve_tables` reads it, with goods in the order of the dump, as `factoplan` numbers them."""
-        known = ["item:" + name for section in ITEMS for name in self.game[section]] + ["fluid:" + name for name in self.game["fluid"]]
+        known = ["item:" + name for section in ITEMS for name in self.game[section]] + [
+            "fluid:" + name for name in self.game["fluid"]
+        ]
         mentioned, free = set(self.goods()), set(self.free())
         goods = [good for good in known if good in mentioned]
         place = {good: k for k, good in enumerate(goods)}
-        columns = [("row", Fraction(0), {place[good]: x for good, x in column.items() if x}) for _, column, _ in self.rows]
+        columns = [
+            ("row", Fraction(0), {place[good]: x for good, x in column.items() if x}) for _, column, _ in self.rows
+        ]
         columns += [("import", Fraction(PRICES[good]), {place[good]: Fraction(1)}) for good in goods if good in PRICES]
         columns += [("surplus", Fraction(0), {place[good]: Fraction(-1)}) for good in goods if good in free]
         packs = ["item:%s-science-pack" % pack for pack in PACKS]
@@ -125,9 +143,17 @@ class Science:
         columns = [("x%d" % j, 0, column) for j, (_, column, _) in enumerate(self.rows)]
         columns += [("i%d" % j, Fraction(PRICES[good]), {good: 1}) for j, good in enumerate(imports)]
         columns += [("s%d" % j, 0, {good: -1}) for j, good in enumerate(self.free())]
-        lines = ["minimize", " cost: " + " + ".join("%s %s" % (number(price), name) for name, price, _ in columns if price), "subject to"]
+        lines = [
+            "minimize",
+            " cost: " + " + ".join("%s %s" % (number(price), name) for name, price, _ in columns if price),
+            "subject to",
+        ]
         for g, good in enumerate(self.goods()):
-            terms = ["%s %s %s" % ("-" if c[good] < 0 else "+", number(abs(c[good])), name) for name, _, c in columns if c.get(good)]
+            terms = [
+                "%s %s %s" % ("-" if c[good] < 0 else "+", number(abs(c[good])), name)
+                for name, _, c in columns
+                if c.get(good)
+            ]
             want = Fraction(3, 4) if good in ["item:%s-science-pack" % pack for pack in PACKS] else 0
             lines.append(" g%d: %s = %s" % (g, " ".join(terms), number(want)))
         return "\n".join(lines + ["end", ""])
@@ -149,9 +175,11 @@ def main() -> None:
     options.add_argument("--program")
     given = options.parse_args()
     science = Science(json.loads(DUMP.read_text()))
-    planner, solver = given.program or programs.program("factoplan"), programs.program("solve_tables")
+    planner, solver = given.program or programs.program(), programs.built("solve_tables")
     script, empty = programs.written("science.txt", science.script()), programs.written("empty.txt", "")
-    table, linear = programs.written("table.txt", science.linear_table()), programs.written("science.lp", science.linear_program())
+    table, linear = programs.written("table.txt", science.linear_table()), programs.written(
+        "science.lp", science.linear_program()
+    )
     printed = None
     if shutil.which("glpsol"):
         result = programs.scratch() / "result.txt"
@@ -170,7 +198,11 @@ def main() -> None:
     beyond = [plan.seconds - load.seconds for plan, load in zip(plans, loads)]
     for what, ours, holds in [
         ("in its linear form", [ran.seconds for ran in linears], "a whole process, which reads the table, as ours"),
-        ("as rows of a script, without the reading of the dump", beyond, "a whole process, which reads the table in its linear form"),
+        (
+            "as rows of a script, without the reading of the dump",
+            beyond,
+            "a whole process, which reads the table in its linear form",
+        ),
     ]:
         what = "the science of the example's game, %d rows, %s" % (len(science.rows), what)
         if not printed:

@@ -9,7 +9,7 @@ from pathlib import Path
 
 from reference import solve, text
 
-THIRD = Fraction(333333333333333, 10 ** 15)
+THIRD = Fraction(333333333333333, 10**15)
 
 
 def worked():
@@ -32,7 +32,7 @@ def worked():
 def part(r, big):
     x = r.choice([-3, -2, -1, -1, 1, 1, 2, 3])
     if big and r.random() < 0.6:
-        return x * r.choice([THIRD, Fraction(10 ** 15 - 1, 7), Fraction(1, 10 ** 14 + 3)])
+        return x * r.choice([THIRD, Fraction(10**15 - 1, 7), Fraction(1, 10**14 + 3)])
     return Fraction(x, r.choice([1, 1, 1, 2, 3]))
 
 
@@ -42,7 +42,9 @@ def any_table(r):
     columns = []
     for _ in range(r.randint(0, 5)):
         places = r.sample(range(goods), r.randint(0, min(3, goods)))
-        columns.append(("row", Fraction(r.choice([0, 0, 1, 2, 3]), r.choice([1, 2])), {p: part(r, big) for p in sorted(places)}))
+        columns.append(
+            ("row", Fraction(r.choice([0, 0, 1, 2, 3]), r.choice([1, 2])), {p: part(r, big) for p in sorted(places)})
+        )
     for kind, sign, chance in (("import", 1, 0.5), ("surplus", -1, 0.3)):
         for g in range(goods):
             if r.random() < chance:

@@ -5,12 +5,33 @@ import { found, icon, nameOf, plain } from './look.js';
 
 const MOST_SHOWN = 80;
 let close = () => {};
+/**
+ * Whether a list or a form is open.
+ *
+ * @type {() => boolean}
+ */
 export const isPicking = () => Boolean(document.querySelector('.picker'));
 
-// A box under a button that closes when one goes elsewhere; the focus goes back to the button, or to what stands in its place by then.
+/** @type {(css: string, where?: ParentNode) => HTMLElement[]} */
+const elements = (css, where = document) => Array.from(where.querySelectorAll(css));
+
+/**
+ * A box under a button that closes when one goes elsewhere; the focus goes back to the button, or to what stands in its
+ * place by then.
+ *
+ * @param {HTMLElement} anchor
+ * @param {string} label
+ * @param {string} tag
+ * @returns {Box}
+ */
 function under(anchor, label, tag) {
   close();
-  const box = document.createElement('div'), again = anchor.dataset.key, shield = e => { if (!box.contains(e.target)) close(); };
+  const box = document.createElement('div');
+  const again = anchor.dataset.key;
+  /** @type {(e: UiEvent) => void} */
+  const shield = e => {
+    if (!box.contains(e.target)) close();
+  };
   box.className = tag;
   box.setAttribute('role', 'dialog');
   box.setAttribute('aria-label', label);
@@ -20,7 +41,9 @@ function under(anchor, label, tag) {
     box.remove();
     document.removeEventListener('pointerdown', shield, true);
     close = () => {};
-    const back = anchor.isConnected ? anchor : again && [...document.querySelectorAll('[data-key]')].find(e => e.dataset.key === again);
+    const back = anchor.isConnected
+      ? anchor
+      : again && elements('[data-key]').find(e => e.dataset.key === again);
     back?.focus({ preventScroll: true });
   };
   close = leave;
@@ -34,36 +57,88 @@ function under(anchor, label, tag) {
   return { box, leave, place };
 }
 
-/** Picks one of many by mouse, arrows or letters. Options are ids, or {id, text, note}; `none` names a first entry that picks null. */
+/**
+ * Picks one of many by mouse, arrows or letters. Options are ids, or {id, text, note}; `none` names a first entry that
+ * picks null.
+ *
+ * @param {HTMLElement} anchor
+ * @param {Picking} picking
+ */
 export function pick(anchor, { options, current, none, hint = 'Type to search', done }) {
   const { box, leave, place } = under(anchor, hint, 'picker');
   const all = options.map(o => typeof o === 'string' ? { id: o } : o), byId = new Map(all.map(o => [o.id, o]));
-  let query = '', at = -1, shown = [];
-  const choose = o => { leave(); done(o.id); };
+  let query = '', at = -1;
+  /** @type {Option[]} */
+  let shown = [];
+  /** @type {(o: Option) => void} */
+  const choose = o => {
+    leave();
+    done(o.id);
+  };
   const filter = () => {
     shown = found([...byId.keys()], query, MOST_SHOWN).map(id => byId.get(id));
     if (none && !query) shown.unshift({ id: null, text: none });
   };
-  const option = (o, i) => h('div.option' + (i === at ? '.at' : ''), { key: `${o.id}`, id: 'option-' + i, role: 'option',
-    'aria-selected': String(i === at), title: o.id ? plain(o.id, 200) : '',
-    onclick: () => choose(o), onmousemove: () => { if (at !== i) { at = i; paint(); } } },
-  o.id ? icon(o.id) : h('span.icon', { 'aria-hidden': 'true' }), h('span.name', null, o.text || nameOf(o.id)), o.note && h('small', null, o.note),
-    o.id === current && current && h('small.now', null, '✓ now'));
-  const field = () => h('input.find', { type: 'search', role: 'combobox', 'aria-expanded': 'true', 'aria-controls': 'options',
-    'aria-autocomplete': 'list', 'aria-label': hint, placeholder: hint, autocomplete: 'off',
-    spellcheck: false, 'aria-activedescendant': at < 0 ? null : 'option-' + at, oninput: e => { query = e.target.value; at = 0; filter(); paint();
-      } });
+  /** @type {(o: Option, i: number) => View} */
+  const option = (o, i) => h(
+    'div.option' + (i === at ? '.at' : ''),
+    {
+      key: `${o.id}`,
+      id: 'option-' + i,
+      role: 'option',
+      'aria-selected': String(i === at),
+      title: o.id ? plain(o.id, 200) : '',
+      onclick: () => choose(o),
+      onmousemove: () => {
+        if (at !== i) {
+          at = i;
+          paint();
+        }
+      },
+    },
+    o.id ? icon(o.id) : h('span.icon', { 'aria-hidden': 'true' }),
+    h('span.name', null, o.text || nameOf(o.id)),
+    o.note && h('small', null, o.note),
+    o.id === current && current && h('small.now', null, '✓ now'),
+  );
+  const field = () => h('input.find', {
+    type: 'search',
+    role: 'combobox',
+    'aria-expanded': 'true',
+    'aria-controls': 'options',
+    'aria-autocomplete': 'list',
+    'aria-label': hint,
+    placeholder: hint,
+    autocomplete: 'off',
+    spellcheck: false,
+    'aria-activedescendant': at < 0 ? null : 'option-' + at,
+    oninput: e => {
+      query = e.target.value;
+      at = 0;
+      filter();
+      paint();
+    },
+  });
   const paint = () => {
-    draw(box, [field(), h('div.options', { role: 'listbox', id: 'options', 'aria-label': hint }, shown.map(option)),
-      !shown.length && h('div.hint', null, 'Nothing of that name')]);
+    draw(box, [
+      field(),
+      h('div.options', { role: 'listbox', id: 'options', 'aria-label': hint }, shown.map(option)),
+      !shown.length && h('div.hint', null, 'Nothing of that name'),
+    ]);
     box.querySelector('.option.at')?.scrollIntoView({ block: 'nearest' });
   };
   box.onkeydown = e => {
     const step = { ArrowDown: 1, ArrowUp: -1, PageDown: 8, PageUp: -8 }[e.key];
-    if (step) { at = Math.max(0, Math.min(shown.length - 1, at + step)); paint(); }
-    else if (e.key === 'Enter') { if (shown[at]) choose(shown[at]); }
-    else if (e.key === 'Escape' || e.key === 'Tab') leave();
-    else return;
+    if (step) {
+      at = Math.max(0, Math.min(shown.length - 1, at + step));
+      paint();
+    } else if (e.key === 'Enter') {
+      if (shown[at]) choose(shown[at]);
+    } else if (e.key === 'Escape' || e.key === 'Tab') {
+      leave();
+    } else {
+      return;
+    }
     e.preventDefault();
     e.stopPropagation();
   };
@@ -71,42 +146,88 @@ export function pick(anchor, { options, current, none, hint = 'Type to search', 
   at = Math.max(0, shown.findIndex(o => o.id === current));
   paint();
   place();
-  box.querySelector('.find').focus();
+  elements('.find', box)[0].focus();
 }
 
-/** A small form under a button. `fill` is told how to close it and how to draw it again, and gives what stands in it. */
+/**
+ * A small form under a button. `fill` is told how to close it and how to draw it again, and gives what stands in it.
+ *
+ * @param {HTMLElement} anchor
+ * @param {string} label
+ * @param {(leave: () => void, paint: () => void) => Child[]} fill
+ */
 export function form(anchor, label, fill) {
   const { box, leave, place } = under(anchor, label, 'picker form');
   const paint = () => draw(box, fill(leave, paint));
   box.onkeydown = e => {
-    if (e.key === 'Escape') leave();
-    else if (e.key === 'Tab') {
-      const all = [...box.querySelectorAll('input,select,button')], i = all.indexOf(document.activeElement),
-        next = all[(i + (e.shiftKey ? all.length - 1 : 1)) % all.length];
+    if (e.key === 'Escape') {
+      leave();
+    } else if (e.key === 'Tab') {
+      const all = elements('input,select,button', box);
+      const i = all.findIndex(e => e === document.activeElement);
+      const next = all[(i + (e.shiftKey ? all.length - 1 : 1)) % all.length];
       next?.focus();
-    } else return;
+    } else {
+      return;
+    }
     e.preventDefault();
     e.stopPropagation();
   };
   paint();
   place();
-  box.querySelector('input,select,button')?.focus();
+  elements('input,select,button', box)[0]?.focus();
 }
-export const field = (text, props) => h('label', null, h('span', null, text), h('input', { ...props }));
-export const choose = (text, options, value, onchange) => h('label', null, h('span', null, text),
-  h('select', { onchange: e => onchange(e.target.value) }, options.map(id => h('option', { value: id, selected: id === value }, nameOf(id)))));
 
-/** A number that is edited where it stands; `done` is told the fraction. */
+/**
+ * A named field of a form.
+ *
+ * @type {(text: string, props: Props) => View}
+ */
+export const field = (text, props) => h('label', null, h('span', null, text), h('input', { ...props }));
+/**
+ * A named choice of a form.
+ *
+ * @type {(text: string, options: Id[], value: Id, onchange: (id: Id) => any) => View}
+ */
+export const choose = (text, options, value, onchange) => h('label', null,
+  h('span', null, text),
+  h('select', { onchange: e => onchange(e.target.value) },
+    options.map(id => h('option', { value: id, selected: id === value }, nameOf(id))),
+  ),
+);
+
+/**
+ * A number that is edited where it stands; `done` is told the fraction.
+ *
+ * @param {string} text
+ * @param {Editing} editing
+ * @returns {View}
+ */
 export function edit(text, { label, done, key, wide = false, per = 1 }) {
   const exact = Frac.of(text), shown = exact ? exact.times(per).text.replace(/\u2009/g, '').replace('−', '-') : text;
+  /** @type {(e: UiEvent) => void} */
   const finish = e => {
     const it = e.target;
     const x = Frac.of(it.value.trim()), bad = !x || x.n < 0n;
     it.setAttribute('aria-invalid', String(bad));
     if (!bad && it.value !== shown) done(x.over(per));
   };
-  return h('input.edit' + (wide ? '.broad' : '') + (text === '0' ? '.zero' : ''),
-    { key, value: shown, title: exact ? `exactly ${exact.times(per)}` : '', inputMode: 'decimal', 'aria-label': label,
-    'data-key': key, autocomplete: 'off', onchange: finish, onfocus: e => e.target.select(),
-    onkeydown: e => { if (e.key === 'Enter') e.target.blur(); if (e.key === 'Escape') { e.target.value = shown; e.target.blur(); } } });
+  return h('input.edit' + (wide ? '.broad' : '') + (text === '0' ? '.zero' : ''), {
+    key,
+    value: shown,
+    title: exact ? `exactly ${exact.times(per)}` : '',
+    inputMode: 'decimal',
+    'aria-label': label,
+    'data-key': key,
+    autocomplete: 'off',
+    onchange: finish,
+    onfocus: e => e.target.select(),
+    onkeydown: e => {
+      if (e.key === 'Enter') e.target.blur();
+      if (e.key === 'Escape') {
+        e.target.value = shown;
+        e.target.blur();
+      }
+    },
+  });
 }

@@ -64,8 +64,28 @@ told('.option.at', e => e.getAttribute('aria-selected') === 'true');
 told('[aria-invalid=true].edit', e => getComputedStyle(e).borderStyle === 'dashed');
 return bad;
 """
-ROLES = {"button", "textbox", "searchbox", "combobox", "checkbox", "link", "spinbutton", "option", "listbox", "radio", "tab", "menuitem",
-    "switch", "slider", "dialog", "alertdialog", "region", "group", "navigation", "complementary"}
+ROLES = {
+    "button",
+    "textbox",
+    "searchbox",
+    "combobox",
+    "checkbox",
+    "link",
+    "spinbutton",
+    "option",
+    "listbox",
+    "radio",
+    "tab",
+    "menuitem",
+    "switch",
+    "slider",
+    "dialog",
+    "alertdialog",
+    "region",
+    "group",
+    "navigation",
+    "complementary",
+}
 
 
 class Browser:
@@ -74,21 +94,33 @@ class Browser:
     def __init__(self, chromium, driver, shots=None, only=None, folder=None):
         options = webdriver.ChromeOptions()
         options.binary_location = chromium
-        for word in ("--headless=new", "--no-sandbox", "--disable-gpu", "--hide-scrollbars", "--disable-dev-shm-usage",
-            "--force-device-scale-factor=1", "--disable-lcd-text", "--lang=en"):
+        for word in (
+            "--headless=new",
+            "--no-sandbox",
+            "--disable-gpu",
+            "--hide-scrollbars",
+            "--disable-dev-shm-usage",
+            "--force-device-scale-factor=1",
+            "--disable-lcd-text",
+            "--lang=en",
+        ):
             options.add_argument(word)
         options.set_capability("goog:loggingPrefs", {"browser": "ALL"})
         if folder:
-            options.add_experimental_option("prefs", {"download.default_directory": folder,
-                "profile.default_content_setting_values.automatic_downloads": 1})
+            options.add_experimental_option(
+                "prefs",
+                {"download.default_directory": folder, "profile.default_content_setting_values.automatic_downloads": 1},
+            )
         self.it, self.shots = webdriver.Chrome(options=options, service=Service(driver)), shots
         self.it.set_script_timeout(120)
         self.only = only
         self.size(1280, 900)
 
     def size(self, width, height, theme=None):
-        self.it.execute_cdp_cmd("Emulation.setDeviceMetricsOverride",
-            {"width": width, "height": height, "deviceScaleFactor": 1, "mobile": False})
+        self.it.execute_cdp_cmd(
+            "Emulation.setDeviceMetricsOverride",
+            {"width": width, "height": height, "deviceScaleFactor": 1, "mobile": False},
+        )
         if theme:
             self.js("document.documentElement.dataset.theme = arguments[0]", theme)
         time.sleep(0.06)
@@ -101,7 +133,11 @@ class Browser:
         calm, end = 0, time.time() + seconds
         while calm < 3 and time.time() < end:
             time.sleep(0.015)
-            calm = calm + 1 if self.js("const s = document.getElementById('state'); return s && !s.classList.contains('busy')") else 0
+            calm = (
+                calm + 1
+                if self.js("const s = document.getElementById('state'); return s && !s.classList.contains('busy')")
+                else 0
+            )
         if calm < 3:
             raise RuntimeError("it doesn't settle: " + self.text("body")[:300])
 
@@ -135,7 +171,10 @@ class Browser:
         self.settle()
 
     def text(self, css):
-        return self.js("return [...document.querySelectorAll(arguments[0])].map(e => e.innerText ?? e.textContent).join('\\n')", css)
+        return self.js(
+            "return [...document.querySelectorAll(arguments[0])].map(e => e.innerText ?? e.textContent).join('\\n')",
+            css,
+        )
 
     def said(self):
         """The last message, also where it is shown no more."""
@@ -167,10 +206,16 @@ class Browser:
 
     def nameless(self):
         """How many controls the tree for who can't see the page has, and those without a name."""
-        nodes = [n for n in self.it.execute_cdp_cmd("Accessibility.getFullAXTree", {})["nodes"] if not n.get("ignored")
-            and n.get("role", {}).get("value") in ROLES]
-        return len(nodes), [n["role"]["value"] for n in nodes if not str(n.get("name", {}).get("value", "")).strip()
-            and n["role"]["value"] not in ("group", "region")]
+        nodes = [
+            n
+            for n in self.it.execute_cdp_cmd("Accessibility.getFullAXTree", {})["nodes"]
+            if not n.get("ignored") and n.get("role", {}).get("value") in ROLES
+        ]
+        return len(nodes), [
+            n["role"]["value"]
+            for n in nodes
+            if not str(n.get("name", {}).get("value", "")).strip() and n["role"]["value"] not in ("group", "region")
+        ]
 
     def overflow(self):
         """By how much the page is wider than the window."""
@@ -178,18 +223,24 @@ class Browser:
 
     def spilt(self):
         """The boxes whose content is wider than they are."""
-        return self.js("""return [...document.querySelectorAll('.side, .panel, .verdict, .want, .sentence, header.table, .card, .opts')]
-          .filter(e => e.scrollWidth > e.clientWidth + 1 && getComputedStyle(e).overflowX === 'visible').map(e => e.className + ' ' + e.textContent.slice(0, 60))""")
+        return self.js(
+            """return [...document.querySelectorAll('.side, .panel, .verdict, .want, .sentence, header.table, .card, .opts')]
+          .filter(e => e.scrollWidth > e.clientWidth + 1 && getComputedStyle(e).overflowX === 'visible').map(e => e.className + ' ' + e.textContent.slice(0, 60))"""
+        )
 
     def unreached(self):
         """How many controls are seen, and those that the Tab key doesn't come to."""
-        self.js("""window.tabbed = new Set(); 
-          document.addEventListener('focusin', e => window.tabbed.add(e.target)); document.querySelector('header button').focus();""")
+        self.js(
+            """window.tabbed = new Set(); 
+          document.addEventListener('focusin', e => window.tabbed.add(e.target)); document.querySelector('header button').focus();"""
+        )
         wanted = """[...document.querySelectorAll('button, input, select, textarea, summary, [role=button]')].filter(e => !e.disabled && e.checkVisibility({ visibilityProperty: true }))"""
         count = self.js("return %s.length" % wanted)
         for _ in range(0, count + 20, 20):
             webdriver.ActionChains(self.it).send_keys(*[Keys.TAB] * 20).perform()
-        return count, self.js("return %s.filter(e => !window.tabbed.has(e)).map(e => e.outerHTML.slice(0, 120))" % wanted)
+        return count, self.js(
+            "return %s.filter(e => !window.tabbed.has(e)).map(e => e.outerHTML.slice(0, 120))" % wanted
+        )
 
     def shot(self, name):
         if self.shots and (self.only is None or name in self.only):

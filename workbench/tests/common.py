@@ -14,15 +14,15 @@ HERE = os.path.dirname(os.path.abspath(__file__))
 WORKBENCH = os.path.dirname(HERE)
 TOP = os.path.dirname(WORKBENCH)
 DUMP = os.path.join(TOP, "examples", "factory.json")
-results = []
+sys.path.insert(1, os.path.join(TOP, "tests"))
+from harness import Tally  # noqa: E402
+
+tally = Tally()
 
 
 def check(what, holds, more=""):
-    """Counts a check; one that doesn't hold is told."""
-    results.append((what, bool(holds)))
-    if not holds:
-        print("differs: %s %s" % (what, str(more)[:600]), flush=True)
-    return bool(holds)
+    """Counts a check; one that doesn't hold is told, with the beginning of what was seen."""
+    return tally.check(what, holds, str(more)[:600])
 
 
 def go_through(parts, *given, failed=lambda part: None):
@@ -38,16 +38,40 @@ def go_through(parts, *given, failed=lambda part: None):
 class Bench:
     """A running workbench on a folder of its own."""
 
-    def __init__(self, programs, dump=DUMP, script="factory.txt", text=None, more=(), server=WORKBENCH, folder=None, env=None, opens=False):
+    def __init__(
+        self,
+        program,
+        dump=DUMP,
+        script="factory.txt",
+        text=None,
+        more=(),
+        server=WORKBENCH,
+        folder=None,
+        env=None,
+        opens=False,
+    ):
         self.room = tempfile.TemporaryDirectory()
         self.folder = folder or self.room.name
         self.script = os.path.join(self.folder, script)
         if text is not None:
             with open(self.script, "wb") as file:
                 file.write(text)
-        self.process = subprocess.Popen([sys.executable, os.path.join(server, "workbench.py"), dump, self.script, "--programs", programs,
-            *["--no-browser"] * (not opens), *more],
-                                        stdout=subprocess.PIPE, stderr=subprocess.PIPE, universal_newlines=True, env=env)
+        self.process = subprocess.Popen(
+            [
+                sys.executable,
+                os.path.join(server, "workbench.py"),
+                dump,
+                self.script,
+                "--program",
+                program,
+                *["--no-browser"] * (not opens),
+                *more,
+            ],
+            stdout=subprocess.PIPE,
+            stderr=subprocess.PIPE,
+            universal_newlines=True,
+            env=env,
+        )
         self.url = self.process.stdout.readline().strip()
         if not self.url:
             raise RuntimeError("the workbench doesn't start: " + self.process.stderr.read())
@@ -56,8 +80,15 @@ class Bench:
 
     def headers(self, **changes):
         """The headers of a request of the page itself, with changes; None leaves one out."""
-        good = {"Host": self.here, "Origin": "http://" + self.here, "X-Workbench-Token": self.token, "Content-Type": "application/json"}
-        return {k: v for k, v in {**good, **{k.replace("_", "-"): v for k, v in changes.items()}}.items() if v is not None}
+        good = {
+            "Host": self.here,
+            "Origin": "http://" + self.here,
+            "X-Workbench-Token": self.token,
+            "Content-Type": "application/json",
+        }
+        return {
+            k: v for k, v in {**good, **{k.replace("_", "-"): v for k, v in changes.items()}}.items() if v is not None
+        }
 
     def ask(self, method, path, body=None, headers=None, seconds=60):
         """The status, the headers and the body of an answer; status 0 where the connection was turned away."""
@@ -82,7 +113,9 @@ class Bench:
         return status, json.loads(body) if body else {}
 
     def run(self, script, ask=(), version=None, file=None):
-        return self.call("run", file=file or os.path.basename(self.script), script=script, version=version, ask=list(ask))
+        return self.call(
+            "run", file=file or os.path.basename(self.script), script=script, version=version, ask=list(ask)
+        )
 
     def saved(self):
         try:
@@ -92,7 +125,7 @@ class Bench:
             return b""
 
     def children(self):
-        """The programs that run below the server, whichever of its threads began them."""
+        """The runs of the program below the server, whichever of its threads began them."""
         found = []
         for name in os.listdir("/proc"):
             with contextlib.suppress(OSError, ValueError, IndexError), open("/proc/%d/stat" % int(name)) as file:
@@ -119,15 +152,14 @@ class Bench:
 
 
 @contextlib.contextmanager
-def programs_that(session, others="exit 0"):
-    """A folder of programs that do as a line of the shell says."""
+def program_that(session, others="exit 0"):
+    """A program that does as a line of the shell says, in a session and else."""
     with tempfile.TemporaryDirectory() as room:
-        for name in ("factoplan", "factoplan_table", "factoplan_page", "factoplan_data", "factoplan_session"):
-            path = os.path.join(room, name)
-            with open(path, "w") as file:
-                file.write("#!/bin/sh\n%s\n" % (session if name == "factoplan_session" else others))
-            os.chmod(path, os.stat(path).st_mode | stat.S_IXUSR)
-        yield room
+        path = os.path.join(room, "factoplan")
+        with open(path, "w") as file:
+            file.write('#!/bin/sh\nif [ "$1" = session ]; then\n%s\nfi\n%s\n' % (session, others))
+        os.chmod(path, os.stat(path).st_mode | stat.S_IXUSR)
+        yield path
 
 
 def until(holds, seconds=10):

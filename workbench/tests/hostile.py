@@ -6,7 +6,11 @@ import tempfile
 from common import DUMP, Bench, check
 from door import PICTURE
 
-HTML, TURNED, LONG = '<img src=x onerror="window.pwned=1">"\'><script>window.pwned=2</script>', "\u202egnp.elttob\u202c\u2066\u200b\u0000\u0007", "a" * 10000
+HTML, TURNED, LONG = (
+    '<img src=x onerror="window.pwned=1">"\'><script>window.pwned=2</script>',
+    "\u202egnp.elttob\u202c\u2066\u200b\u0000\u0007",
+    "a" * 10000,
+)
 
 
 def spoilt_dump(folder):
@@ -14,8 +18,16 @@ def spoilt_dump(folder):
     with open(DUMP) as file:
         dump = json.load(file)
     plate, recipe = dump["item"]["iron-plate"], dump["recipe"]["iron-plate"]
-    for k, name in enumerate((HTML, TURNED.replace("\0", ""), LONG, "plain  two  spaces \\ \" quoted", "\u0645\u0631\u062d\u0628\u0627",
-        "zalgo" + "\u0301" * 200)):
+    for k, name in enumerate(
+        (
+            HTML,
+            TURNED.replace("\0", ""),
+            LONG,
+            'plain  two  spaces \\ " quoted',
+            "\u0645\u0631\u062d\u0628\u0627",
+            "zalgo" + "\u0301" * 200,
+        )
+    ):
         dump["item"][name] = {**plate, "name": name}
         made = json.loads(json.dumps(recipe).replace('"iron-plate"', json.dumps(name)))
         made.update(name=name)
@@ -26,16 +38,21 @@ def spoilt_dump(folder):
     return path
 
 
-def names(programs, make):
+def names(program, make):
     """Names stay names: in lists, on cards, in tables, in the chart, in the script and in what is refused."""
     with tempfile.TemporaryDirectory() as room:
         dump = spoilt_dump(room)
         rows = []
         for k, name in enumerate((HTML, TURNED.replace("\0", ""), LONG)):
-            word = json.dumps("%s:" + name, ensure_ascii=False).replace("\\u0007", "\u0007").replace("\\u200b", "\u200b")
+            word = (
+                json.dumps("%s:" + name, ensure_ascii=False).replace("\\u0007", "\u0007").replace("\\u200b", "\u200b")
+            )
             label = json.dumps(name, ensure_ascii=False).replace("\\u0007", "\u0007")
-            rows += ["row t %s %s by machine:electric-furnace" % (label, word % "recipe"), "want t %s 1" % (word % "item"),
-                "grant %s" % (word % "item").replace("item:", "item:x")]
+            rows += [
+                "row t %s %s by machine:electric-furnace" % (label, word % "recipe"),
+                "want t %s 1" % (word % "item"),
+                "grant %s" % (word % "item").replace("item:", "item:x"),
+            ]
         text = "\n".join(["table t", *rows, "import t item:iron-ore 1", "table " + json.dumps(HTML)]) + "\n"
         output = os.path.join(room, "script-output")
         os.makedirs(os.path.join(output, "item"))
@@ -43,17 +60,27 @@ def names(programs, make):
             file.write(PICTURE)
         with open(os.path.join(output, "item-locale.json"), "w") as file:
             json.dump({"names": {"iron-ore": "<b>Erz</b>\u202e"}}, file)
-        with Bench(programs, dump=dump, text=text.encode(), more=["--seconds", "60", "--script-output", output]) as bench:
+        with Bench(
+            program, dump=dump, text=text.encode(), more=["--seconds", "60", "--script-output", output]
+        ) as bench:
             b = make()
             try:
                 b.it.get(bench.url)
                 b.settle()
-                check("a table of such names has a plan", "nothing is cheaper" in b.text(".proof"), b.text(".verdict") + b.text("aside"))
+                check(
+                    "a table of such names has a plan",
+                    "nothing is cheaper" in b.text(".proof"),
+                    b.text(".verdict") + b.text("aside"),
+                )
                 safe(b, "the table")
-                check("the game's names and pictures are shown",
+                check(
+                    "the game's names and pictures are shown",
                     "<b>Erz</b>" in b.text(".side")
-                    and b.js("return [...document.querySelectorAll('.icon img')].some(i => i.complete && i.naturalWidth === 1)"),
-                    b.text(".side"))
+                    and b.js(
+                        "return [...document.querySelectorAll('.icon img')].some(i => i.complete && i.naturalWidth === 1)"
+                    ),
+                    b.text(".side"),
+                )
                 b.click("svg .card")
                 safe(b, "the card")
                 b.click("#script")
@@ -80,48 +107,67 @@ def safe(b, where):
     """No name became an element or ran, none turns what stands beside it, and none pushes the page apart."""
     check("%s: nothing ran" % where, b.js("return window.pwned === undefined"))
     check("%s: no element of a name" % where, not b.find("img[src=x], [onerror]") and len(b.find("script")) == 1)
-    marks = b.js("return [...document.body.innerText].filter(c => /[\\u0000-\\u0008\\u202a-\\u202e\\u2066-\\u2069\\u200b-\\u200f]/.test(c)).length")
+    marks = b.js(
+        "return [...document.body.innerText].filter(c => /[\\u0000-\\u0008\\u202a-\\u202e\\u2066-\\u2069\\u200b-\\u200f]/.test(c)).length"
+    )
     check("%s: no mark that turns a text" % where, marks == 0, marks)
-    check("%s: nothing is wider than the window" % where, b.overflow() <= 0
-        and b.js("return Math.max(0, ...[...document.querySelectorAll('button, td, h2, option, .picker')].map(e => e.getBoundingClientRect().width))") < 1400)
+    check(
+        "%s: nothing is wider than the window" % where,
+        b.overflow() <= 0
+        and b.js(
+            "return Math.max(0, ...[...document.querySelectorAll('button, td, h2, option, .picker')].map(e => e.getBoundingClientRect().width))"
+        )
+        < 1400,
+    )
 
 
-def unread(programs, make):
+def unread(program, make):
     """A dump that is none is told on the page, in the words of the program."""
     with tempfile.TemporaryDirectory() as room:
         dump = os.path.join(room, "data-raw-dump.json")
         with open(dump, "w") as file:
             file.write('{"item": {')
-        with Bench(programs, dump=dump) as bench:
+        with Bench(program, dump=dump) as bench:
             b = make()
             try:
                 b.it.get(bench.url)
                 b.settle()
-                check("a dump that is none is told", "The game can’t be read" in b.text("main") and "factoplan_session" in b.text("main"),
-                    b.text("body"))
+                check(
+                    "a dump that is none is told",
+                    "The game can’t be read" in b.text("main") and "factoplan: " in b.text("main"),
+                    b.text("body"),
+                )
             finally:
                 b.it.quit()
 
 
-def large(programs, make):
+def large(program, make):
     """A table of 300 rows: an answer stands within 100 milliseconds of the program's, and only what changed is drawn anew."""
     count, rows = 300, ["table big"]
     for k in range(count):
         rows.append("row big r%d recipe:iron-gear-wheel by machine:assembling-machine-%d" % (k, 1 + k % 3))
         rows.append("price big r%d %d" % (k, 1 + k))
     rows += ["import big item:iron-plate 1", "want big item:iron-gear-wheel 5"]
-    with Bench(programs, text=("\n".join(rows) + "\n").encode(), more=["--seconds", "120"]) as bench:
+    with Bench(program, text=("\n".join(rows) + "\n").encode(), more=["--seconds", "120"]) as bench:
         b = make()
         try:
             b.it.get(bench.url)
             b.settle(120)
-            check("a table of 300 rows", len(b.find(".rows tbody tr")) == count and "nothing is cheaper" in b.text(".proof"),
-                b.text(".verdict"))
-            b.js("""window.drawn = new Set(); new MutationObserver(all => all.forEach(m => { const r = (m.target.nodeType === 1 ? m.target : m.target.parentElement)?.closest('.rows tbody tr'); if (r) window.drawn.add(r); }))
-              .observe(document.querySelector('.rows tbody'), { subtree: true, childList: true, attributes: true, characterData: true });""")
+            check(
+                "a table of 300 rows",
+                len(b.find(".rows tbody tr")) == count and "nothing is cheaper" in b.text(".proof"),
+                b.text(".verdict"),
+            )
+            b.js(
+                """window.drawn = new Set(); new MutationObserver(all => all.forEach(m => { const r = (m.target.nodeType === 1 ? m.target : m.target.parentElement)?.closest('.rows tbody tr'); if (r) window.drawn.add(r); }))
+              .observe(document.querySelector('.rows tbody'), { subtree: true, childList: true, attributes: true, characterData: true });"""
+            )
             times, worked = zip(*(answered(b, 301 + 60 * k) for k in range(12)))
             wall, own = sorted(times)[len(times) // 2], sorted(worked)[1]
-            print("    300 rows: an answer stands %d ms behind the program's, the slowest of %d %d ms; the page works %d ms at a change" % (wall, len(times), max(times), own))
+            print(
+                "    300 rows: an answer stands %d ms behind the program's, the slowest of %d %d ms; the page works %d ms at a change"
+                % (wall, len(times), max(times), own)
+            )
             # (where other work holds the processors the clock tells of that: what the page itself takes of one tells of the page, and the
             # quickest but one of the changes of how much that is where least disturbs it)
             check("an answer stands within 100 ms of the program's", min(wall, own) <= 100, (times, worked))
@@ -143,7 +189,9 @@ field.dispatchEvent(new Event('change'));
 
 def answered(b, amount):
     """Another amount: how many milliseconds behind the program's answer it stood, and how many the page itself worked."""
-    work = lambda: next(m["value"] for m in b.it.execute_cdp_cmd("Performance.getMetrics", {})["metrics"] if m["name"] == "TaskDuration")
+    work = lambda: next(
+        m["value"] for m in b.it.execute_cdp_cmd("Performance.getMetrics", {})["metrics"] if m["name"] == "TaskDuration"
+    )
     b.it.execute_cdp_cmd("Performance.enable", {"timeDomain": "threadTicks"})
     before = work()
     stood = b.it.execute_async_script(CHANGE, str(amount))

@@ -21,10 +21,10 @@ def without_ok(report):
     return "".join(line for line in report.splitlines(True) if line.split(" ", 1)[-1] not in ("ok\n", "held\n"))
 
 
-def run_report(programs, dump, text):
-    path = next(p for p in (os.path.join(programs, "factoplan"), os.path.join(programs, "factoplan", "out", "factoplan"))
-        if os.path.isfile(p))
-    return subprocess.run([path, "run", dump, "/dev/stdin"], input=text, stdout=subprocess.PIPE, stderr=subprocess.DEVNULL).stdout.decode("utf-8", "replace")
+def run_report(program, dump, text):
+    return subprocess.run(
+        [program, "run", dump, "/dev/stdin"], input=text, stdout=subprocess.PIPE, stderr=subprocess.DEVNULL
+    ).stdout.decode("utf-8", "replace")
 
 
 # A script with all that makes following hard: batches, undo and redo, quiet, refused lines, a summary, comments, a line that begins with `?`.
@@ -68,28 +68,37 @@ grant item:iron-ore
 """
 
 
-def following(programs):
+def following(program):
     """After any changes of a script the answers are those of a run over it as it is."""
     chance = random.Random(41)
-    with Bench(programs) as bench:
+    with Bench(program) as bench:
         text, lines = HARD, HARD.split("\n")
         for step in range(60):
             reply = bench.run(text, ["?state", "summary"])[1]
             told = report_of(reply) if "replies" in reply else str(reply)
-            if not check("the script after change %d" % step, told == without_ok(run_report(programs, DUMP, text.encode())), (text, told)):
+            if not check(
+                "the script after change %d" % step,
+                told == without_ok(run_report(program, DUMP, text.encode())),
+                (text, told),
+            ):
                 return
             fresh = [*lines]
             for _ in range(chance.choice((0, 1, 1, 2, 5))):
                 i = chance.randrange(len(fresh))
-                chance.choice([lambda: fresh.pop(i), lambda: fresh.insert(i, chance.choice(lines)),
-                    lambda: fresh.__setitem__(i, chance.choice(lines))])()
+                chance.choice(
+                    [
+                        lambda: fresh.pop(i),
+                        lambda: fresh.insert(i, chance.choice(lines)),
+                        lambda: fresh.__setitem__(i, chance.choice(lines)),
+                    ]
+                )()
             text = "\n".join(fresh)
 
 
 def stored():
     """The stored scripts that are answered by a report: name, dump, script and report."""
     for path in CASES:
-        base = path[:-len(".script")]
+        base = path[: -len(".script")]
         with open(base + ".status") as file:
             status = file.read().strip()
         with open(path, "rb") as file:
@@ -97,18 +106,22 @@ def stored():
         if status in ("0", "1") and len(script) <= 100000 and os.path.isfile(base + ".json"):
             with open(base + ".report", "rb") as file:
                 yield os.path.basename(base), base + ".json", script, file.read().decode("utf-8", "replace")
-    with open(os.path.join(TOP, "examples", "factory.txt"), "rb") as script, open(os.path.join(TOP, "examples", "factory.report"), "rb") as report:
-        yield "factory", DUMP, script.read(), report.read().decode("utf-8", "replace")
+    for name in ("factory", "refusals"):
+        with open(os.path.join(TOP, "examples", name + ".txt"), "rb") as script, open(
+            os.path.join(TOP, "examples", name + ".report"), "rb"
+        ) as report:
+            yield name, DUMP, script.read(), report.read().decode("utf-8", "replace")
 
 
 @contextlib.contextmanager
-def planner(programs, dump):
+def planner(program, dump):
     """A planner by itself, without the server."""
     sys.path.insert(0, WORKBENCH)
-    from programs import Programs
+    from program import Program
     from session import Session
-    these = Programs(programs, 60)
-    it = Session(these.words("factoplan_session", dump), these.limits)
+
+    this = Program(program, 60)
+    it = Session(this.words("session", dump), this.limits)
     try:
         yield it
     finally:
@@ -120,16 +133,22 @@ def lines_of(script):
     return lines[:-1] if lines[-1] == b"" else lines
 
 
-def cases(programs):
+def cases(program):
     """The stored scripts: cut, changed and put right again, each is answered by its stored report."""
     wrong, count = [], 0
     for name, dump, script, report in stored():
         lines, count = lines_of(script), count + 1
         try:
-            with planner(programs, dump) as it:
-                for given in (lines[:len(lines) // 2], lines[:len(lines) // 3] + [b"# another"] + lines[len(lines) // 3 + 1:], lines):
+            with planner(program, dump) as it:
+                for given in (
+                    lines[: len(lines) // 2],
+                    lines[: len(lines) // 3] + [b"# another"] + lines[len(lines) // 3 + 1 :],
+                    lines,
+                ):
                     replies, _ = it.answers(given, [])
-            told = "".join(line.decode("utf-8", "replace") + "\n" for _, reply in sorted(replies.items()) for line in reply)
+            told = "".join(
+                line.decode("utf-8", "replace") + "\n" for _, reply in sorted(replies.items()) for line in reply
+            )
         except Exception as fault:
             told = str(fault)
         if told != without_ok(report):
@@ -137,23 +156,35 @@ def cases(programs):
     check("%d stored scripts are answered by their reports" % count, count > 100 and not wrong, wrong[:3])
 
 
-def death(programs):
+def death(program):
     """A planner that dies is started again where it was."""
     text = "table t\nrow t gear recipe:iron-gear-wheel by machine:assembling-machine-1\nimport t item:iron-plate 1\nwant t item:iron-gear-wheel 5\n"
-    with Bench(programs) as bench:
+    with Bench(program) as bench:
         before = bench.run(text, ["solve t", "?state"])[1]
         pids = bench.children()
-        check("one planner stays", len(pids) == 1 and bench.run(text, ["summary"])[0] == 200 and bench.children() == pids, pids)
+        check(
+            "one planner stays",
+            len(pids) == 1 and bench.run(text, ["summary"])[0] == 200 and bench.children() == pids,
+            pids,
+        )
         other = text.replace("iron-gear-wheel 5", "iron-gear-wheel 6")
         told = [bench.run(it, ["solve t", "?state"])[1] for it in (other, text)]
-        check("and follows what changes by undo", "want t item:iron-gear-wheel 6" in told[0].get("answers", ["", ""])[1]
-            and told[1].get("answers") == before["answers"] and bench.children() == pids, (told, bench.children()))
+        check(
+            "and follows what changes by undo",
+            "want t item:iron-gear-wheel 6" in told[0].get("answers", ["", ""])[1]
+            and told[1].get("answers") == before["answers"]
+            and bench.children() == pids,
+            (told, bench.children()),
+        )
         os.kill(pids[0], signal.SIGKILL)
         until(lambda: pids[0] not in [p for p in bench.children() if not is_dead(p)], 5)
         after = bench.run(text, ["solve t", "?state"])[1]
-        check("a planner that was killed is started again where it was",
-            after.get("answers") == before["answers"] and bench.children() not in ([], pids), after)
-    with Bench(programs, more=["--seconds", "4"]) as bench:
+        check(
+            "a planner that was killed is started again where it was",
+            after.get("answers") == before["answers"] and bench.children() not in ([], pids),
+            after,
+        )
+    with Bench(program, more=["--seconds", "4"]) as bench:
         bench.run(text, ["solve t"])
         pids = bench.children()
         if not check("a planner is there within 4 seconds", pids):

@@ -12,17 +12,17 @@ TEXT = b"table t\nrow t a recipe:iron-plate by machine:electric-furnace\nwant t 
 ASKED = "return performance.getEntriesByType('resource').map(e => new URL(e.name)).filter(u => u.protocol !== 'data:').map(u => u.origin)"
 
 
-def troubles(programs, make):
+def troubles(program, make):
     b = make()
     try:
-        go_through((dies, full, asks_nobody), programs, b)
+        go_through((dies, full, asks_nobody), program, b)
     finally:
         b.it.quit()
 
 
-def dies(programs, b):
+def dies(program, b):
     """A planner that is killed under the page is started again where it was: the player sees nothing of it."""
-    with Bench(programs, text=TEXT) as bench:
+    with Bench(program, text=TEXT) as bench:
         b.it.get(bench.url)
         b.settle()
         pids = bench.children()
@@ -30,13 +30,19 @@ def dies(programs, b):
         for pid in pids:
             os.kill(pid, signal.SIGKILL)
         b.write('[data-key="want item:iron-plate"]', "120", Keys.ENTER)
-        check("the next change is answered by another", "nothing is cheaper" in b.text(".proof") and b"want t item:iron-plate 2\n" in bench.saved()
-            and bench.children() not in ([], pids) and not b.said(), (b.text(".verdict"), b.said()))
+        check(
+            "the next change is answered by another",
+            "nothing is cheaper" in b.text(".proof")
+            and b"want t item:iron-plate 2\n" in bench.saved()
+            and bench.children() not in ([], pids)
+            and not b.said(),
+            (b.text(".verdict"), b.said()),
+        )
 
 
-def full(programs, b):
+def full(program, b):
     """No room for the script: it is told, the old one stays on the disk and the new one on the page, and once there is room it is saved."""
-    with Bench(programs, text=TEXT) as bench:
+    with Bench(program, text=TEXT) as bench:
         b.it.get(bench.url)
         b.settle()
         limits = resource.prlimit(bench.process.pid, resource.RLIMIT_FSIZE, (300, resource.RLIM_INFINITY))
@@ -44,16 +50,28 @@ def full(programs, b):
         b.one("textarea").send_keys(Keys.CONTROL, Keys.END)
         b.one("textarea").send_keys("# " + "much more " * 30 + "\n")
         b.settle()
-        check("a full disk is told", "No answer" in b.said() and "not saved" in b.text("#state"), (b.said(), b.text("#state")))
-        check("the old text stays on the disk, alone", bench.saved() == TEXT and os.listdir(bench.folder) == ["factory.txt"], os.listdir(bench.folder))
+        check(
+            "a full disk is told",
+            "No answer" in b.said() and "not saved" in b.text("#state"),
+            (b.said(), b.text("#state")),
+        )
+        check(
+            "the old text stays on the disk, alone",
+            bench.saved() == TEXT and os.listdir(bench.folder) == ["factory.txt"],
+            os.listdir(bench.folder),
+        )
         check("and the new one on the page", b.one("textarea").get_attribute("value").endswith("much more \n"))
         resource.prlimit(bench.process.pid, resource.RLIMIT_FSIZE, limits)
         b.click("#toasts button", "Try again")
-        check("once there is room it is saved", until(lambda: bench.saved().endswith(b"much more \n")) and b.text("#state") == "saved", bench.saved())
+        check(
+            "once there is room it is saved",
+            until(lambda: bench.saved().endswith(b"much more \n")) and b.text("#state") == "saved",
+            bench.saved(),
+        )
         b.keys(Keys.ESCAPE)
 
 
-def asks_nobody(programs, b):
+def asks_nobody(program, b):
     """The page asks its own server, and nobody else."""
     here = b.js("return location.origin")
     asked = b.js(ASKED)

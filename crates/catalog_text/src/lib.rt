@@ -6,6 +6,7 @@
 
 mod catalog;
 mod fields;
+mod hidden;
 mod keys;
 mod named;
 mod prototypes;
@@ -17,4 +18,5 @@ mod trees;
 
 pub use catalog::catalog_text;
 pub use fields::{Shown, ShownFields, shown_of};
+pub use hidden::hidden_recipes;
 pub use reading::read_shown;

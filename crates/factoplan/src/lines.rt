@@ -61,9 +61,6 @@ fn tell_refused(
     detail: &Detail,
     telling: &mut Telling,
 ) -> Result<(), NoMemory> {
-    if !telling.has_room() {
-        return Ok(());
-    }
     let line = told.line;
     let found = found_of(alloc, planner.game(), planner.tables(), &line, code, detail)?;
     tell_found(alloc, told.script, line.number, &found, telling)
@@ -78,9 +75,6 @@ fn tell_short(
     prices: &[Ratio],
     telling: &mut Telling,
 ) -> Result<(), NoMemory> {
-    if !telling.has_room() {
-        return Ok(());
-    }
     let game = planner.game();
     let Ok(linear) = linear_named(alloc, game, planner.tables(), table) else {
         return Err(NoMemory);
@@ -130,6 +124,15 @@ fn tell_answer(
     }
 }
 
+// Whether something is to be said of a line with this reply.
+fn is_told(reply: &Reply) -> bool {
+    match reply {
+        Reply::Refused { .. } => true,
+        Reply::Solved { answer, .. } => !matches!(answer, SolveAnswer::Planned(_)),
+        _ => false,
+    }
+}
+
 /// Says what is to be said of the reply to a line of the script of this name: why the line is refused, or the line of the batch that it
 /// closes, or why its table has no plan.
 ///
@@ -145,6 +148,10 @@ pub fn tell_reply(
     reply: &Reply,
     telling: &mut Telling,
 ) -> Result<(), NoMemory> {
+    // (a script is gone through for a line of a batch only where that is told)
+    if !is_told(reply) || !telling.has_room() {
+        return Ok(());
+    }
     let (number, bytes) = match reply {
         Reply::Refused { at: Some(at), .. } => (*at, line_at(script, *at)),
         _ => (line.number, line.bytes),

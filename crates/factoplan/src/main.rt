@@ -1,164 +1,141 @@
-//! Reads a dump and a script, and answers each line of the script. What went wrong is said in one line on standard error.
+//! The program: it reads a dump and a script, and answers each line of the script, or writes what else its words ask for. What went wrong is said on
+//! standard error.
 #![tactic(auto)]
 
 mod hints;
 mod lines;
 mod room;
+mod running;
 mod telling;
+mod words;
 
-use crate::hints::LineHints;
-use crate::telling::said;
-use plan_base::{NoMemory, Steps, Text};
-use plan_io::{HostSink, HostStore};
-use planner_cli::{RunOutcome, Status, run};
-use program_runs::{VERSION, Watch, WatchedSink, WatchedStore, program_words, said_of_store};
+use crate::running::run_end;
+use crate::words::program;
+use clap::{ArgMatches, Command, Error};
+use plan_base::{NoMemory, Text};
+use plan_io::HostSink;
+use program_runs::{End, end_by_words, ended, program_words};
+use run_inputs::{Status, tell};
 use std::alloc::Global;
-use std::io::IsTerminal;
+use std::io::{Input, IsTerminal};
 use std::process::ExitCode;
-use std::rt::Files;
+use std::rt::{Env, Files};
 use std::time::Clock;
 
-// Marks the counter of the program.
-#[derive(Drop)]
-struct Program;
-
-/// What `factoplan --help` tells.
-const HELP: &str = "Reads a dump of Factorio 1.1 and a script, and answers each line of the script.
-
-Usage: factoplan run DUMP SCRIPT
-       factoplan prove DUMP SCRIPT
-       factoplan check DUMP SCRIPT --cert FILE
-       factoplan sample NUMBER SIZE
-
-Modes:
-  run     writes the reply to each line
-  prove   writes the certificate of what the solver answers
-  check   writes what the certificate of a file proves of each line
-  sample  writes the report of a dump and a script that are drawn from a number
-
-DUMP is the file data-raw-dump.json that factorio --dump-data writes; SCRIPT is a file with a command a line, and may be /dev/stdin.
-
-Options:
-  --cert FILE    the certificate that is checked
-  -h, --help     prints this
-  -V, --version  prints the version
-
-Exit status: 0 done, 1 a line was refused or a table is not proved, 2 wrong words, 3 bad dump, 4 a read fault, 5 a write fault, 6 no memory, 7 too long,
-9 bad certificate
-";
-
-// How a run ended, what is to be said of a file that could not be read, and what of its lines.
-#[derive(Drop)]
-struct Run {
-    status: Status,
-    unread: Option<Text>,
-    lines: Option<Text>,
+fn is_run(command: &str) -> bool {
+    matches!(command, "run" | "prove" | "check" | "sample")
 }
 
-// The run that the words ask for. Its progress is told on standard error where that is shown.
-fn ran<R: Files + Print + Eprint + Clock>(
+// Whether a run is to tell what is wrong with words: those of its commands, and those of which one is no UTF-8, so that there are none.
+fn are_of_run(words: &[Text]) -> bool {
+    match words {
+        [] => true,
+        [_, command, ..] => is_run(command.as_str()),
+        _ => false,
+    }
+}
+
+// The end of a command that the launcher carries out.
+fn launched(alloc: Global, command: &str) -> End {
+    match format!(in alloc; "{command} is started by the launcher") {
+        Ok(said) => End::saying(alloc, said.as_str(), 2),
+        Err(_) => End::by(alloc, &Status::NoMemory),
+    }
+}
+
+// The end of a command that is no run.
+fn output_end<R: Files + Print + Input>(
+    rt: &R,
+    alloc: Global,
+    command: &str,
+    matches: &ArgMatches<'_>,
+) -> End {
+    match command {
+        "table" => wish_output::run_matched(rt, alloc, matches),
+        "session" => session_output::run_matched(rt, alloc, matches),
+        _ => match script_outputs::run_matched(rt, alloc, command, matches) {
+            Some(end) => end,
+            None => launched(alloc, command),
+        },
+    }
+}
+
+// The end of the command that matched words ask for.
+fn matched_end<R: Files + Print + Eprint + Input + Clock>(
     rt: &R,
     alloc: Global,
     words: &[Text],
+    matches: &ArgMatches<'_>,
     is_shown: bool,
-) -> Run {
-    let mut store = WatchedStore::make(HostStore::make(alloc, rt), Watch::start(rt, is_shown));
-    let mut out = WatchedSink::make(HostSink::make(rt), Watch::start(rt, is_shown));
-    let mut steps = Steps::new(Program);
-    let mut hints = LineHints::make(alloc, words);
-    let RunOutcome { status, .. } = run(alloc, words, &mut store, &mut out, &mut hints, &mut steps);
-    store.clear();
-    out.clear();
-    let lines = match status {
-        Status::Done | Status::SomeRefused => hints.said(),
-        _ => None,
-    };
-    Run {
-        status,
-        unread: said_of_store(alloc, store.store().fault()),
-        lines,
+) -> End {
+    match matches.subcommand() {
+        Some((command, matches)) if !is_run(command) => output_end(rt, alloc, command, matches),
+        _ => run_end(rt, alloc, words, is_shown),
     }
 }
 
-// Says on standard error how a run ended, and what is to be said of its lines. Where nothing can be said, the status still tells.
-fn tell<R: Files + Eprint + AllocGlobal>(rt: &R, alloc: Global, words: &[Text], ended: Run) {
-    let Run {
-        status,
-        unread,
-        lines,
-    } = ended;
-    if let Some(said) = said(rt, alloc, &status, words, unread) {
-        let _ = rt.eprint(said.as_str());
-    }
-    if let Some(said) = lines {
-        let _ = rt.eprint(said.as_str());
+// The end by words that name no command: a run's line for wrong words is written, and it is said what is wrong with them.
+fn unknown_end<R: Print + Eprint>(rt: &R, alloc: Global, error: &Error) -> End {
+    match tell(alloc, Status::BadWords, &mut HostSink::make(rt)) {
+        Status::BadWords => end_by_words(rt, alloc, error),
+        status => End::by(alloc, &status),
     }
 }
 
-// What words ask for beside a run.
-#[derive(Clone, Copy)]
-enum Notice {
-    Help,
-    Version,
-}
-
-// The help or the version, where the one word behind the program's name asks for it.
-fn notice_in(words: &[Text]) -> Option<Notice> {
-    if words.len() != 2 {
-        return None;
-    }
-    match words.get(1)?.as_str() {
-        "--help" | "-h" => Some(Notice::Help),
-        "--version" | "-V" => Some(Notice::Version),
-        _ => None,
-    }
-}
-
-// Prints the help or the version.
-fn told<R: Print>(rt: &R, notice: Notice) -> ExitCode {
-    let done = match notice {
-        Notice::Help => rt.print(HELP),
-        Notice::Version => println!(rt; "factoplan {VERSION}"),
-    };
-    match done {
-        Ok(()) => ExitCode::SUCCESS,
-        Err(_) => ExitCode::from(Status::WriteFault.exit()),
-    }
-}
-
-// The end of the run that the words ask for, of which is told what is to be said.
-fn end_of<R: Files + Print + Eprint + Clock + AllocGlobal>(
+// The end by words that match no command, or ask for help or the version. What is wrong with those of a run, the run tells.
+fn unmatched_end<R: Files + Print + Eprint + Clock>(
     rt: &R,
     alloc: Global,
     words: &[Text],
+    error: &Error,
+    names_command: bool,
     is_shown: bool,
-) -> ExitCode {
-    let ended = ran(rt, alloc, words, is_shown);
-    let exit = ended.status.exit();
-    tell(rt, alloc, words, ended);
-    ExitCode::from(exit)
+) -> End {
+    if error.use_stderr() && are_of_run(words) {
+        run_end(rt, alloc, words, is_shown)
+    } else if error.use_stderr() && !names_command {
+        unknown_end(rt, alloc, error)
+    } else {
+        end_by_words(rt, alloc, error)
+    }
 }
 
-// The end of a program for whose words there is no memory.
-fn no_memory<R: Files + Eprint + AllocGlobal>(rt: &R, alloc: Global) -> ExitCode {
-    let ended = Run {
-        status: Status::NoMemory,
-        unread: None,
-        lines: None,
-    };
-    tell(rt, alloc, &[], ended);
-    ExitCode::from(Status::NoMemory.exit())
+// Whether the first word behind the program's name is that of a command.
+fn names_command(program: &Command<'_>, words: &[Text]) -> bool {
+    match words {
+        [_, command, ..] => program.find_subcommand(command.as_str()).is_some(),
+        _ => false,
+    }
+}
+
+// The end of what the program's words ask for.
+fn asked_end<R: Files + Env + Print + Eprint + Input + Clock + AllocGlobal>(
+    rt: &R,
+    alloc: Global,
+    is_shown: bool,
+) -> Result<End, NoMemory> {
+    let words = program_words(rt, alloc)?;
+    let program = program(alloc)?;
+    let names_command = names_command(&program, words.as_slice());
+    match program.try_get_matches_from(words.as_slice()) {
+        Ok(matches) => Ok(matched_end(rt, alloc, words.as_slice(), &matches, is_shown)),
+        Err(error) => Ok(unmatched_end(
+            rt,
+            alloc,
+            words.as_slice(),
+            &error,
+            names_command,
+            is_shown,
+        )),
+    }
 }
 
 fn main(rt: HostRuntime) -> ExitCode {
     let alloc = rt.alloc();
     // A terminal that has the report itself shows how far the run is.
     let is_shown = rt.stderr().is_terminal() && !rt.stdout().is_terminal();
-    match program_words(&rt, alloc) {
-        Ok(words) => match notice_in(&words) {
-            Some(notice) => told(&rt, notice),
-            None => end_of(&rt, alloc, &words, is_shown),
-        },
-        Err(NoMemory) => no_memory(&rt, alloc),
+    match asked_end(&rt, alloc, is_shown) {
+        Ok(end) => ended(&rt, &end),
+        Err(NoMemory) => ended(&rt, &End::by(alloc, &Status::NoMemory)),
     }
 }

@@ -13,5 +13,5 @@ mod words;
 pub use cause_texts::cause_text;
 pub use causes::{Cause, Short, code_of, code_words};
 pub use forms::{Slot, form_of, slot_code};
-pub use likeness::{Likeness, edits_between, nearest};
+pub use likeness::{Likeness, nearest};
 pub use words::{LineWord, QuoteFault, Unread, words_of};

@@ -2,7 +2,7 @@
 //! blank and underscore.
 #![tactic(auto)]
 
-ghost use Rattle.std.specs.Prelude.{◌≡◌, ◌≤◌, ◌<◌, ◌/◌, ◌↔◌, length, map, nat_lt, IfOk};
+ghost use Rattle.std.specs.Prelude.{◌≡◌, ◌≤◌, ◌<◌, ◌/◌, ◌↔◌, length, map, nat_lt, None, IfOk};
 ghost use Rattle.std.specs.Bool.{IsTrue};
 ghost use Rattle.std.specs.List.{IsFirstBest};
 ghost use Rattle.line_causes.specs.Likeness.{IsNearest, edits, plain, plain_byte};
@@ -10,6 +10,9 @@ ghost use Rattle.line_causes.specs.Likeness.{IsNearest, edits, plain, plain_byte
 use plan_base::{NoMemory, Text};
 use std::alloc::Global;
 use strsim::generic_levenshtein;
+
+// In bytes.
+const LONGEST_WORD: usize = 200;
 
 /// A name that is like a word: its place among the names, and how many edits lead from the word to it.
 #[derive(Clone, Copy, Debug, PartialEq, Eq)]
@@ -56,18 +59,6 @@ fn edits_to(alloc: Global, word: &[u8], name: &str) -> Result<usize, NoMemory>
     Ok(generic_levenshtein(alloc, word, name.as_slice())?)
 }
 
-/// How many edits lead from a word to a name.
-///
-/// # Errors
-///
-/// `NoMemory` where memory could not be had.
-pub fn edits_between(alloc: Global, word: &str, name: &str) -> Result<usize, NoMemory>
-    ensures { IfOk result (λ count. count ≡ edits (plain word.now) (plain name.now)) }
-{
-    let word = plain(alloc, word)?;
-    edits_to(alloc, word.as_slice(), name)
-}
-
 fn all_edits(alloc: Global, word: &[u8], names: &[Text]) -> Result<Vec<usize>, NoMemory>
     ensures { IfOk result (λ counts. counts.items ≡ map (λ name. edits word.now (plain name)) names.now) }
 {
@@ -92,14 +83,19 @@ fn least(counts: &[usize]) -> usize
     best
 }
 
-/// The first of the names to which least edits lead from a word. None where there are no names.
+/// The first of the names to which least edits lead from a word. None where there are no names, or the word has more than 200 bytes: it would take
+/// time by its length times those of all names.
 ///
 /// # Errors
 ///
 /// `NoMemory` where memory could not be had.
 pub fn nearest(alloc: Global, word: &str, names: &[Text]) -> Result<Option<Likeness>, NoMemory>
-    ensures { IfOk result (IsNearest word.now names.now) }
+    ensures short { length word.now ≤ 200 → IfOk result (IsNearest word.now names.now) }
+    ensures long { 200 < length word.now → IfOk result (λ found. found ≡ None) }
 {
+    if word.len() > LONGEST_WORD {
+        return Ok(None);
+    }
     let word = plain(alloc, word)?;
     let counts = all_edits(alloc, word.as_slice(), names)?;
     if counts.is_empty() {

@@ -36,6 +36,7 @@ use Rattle.script_runner.specs.declared.verdict.Verdict.{Verdict}
 use Rattle.script_runner.specs.declared.verdict.Verdict.TheVariants.{ProvedPlan, ProvedInfeasible, Open, Rejected}
 use Rattle.script_runner.specs.Answers.{Answered, IsAnswered, IsReply, Reading}
 use Rattle.planner_cli.specs.Facts.{Asks, CheckHeadline, Headline, IsAfresh, IsShown, ProvesTruly, SolvesOrTellsWhy, TakesBack, TellsByRounds, TellsWhyNot}
+use Rattle.planner_cli.proofs.RefusedLemmas.{leaves_all}
 use Rattle.script_runner.specs.Plans.{TellsOfTable}
 use Rattle.script_runner.specs.Sessions.{IsSession}
 use Rattle.script_runner.specs.Trials.{IsJudged, IsJudgedBy, IsSaid, IsTrial, Judged}
@@ -106,6 +107,7 @@ headline base first last lines answers session from =
       undo = λ k d within. takes_back (slice_index_or answers k d) (session.each k d within);
       gives_back = λ k d within i e inside.
           same_state base (slice_index_or answers k d).after (slice_index_or answers i e).before (afresh base (slice_index_or answers k d).after (grows k d within).1) (afresh base (slice_index_or answers i e).before (grows i e inside).0);
+      refusals = λ k d within. leaves_all (slice_index_or answers k d) (session.each k d within);
     }
 
 -- ---- lines that are checked

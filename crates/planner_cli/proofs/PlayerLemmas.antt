@@ -35,6 +35,7 @@ of_game shelf asked taken solved status before after text g all written = record
   plans = g.headline.plans;
   undo = g.headline.undo;
   gives_back = g.headline.gives_back;
+  refusals = g.headline.refusals;
 }
 
 done : (shelf : Shelf) (asked : Option Asked) (taken : ℕ) (solved : List SolveAnswer) (before after : Option (List ℕ)) (text : List ℕ) → ((cert : List ℕ) (names : FileNames) → asked ≢ Some (Files (Check cert) names))

@@ -1,5 +1,5 @@
 -- What the answers to the lines of a script tell a player: the facts of the headline.
-use Rattle.std.specs.Prelude.{◌≡◌, ◌⊎◌, ℕ, List, [], All, Some, None, Ok, Err, length, ⊤}
+use Rattle.std.specs.Prelude.{◌≡◌, ◌⊎◌, ℕ, List, [], All, Some, None, Ok, Err, length, true, ⊤}
 use Rattle.plan_base.specs.declared.ids.NodeId.{NodeId}
 use Rattle.plan_base.specs.declared.shape.Kind.{Kind}
 use Rattle.fractions.specs.Fraction.{Fraction}
@@ -22,12 +22,12 @@ use Rattle.state_changes.specs.Effects.{effect_of}
 use Rattle.state_changes.specs.States.{State}
 use Rattle.planning_state.specs.Worlds.{is_reached, rank_of}
 use Rattle.planner_core.specs.Replies.{AboutNode, IsWhyReply, list_reply, mask_reply, missing_reply, refused_as, summary_reply}
-use Rattle.planner_core.specs.Lines.{Planned}
+use Rattle.planner_core.specs.Lines.{Planned, closed}
 use Rattle.planner_core.specs.Posing.{form_asked}
 use Rattle.planner_core.specs.declared.posing.Posed.TheVariants as posed
 use Rattle.script_runner.specs.declared.verdict.Verdict.{Verdict}
 use Rattle.script_runner.specs.declared.verdict.Verdict.TheVariants.{ProvedPlan, ProvedInfeasible}
-use Rattle.script_runner.specs.Answers.{Answered}
+use Rattle.script_runner.specs.Answers.{Answered, is_refusal}
 use Rattle.script_runner.specs.Plans.{HasNoPlanBy, IsLeastCostPlan, TellsOfTable}
 use Rattle.script_runner.specs.Trials.{Judged}
 
@@ -76,15 +76,21 @@ TakesBack a = Asks a command.Undo → (session_of a.after.kept ≡ undo_of (sess
 abbrev pub HasSameState : Answered → Answered → Type 0
 HasSameState a b = (session_of a.after.kept).done ≡ (session_of b.before.kept).done → a.after.state ≡ b.before.state
 
+-- ---- refused lines
+-- a refused line leaves the state, the history, the open batch and the quiet mark as they were; only a refused `end` closes its batch
+abbrev pub LeavesAll : Answered → Type 0
+LeavesAll a = is_refusal a ≡ true → (a.after ≡ a.before) ⊎ ((a.reading ≡ Ok (Some command.End)) × (a.after ≡ closed a.before))
+
 -- ---- the headline
 -- Before and behind each line the state is what the active edits give afresh on the base. What is told of things is by the rounds, and of
--- tables by plans and prices. Undo gives back every part.
+-- tables by plans and prices. Undo gives back every part, and a refused line leaves each as it was.
 pub record Headline (base : State) (answers : List Answered) : Type 0 where
   pub afresh : All (λ a. IsAfresh base a.before × IsAfresh base a.after) answers
   pub by_rounds : All TellsByRounds answers
   pub plans : All SolvesOrTellsWhy answers
   pub undo : All TakesBack answers
   pub gives_back : All (λ a. All (HasSameState a) answers) answers
+  pub refusals : All LeavesAll answers
 
 -- ---- the headline of a check
 -- a plan of least cost, or prices that show that there is no plan; nothing is shown by the other verdicts

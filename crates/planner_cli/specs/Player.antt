@@ -12,7 +12,7 @@ use Rattle.run_inputs.specs.Words.{Asked, Check, FileNames, Files}
 use Rattle.run_inputs.specs.Inputs.{IsBase, IsScript}
 use Rattle.run_inputs.specs.declared.status.Status.{Status}
 use Rattle.run_inputs.specs.declared.status.Status.TheVariants.{Done, SomeRefused}
-use Rattle.planner_cli.specs.Facts.{HasSameState, IsAfresh, SolvesOrTellsWhy, TakesBack, TellsByRounds}
+use Rattle.planner_cli.specs.Facts.{HasSameState, IsAfresh, LeavesAll, SolvesOrTellsWhy, TakesBack, TellsByRounds}
 use Rattle.planner_cli.specs.Headline.{IsTold}
 
 -- all lines were answered, and they were not checked against a certificate
@@ -24,7 +24,7 @@ pub record IsAnsweredRun (asked : Option Asked) (status : Status) : Type 0 where
 -- and behind each line the state is what the active edits, applied in order, give afresh on the game of the dump. What is reached, the ranks, the
 -- masks, `why` and `missing` are those of the rounds over the rows of that state. Each plan balances every good of its table exactly at the
 -- wanted rates, its prices are dual to its cost and no plan of the table costs less; a table is called infeasible only with prices that
--- show it; a refused `solve` has its cause. Undo takes back the last entry, and gives back every part.
+-- show it; a refused `solve` has its cause. Undo takes back the last entry, and gives back every part. A refused line leaves each as it was.
 pub record TellsPlayer (shelf : Shelf) (asked : Option Asked) (before after : Option (List ℕ)) : Type 0 where
   pub game : Game
   pub base : IsBase shelf asked game
@@ -42,3 +42,4 @@ pub record TellsPlayer (shelf : Shelf) (asked : Option Asked) (before after : Op
   pub plans : All SolvesOrTellsWhy answers
   pub undo : All TakesBack answers
   pub gives_back : All (λ a. All (HasSameState a) answers) answers
+  pub refusals : All LeavesAll answers

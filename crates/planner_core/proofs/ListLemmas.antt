@@ -4,6 +4,7 @@ use Rattle.std.specs.Prelude.{filter, if◌then◌else◌, slice_get, sum_by}
 use Rattle.std.proofs.lemmas.List.Sums.{sum_by-cons}
 use Rattle.std.specs.List.{range_with_len}
 use Rattle.std.proofs.lemmas.List.{append_assoc, take_more}
+use Rattle.std.proofs.lemmas.List.FromFn.{map-range_with_len_more}
 use Rattle.std.proofs.lemmas.Option.{get_or_from_slice_get, slice_get_within}
 use Rattle.plan_base.specs.declared.ids.NodeId.{NodeId}
 use Rattle.data_edit.specs.declared.books.Book.{Book}
@@ -28,6 +29,10 @@ listed-more book n end nodes more all inside e h =
     ∙ (append_assoc nodes _ (reached_from book (n + 1) (end - (n + 1)))
     ∙ (ap (λ l. nodes ++ l) (one-more book n (end - (n + 1)))
     ∙ (ap (λ (k : ℕ). nodes ++ reached_from book n k) (sym left) ∙ h)))
+
+-- ---- marks of the nodes
+pub marked-more : (test : ℕ → Bool) (n : ℕ) (marks more : List Bool) → more ≡ marks ++ test n ∷ [] → marks ≡ map test (range_with_len 0 n) → more ≡ map test (range_with_len 0 (n + 1))
+marked-more test n marks more e h = e ∙ (ap (λ l. l ++ test n ∷ []) h ∙ sym (map-range_with_len_more test 0 n n (omega arith)))
 
 -- ---- totals over the nodes
 counted-next : (book : Book) (n count : ℕ) → (if is_reached book n then 1 else 0) + length (filter (is_reached book) (range_with_len (n + 1) count)) ≡ length (filter (is_reached book) (range_with_len n (suc count)))

@@ -97,6 +97,10 @@ mask_reply s node false = reply.Mask node false []
 abbrev pub list_reply : Book → Kind → Reply
 list_reply book kind = reply.List kind (reached_from book (first_of (shape_of book.game) kind) (count_of (shape_of book.game) kind))
 
+-- whether each node is reached, in node order
+abbrev pub reached_marks : Book → List Bool
+reached_marks book = map (is_reached book) (range_with_len 0 (node_count (shape_of book.game)))
+
 -- how many nodes are reached
 abbrev pub reached_count : Book → ℕ
 reached_count book = length (filter (is_reached book) (range_with_len 0 (node_count (shape_of book.game))))

@@ -1,5 +1,5 @@
 //! The planner: what each line of a script does, and its reply.
-ghost use Rattle.std.specs.Prelude.{◌≡◌, ◌+◌, ◌*◌, ◌<◌, ◌≤◌, ◌∷◌, [], List, None, Some, false, MatchResult, IfOk, OnErr, option_map};
+ghost use Rattle.std.specs.Prelude.{◌≡◌, ◌+◌, ◌*◌, ◌<◌, ◌≤◌, ◌∷◌, [], List, None, Some, false, MatchResult, IfNone, IfOk, IfSome, OnErr, option_map};
 ghost use Rattle.plan_base.specs.Shape.{node_count};
 ghost use Rattle.graph_store.specs.Rows.{member_count};
 ghost use Rattle.game_types.specs.Nodes.{shape_of};
@@ -11,13 +11,14 @@ ghost use Rattle.planner_tables.specs.Effects.{AreSoundTables};
 ghost use Rattle.edit_undo.specs.Session.{last_of, redo_of, undo_of};
 ghost use Rattle.edit_undo.specs.Kept.{session_of};
 ghost use Rattle.planner_tables.specs.Questions.{linear_named};
+ghost use Rattle.planner_core.specs.Replies.{reached_marks};
 ghost use Rattle.planner_core.specs.Posing.{IsFormed, IsPosedTable};
-ghost use Rattle.planner_core.specs.Lines.{entry_work, first_planned, is_refused, line_work, Does, IsFree, IsSessionOf, IsStep, Moves};
+ghost use Rattle.planner_core.specs.Lines.{entry_work, first_planned, is_free, is_refused, line_work, Does, IsFree, IsSessionOf, IsStep, Moves};
 
 use crate::Posed;
 use crate::batches::{done_reply, one};
 use crate::questions::{mask_reply, milestones_reply, missing_reply, reach_reply, why_reply};
-use crate::reached::{list_reply, summary_reply};
+use crate::reached::{list_reply, reached_marks, summary_reply};
 use crate::refusals::{refused, refused_as};
 use edit_undo::{DoFault, History};
 use game_types::Game;
@@ -100,6 +101,22 @@ impl Planner {
         ensures sound { AreSoundTables self.now.state.book.game result.now }
     {
         self.planning.tables()
+    }
+
+    /// Whether each node is reached, in node order. None just while a batch is open, in which nothing is told.
+    ///
+    /// # Errors
+    ///
+    /// `NoMemory` where memory could not be had.
+    pub fn reached(&self) -> Result<Option<Vec<bool>>, NoMemory>
+        ensures marks { IfOk result (λ told. IfSome told (λ marks. (self.now.batch ≡ None) × (marks.items ≡ reached_marks self.now.state.book))) }
+        ensures none { IfOk result (λ told. IfNone told (is_free self.now.batch ≡ false)) }
+    {
+        if self.is_open() {
+            return Ok(None);
+        }
+        let marks = reached_marks(self.alloc, &self.planning)?;
+        Ok(Some(marks))
     }
 
     /// Every planner grew from a base: it keeps what leads from that base to its state, what leads back, and what can be done again.

@@ -2,7 +2,7 @@
 ghost use Rattle.std.specs.Prelude.{◌≡◌, ◌+◌, ◌*◌, ◌^◌, ◌<◌, ◌-◌, ◌≤◌, ◌++◌, ◌∷◌, [], IfOk, OnOk, if◌then◌else◌};
 ghost use Rattle.plan_base.specs.Shape.{node_count};
 ghost use Rattle.game_types.specs.Nodes.{shape_of};
-ghost use Rattle.planner_core.specs.Replies.{list_reply, reached_count, reached_from, bits_at, bits_of, summary_reply};
+ghost use Rattle.planner_core.specs.Replies.{list_reply, reached_count, reached_from, reached_marks, bits_at, bits_of, summary_reply};
 ghost use Rattle.planning_state.specs.Worlds.{is_reached, rank_of};
 
 use plan_base::{Items, Kind, NoMemory, NodeId};
@@ -56,6 +56,31 @@ fn reached_from(
         push_reached(planning, &mut nodes, NodeId(n))?;
     }
     Ok(nodes)
+}
+
+// Whether the node is reached, behind the others.
+fn push_mark(planning: &Planning, marks: &mut Vec<bool>, node: NodeId) -> Result<(), NoMemory>
+    requires { node.0 < node_count (shape_of planning.now.book.game) }
+    ensures { OnOk result (marks.new.items ≡ marks.old.items ++ is_reached planning.now.book node.0 ∷ []) }
+{
+    marks.push(planning.is_reached(node))?;
+    Ok(())
+}
+
+/// Whether each node is reached, in node order.
+///
+/// # Errors
+///
+/// `NoMemory` where memory could not be had.
+pub fn reached_marks(alloc: Global, planning: &Planning) -> Result<Vec<bool>, NoMemory>
+    ensures { IfOk result (λ marks. marks.items ≡ reached_marks planning.now.book) }
+{
+    let mut marks = Vec::new(alloc);
+    let end = planning.node_count();
+    for n in 0..end {
+        push_mark(planning, &mut marks, NodeId(n))?;
+    }
+    Ok(marks)
 }
 
 // How many nodes are reached, and how many milestones lie in their masks.

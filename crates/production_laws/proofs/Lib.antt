@@ -1,6 +1,7 @@
 pub mod Lists
 pub mod Parts
 pub mod Whole
+pub mod Plans
 pub mod Shares
 pub mod Activities
 pub mod Power

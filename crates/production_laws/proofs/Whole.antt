@@ -24,11 +24,11 @@ use Rattle.production_laws.specs.Balance.{imported, left_over, rate_of, row_amou
 use Rattle.production_laws.proofs.Lists.{column_sum, column_sum_append, column_sum_is, number_at_map}
 use Rattle.production_laws.proofs.Parts.{has_or_not, imports_sum, no_amount, no_rate, no_rows, rows_sum, surpluses_sum}
 
-few_is : (b : Bool) (x l : Linear) → ◌≡◌ {A = Result Linear TableFault} (if b then Err Full else Ok x) (Ok l) → x ≡ l
+pub few_is : (b : Bool) (x l : Linear) → ◌≡◌ {A = Result Linear TableFault} (if b then Err Full else Ok x) (Ok l) → x ≡ l
 few_is true x l h = absurd (cc)
 few_is false x l h = cc
 
-count_rows : (g : Game) (power : Bool) (goods : List GoodId) (first : ℕ) (rows : List TableRow) (columns : List (List (GoodId × Fraction))) → columns_of g power rows ≡ Ok columns → length (row_columns goods first rows columns) ≡ length rows
+pub count_rows : (g : Game) (power : Bool) (goods : List GoodId) (first : ℕ) (rows : List TableRow) (columns : List (List (GoodId × Fraction))) → columns_of g power rows ≡ Ok columns → length (row_columns goods first rows columns) ≡ length rows
 unfolding columns_of row_columns
 count_rows g power goods first [] columns e = refl
 count_rows g power goods first (row ∷ rows) columns e =
@@ -57,18 +57,16 @@ no_want : (goods : List GoodId) (wants : List (GoodId × Fraction)) (good : Good
 unfolding want_of
 no_want goods wants good each not = no_amount goods wants good each not
 
--- where the good is mentioned, its place balances
-mentioned : (g : Game) (t : Table) (goods : List GoodId) (columns : List (List (GoodId × Fraction))) (rates : List Fraction) (good : GoodId) → columns_of g t.power t.rows ≡ Ok columns → IsOrdered t goods columns
-    → IsPlan (linear_with t goods columns) rates → Has goods good.0 → GoodBalance g t rates good
-mentioned g t goods columns rates good e o plan has =
+-- what the columns of the form add to the place of a good is what the table's rows and imports give of it, less what goes out
+pub sums_at : (g : Game) (t : Table) (goods : List GoodId) (columns : List (List (GoodId × Fraction))) (rates : List Fraction) (good : GoodId) → columns_of g t.power t.rows ≡ Ok columns → IsOrdered t goods columns → Has goods good.0
+    → sum_below (column_count (linear_with t goods columns)) (λ j. column_part (linear_with t goods columns) j (spot good.0 goods) *ʳ number_at rates j)
+    ≡ weighted (row_amount g t.power good) t.rows rates +ʳ (imported t rates good +ʳ negated (left_over t rates good))
+sums_at g t goods columns rates good e o has =
     let s : ℕ = spot good.0 goods in
     let l : Linear = linear_with t goods columns in
     let rows : List LinearColumn = row_columns goods 0 t.rows columns in
     let ins : List LinearColumn = map (import_column goods) t.imports in
     let outs : List LinearColumn = map (surplus_column goods) t.surpluses in
-    let within : s < length goods = spot_within good.0 goods has in
-    let balance : sum_below (column_count l) (λ j. column_part l j s *ʳ number_at rates j) ≡ want_at l s = plan.balances s within in
-    let want : want_at l s ≡ want_of t.wants good = number_at_map (want_of t.wants) goods s good (spot_get good goods has) in
     let counted : length rows ≡ length t.rows = count_rows g t.power goods 0 t.rows columns e in
     let rows_is : column_sum rows rates s ≡ weighted (row_amount g t.power good) t.rows rates = rows_sum g t.power goods 0 t.rows columns rates good e o.columns_up o.columns_in has in
     let ins_is : column_sum ins (drop (length rows) rates) s ≡ imported t rates good =
@@ -79,15 +77,21 @@ mentioned g t goods columns rates good e o plan has =
     ∙ ap (λ (n : ℕ). negated (rate_of t.surpluses (drop (length t.imports) (drop n rates)) good)) counted in
     let split : column_sum (rows ++ (ins ++ outs)) rates s ≡ column_sum rows rates s +ʳ (column_sum ins (drop (length rows) rates) s +ʳ column_sum outs (drop (length ins) (drop (length rows) rates)) s) =
     column_sum_append rows (ins ++ outs) rates s ∙ ap (λ (x : Fraction). column_sum rows rates s +ʳ x) (column_sum_append ins outs (drop (length rows) rates) s) in
-    let parts : weighted (row_amount g t.power good) t.rows rates +ʳ (imported t rates good +ʳ negated (left_over t rates good)) ≡ want_of t.wants good =
-    sym (ap (λ (x : Fraction). x +ʳ (column_sum ins (drop (length rows) rates) s +ʳ column_sum outs (drop (length ins) (drop (length rows) rates)) s)) rows_is
+    column_sum_is l.columns rates s
+    ∙ split
+    ∙ ap (λ (x : Fraction). x +ʳ (column_sum ins (drop (length rows) rates) s +ʳ column_sum outs (drop (length ins) (drop (length rows) rates)) s)) rows_is
     ∙ ap (λ (x : Fraction). weighted (row_amount g t.power good) t.rows rates +ʳ (x +ʳ column_sum outs (drop (length ins) (drop (length rows) rates)) s)) ins_is
-    ∙ ap (λ (x : Fraction). weighted (row_amount g t.power good) t.rows rates +ʳ (imported t rates good +ʳ x)) outs_is)
-    ∙ sym split
-    ∙ sym (column_sum_is l.columns rates s)
-    ∙ balance
-    ∙ want in
-    moved (weighted (row_amount g t.power good) t.rows rates) (imported t rates good) (left_over t rates good) (want_of t.wants good) parts
+    ∙ ap (λ (x : Fraction). weighted (row_amount g t.power good) t.rows rates +ʳ (imported t rates good +ʳ x)) outs_is
+
+pub wanted_at : (t : Table) (goods : List GoodId) (columns : List (List (GoodId × Fraction))) (good : GoodId) → Has goods good.0 → want_at (linear_with t goods columns) (spot good.0 goods) ≡ want_of t.wants good
+wanted_at t goods columns good has = number_at_map (want_of t.wants) goods (spot good.0 goods) good (spot_get good goods has)
+
+-- where the good is mentioned, its place balances
+mentioned : (g : Game) (t : Table) (goods : List GoodId) (columns : List (List (GoodId × Fraction))) (rates : List Fraction) (good : GoodId) → columns_of g t.power t.rows ≡ Ok columns → IsOrdered t goods columns
+    → IsPlan (linear_with t goods columns) rates → Has goods good.0 → GoodBalance g t rates good
+mentioned g t goods columns rates good e o plan has =
+    moved (weighted (row_amount g t.power good) t.rows rates) (imported t rates good) (left_over t rates good) (want_of t.wants good)
+    (sym (sums_at g t goods columns rates good e o has) ∙ plan.balances (spot good.0 goods) (spot_within good.0 goods has) ∙ wanted_at t goods columns good has)
 
 unmentioned : (g : Game) (t : Table) (goods : List GoodId) (columns : List (List (GoodId × Fraction))) (rates : List Fraction) (good : GoodId) → columns_of g t.power t.rows ≡ Ok columns → IsOrdered t goods columns
     → AllIn goods t.wants → (Has goods good.0 → ⊥) → GoodBalance g t rates good

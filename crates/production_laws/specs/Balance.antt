@@ -1,6 +1,6 @@
 -- What a table's plans say of each good, of electricity and of technologies.
-use Rattle.std.specs.Prelude.{◌≡◌, ◌==◌, drop, if◌then◌else◌, Bool, List, [], ◌∷◌, Result, Ok, Err, length}
-use Rattle.fractions.specs.Fraction.{Fraction, zero_fraction, one_fraction, ◌+ʳ◌, ◌*ʳ◌}
+use Rattle.std.specs.Prelude.{◌≡◌, ◌==◌, ◌+◌, ℕ, drop, if◌then◌else◌, Bool, List, [], ◌∷◌, Result, Ok, Err, length}
+use Rattle.fractions.specs.Fraction.{Fraction, zero_fraction, one_fraction, ◌+ʳ◌, ◌*ʳ◌, ◌≤ʳ◌}
 use Rattle.plan_base.specs.declared.ids.GoodId.{GoodId}
 use Rattle.plan_base.specs.declared.ids.TechId.{TechId}
 use Rattle.game_types.specs.declared.effects.Wide.{Wide}
@@ -11,6 +11,7 @@ use Rattle.game_types.specs.declared.games.Game.{Game}
 use Rattle.game_types.specs.Beacons.{beacon_power_of}
 use Rattle.game_types.specs.Goods.{electricity, units_good}
 use Rattle.game_types.specs.Steps.{◌▸◌}
+use Rattle.linear_table.specs.Plans.{number_at}
 use Rattle.power_rows.specs.Power.{draw_of}
 use Rattle.table_rows.specs.declared.rates.RowRates.{RowRates}
 use Rattle.table_rows.specs.Columns.{column_of, row_rates_of}
@@ -49,6 +50,26 @@ row_amount g power good row = column_amount (column_of g power row.setup) good
 abbrev pub GoodBalance : Game → Table → List Fraction → GoodId → Type 0
 GoodBalance g t rates good =
     weighted (row_amount g t.power good) t.rows rates +ʳ imported t rates good ≡ want_of t.wants good +ʳ left_over t rates good
+
+-- ---- the plans of a table, and what they cost
+-- a rate for each row, import and surplus, in this order, none below 0, which balance every good
+pub record IsTablePlan (g : Game) (t : Table) (rates : List Fraction) : Type 0 where
+  pub length_is : length rates ≡ length t.rows + (length t.imports + length t.surpluses)
+  pub nonneg : (j : ℕ) → zero_fraction ≤ʳ number_at rates j
+  pub balances : (good : GoodId) → GoodBalance g t rates good
+
+-- the rates of goods that come in or go out, each times its price, summed
+abbrev pub priced : List (GoodId × Fraction) → List Fraction → Fraction
+priced [] rates = zero_fraction
+priced (pair ∷ pairs) [] = zero_fraction
+priced (pair ∷ pairs) (rate ∷ rates) = rate *ʳ pair.1 +ʳ priced pairs rates
+
+abbrev pub row_price : TableRow → Fraction
+row_price row = row.price
+
+abbrev pub table_cost : Table → List Fraction → Fraction
+table_cost t rates =
+    weighted row_price t.rows rates +ʳ (priced t.imports (drop (length t.rows) rates) +ʳ priced t.surpluses (drop (length t.imports) (drop (length t.rows) rates)))
 
 -- ---- electricity
 -- one joule a craft of rows that make it, nothing of others

@@ -1,6 +1,6 @@
 //! What holds of every plan of a table, and of every craft of a row.
-ghost use Rattle.std.specs.Prelude.{◌≡◌, ◌≢◌, All, Bool, List, Ok, map, true};
-ghost use Rattle.fractions.specs.Fraction.{Fraction, negated, ◌+ʳ◌};
+ghost use Rattle.std.specs.Prelude.{◌≡◌, ◌≢◌, ◌↔◌, All, Bool, List, Ok, map, true};
+ghost use Rattle.fractions.specs.Fraction.{Fraction, negated, ◌+ʳ◌, ◌≤ʳ◌};
 ghost use Rattle.plan_base.specs.declared.ids.GoodId.{GoodId};
 ghost use Rattle.plan_base.specs.declared.ids.RecipeId.{RecipeId};
 ghost use Rattle.plan_base.specs.declared.ids.TechId.{TechId};
@@ -10,8 +10,10 @@ ghost use Rattle.game_types.specs.declared.setups.Setup.{Setup};
 ghost use Rattle.game_types.specs.Goods.{electricity, units_good};
 ghost use Rattle.game_types.specs.Lookups.{recipe_at};
 ghost use Rattle.game_types.specs.Sound.{IsSound, IsSoundSetup};
-ghost use Rattle.linear_table.specs.Plans.{IsPlan};
+ghost use Rattle.linear_table.specs.Answer.{IsPlanned};
+ghost use Rattle.linear_table.specs.Plans.{AreInfeasibilityPrices, IsPlan, cost_of};
 ghost use Rattle.linear_table.specs.declared.Linear.{Linear};
+ghost use Rattle.linear_table.specs.declared.Plan.{Plan};
 ghost use Rattle.research_rows.specs.Research.{tech_at};
 ghost use Rattle.table_rows.specs.declared.rates.RowRates.{RowRates};
 ghost use Rattle.table_rows.specs.Columns.{column_of, contributions, fuel_parts, given, row_rates_of, taken};
@@ -19,12 +21,21 @@ ghost use Rattle.table_rows.specs.Setups.{IsFitting};
 ghost use Rattle.production_table.specs.declared.tables.Table.{Table};
 ghost use Rattle.production_table.specs.Linear.{linear_of};
 ghost use Rattle.production_laws.specs.Amounts.{amount_in, or_zero, share_of, total_of};
-ghost use Rattle.production_laws.specs.Balance.{setup_draw, GoodBalance, PowerBalance, ResearchBalance};
+ghost use Rattle.production_laws.specs.Balance.{setup_draw, table_cost, GoodBalance, IsTablePlan, PowerBalance, ResearchBalance};
 
 /// Law: in every plan of a table, what its rows give of a good less what they take, and what comes in of it, is what is wanted
 /// and what goes out, exactly. So it is of goods that the table doesn't mention.
 pub fn goods_balance()
     ensures { (g : Game) (t : Table) (l : Linear) (rates : List Fraction) (good : GoodId) → linear_of g t ≡ Ok l → IsPlan l rates → GoodBalance g t rates good }
+{}
+
+/// Law: the plans of a table's linear form are the rates, none below 0, that balance every good of the game, and they cost the same. So no rates that balance
+/// every good cost less than a plan that is answered, and there are none where the table is called infeasible.
+pub fn plans_are_balances()
+    ensures plans { (g : Game) (t : Table) (l : Linear) (rates : List Fraction) → linear_of g t ≡ Ok l → IsPlan l rates ↔ IsTablePlan g t rates }
+    ensures cost { (g : Game) (t : Table) (l : Linear) (rates : List Fraction) → linear_of g t ≡ Ok l → cost_of l rates ≡ table_cost t rates }
+    ensures least { (g : Game) (t : Table) (l : Linear) (plan : Plan) (rates : List Fraction) → linear_of g t ≡ Ok l → IsPlanned l plan → IsTablePlan g t rates → plan.cost ≤ʳ table_cost t rates }
+    ensures none { (g : Game) (t : Table) (l : Linear) (prices rates : List Fraction) → linear_of g t ≡ Ok l → AreInfeasibilityPrices l prices → ¬ IsTablePlan g t rates }
 {}
 
 /// Law: in every plan of a table that balances its electric power, what is generated and what comes in of electricity is what

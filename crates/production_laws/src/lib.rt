@@ -10,6 +10,6 @@ pub use launches::{
     launches_take_item_and_parts, productivity_adds_nothing_to_launches,
 };
 pub use laws::{
-    columns_sum, crafts_give_and_take, goods_balance, labs_take_packs, power_balances,
-    research_balances,
+    columns_sum, crafts_give_and_take, goods_balance, labs_take_packs, plans_are_balances,
+    power_balances, research_balances,
 };

@@ -1,14 +1,15 @@
-//! How the programs end.
-use crate::telling::{said_of, say};
+//! How the program ends.
+use crate::hints::{hint, hint_line};
+use crate::telling::said_of;
 use plan_base::{NoMemory, Text};
 use run_inputs::Status;
 use std::alloc::Global;
 use std::io;
 use std::io::Write;
 use std::process::ExitCode;
-use std::rt::{Env, Files};
+use std::rt::Files;
 
-/// The end of a program: what it says on standard error, and the number that it ends with.
+/// The end of the program: what it says on standard error, and the number that it ends with.
 #[derive(Drop)]
 pub struct End {
     pub said: Option<Text>,
@@ -21,11 +22,19 @@ impl End {
         End { said: None, exit }
     }
 
-    /// An end of which this is said, where there is memory for it.
-    pub fn saying(alloc: Global, text: &str, exit: u8) -> End {
+    /// An end of which this is said in a line, where there is memory for it.
+    pub fn saying(alloc: Global, what: &str, exit: u8) -> End {
         End {
-            said: Text::copy(alloc, text).ok(),
+            said: hint_line(alloc, None, what).ok(),
             exit,
+        }
+    }
+
+    /// The end by a status that no file is the cause of.
+    pub fn by(alloc: Global, status: &Status) -> End {
+        End {
+            said: hint(alloc, status, &[], None, None).ok(),
+            exit: status.exit(),
         }
     }
 }
@@ -80,24 +89,19 @@ pub fn end_of_run<R: Files>(rt: &R, alloc: Global, end: RunEnd, names: Names<'_>
 }
 
 /// Writes what a run made to standard output, and answers the end of this number, or the one by the write fault.
-pub fn written<R: Files + Print>(
-    rt: &R,
-    alloc: Global,
-    made: &[u8],
-    exit: u8,
-    names: Names<'_>,
-) -> End {
+pub fn written<R: Print>(rt: &R, alloc: Global, made: &[u8], exit: u8) -> End {
     let mut out = io::writer(rt);
     match out.write_all(made) {
         Ok(()) => End::quiet(exit),
-        Err(_) => end_by(rt, alloc, &Status::WriteFault, names),
+        Err(_) => End::by(alloc, &Status::WriteFault),
     }
 }
 
-/// Says what is to be said of an end, in the name of the program that runs, and answers its number.
-pub fn ended<R: Env + AllocGlobal + Eprint>(rt: &R, end: &End) -> ExitCode {
+/// Says what is to be said of an end, and answers its number.
+pub fn ended<R: Eprint>(rt: &R, end: &End) -> ExitCode {
     if let Some(said) = &end.said {
-        say(rt, said.as_str());
+        // Where nothing can be said, the status still tells.
+        let _ = rt.eprint(said.as_str());
     }
     ExitCode::from(end.exit)
 }

@@ -1,4 +1,7 @@
 //! Files that are read beside a run.
+use catalog_text::{ShownFields, read_shown};
+use plan_base::NoMemory;
+use run_inputs::DUMP_LIMIT;
 use std::alloc::Global;
 use std::fs;
 use std::fs::File;
@@ -42,4 +45,16 @@ pub fn whole_file<R: Files>(rt: &R, alloc: Global, name: &str, limit: usize) -> 
     }
     let mut file = File::open(rt, name).ok()?;
     read_to_end(alloc, &mut file, limit)
+}
+
+/// What is shown of the things of a dump; nothing where it can't be read again, as of a pipe.
+///
+/// # Errors
+///
+/// `NoMemory` where memory could not be had.
+pub fn shown_in<R: Files>(rt: &R, alloc: Global, dump: &str) -> Result<ShownFields, NoMemory> {
+    match whole_file(rt, alloc, dump, DUMP_LIMIT) {
+        Some(bytes) => read_shown(alloc, bytes.as_slice()),
+        None => Ok(ShownFields::new(alloc)),
+    }
 }

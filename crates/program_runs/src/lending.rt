@@ -1,4 +1,4 @@
-//! The planner of a dump, which a program is lent.
+//! The planner of a dump, which a command is lent.
 
 use crate::ends::{Names, RunEnd};
 use crate::telling::said_of_store;
@@ -13,9 +13,9 @@ use std::rt::Files;
 #[derive(Drop)]
 struct Run;
 
-/// What a program does with the planner of a dump and its script.
+/// What a command does with the planner of a dump and its script.
 ///
-/// It is lent the planner, which is let go here alone: a program that owned one would be proved to let it go once more.
+/// It is lent the planner, which is let go here alone: a command that owned one would be proved to let it go once more.
 pub trait Work<R> {
     /// What it makes of them. This is all that is left when the planner is gone.
     type Made;

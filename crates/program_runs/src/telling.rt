@@ -1,4 +1,4 @@
-//! What is said of a run on standard error, by each program in its own name.
+//! What is said of a run on standard error.
 use crate::files::whole_file;
 use crate::hints::{hint, unread_hint};
 use crate::names::dump_name;
@@ -7,8 +7,7 @@ use plan_base::Text;
 use plan_io::HostFault;
 use run_inputs::{DUMP_LIMIT, Status};
 use std::alloc::Global;
-use std::env;
-use std::rt::{Env, Files};
+use std::rt::Files;
 
 // The bytes of a dump whose text is no JSON, to tell the line and the column. What isn't kept, as a pipe, isn't read again.
 fn faulty_dump<R: Files>(
@@ -46,38 +45,4 @@ pub fn said_of_store(alloc: Global, fault: &Option<HostFault>) -> Option<Text> {
     let cause = &fault.cause;
     let why = format!(in alloc; "{cause}").ok()?;
     unread_hint(alloc, name.as_str(), why.as_str()).ok()
-}
-
-// The last part of a path.
-fn last_part(path: &str) -> &str {
-    match path.rsplit_once('/') {
-        Some((_, name)) => name,
-        None => path,
-    }
-}
-
-// Says what is said of a run in the name of this program, of which the first word is its path.
-fn say_as<R: Eprint>(rt: &R, path: &str, said: &str) {
-    // Where nothing can be said, the status still tells.
-    match said.strip_prefix("factoplan:") {
-        Some(rest) => {
-            let _ = rt.eprint(last_part(path));
-            let _ = rt.eprint(":");
-            let _ = rt.eprint(rest);
-        }
-        None => {
-            let _ = rt.eprint(said);
-        }
-    }
-}
-
-/// Says a text in the name of the program that runs.
-pub fn say<R: Env + AllocGlobal + Eprint>(rt: &R, said: &str) {
-    match env::args(rt) {
-        Ok(mut arguments) => match arguments.next() {
-            Some(path) => say_as(rt, path.as_str(), said),
-            None => say_as(rt, "factoplan", said),
-        },
-        Err(_) => say_as(rt, "factoplan", said),
-    }
 }

@@ -1,11 +1,23 @@
-//! The words of a program.
-use crate::ends::End;
-use clap::Error;
+//! The words of the program.
+use crate::ends::{End, Names};
 use clap::error::ErrorKind;
+use clap::{ArgMatches, Error};
 use plan_base::{NoMemory, Text};
+use run_inputs::Status;
 use std::alloc::Global;
 use std::rt::Env;
 use std::{env, io};
+
+// The file of a run without a script: it is empty.
+const NO_SCRIPT: &str = "/dev/null";
+
+/// The files that are asked for, an empty one where no script is.
+pub fn asked_files<'a>(matches: &ArgMatches<'a>) -> Names<'a> {
+    Names {
+        dump: matches.get_str("DUMP").unwrap_or(""),
+        script: matches.get_str("SCRIPT").unwrap_or(NO_SCRIPT),
+    }
+}
 
 /// The program's words, or none at all where one is not UTF-8.
 ///
@@ -39,8 +51,10 @@ fn exit_of(error: &Error) -> u8 {
 }
 
 /// The end by words that ask for no run: the help, the version, or what is wrong with them is printed.
-pub fn end_by_words<R: Print + Eprint>(rt: &R, error: &Error) -> End {
-    // Where nothing can be said, the status still tells.
-    let _ = error.print(rt);
-    End::quiet(exit_of(error))
+pub fn end_by_words<R: Print + Eprint>(rt: &R, alloc: Global, error: &Error) -> End {
+    match error.print(rt) {
+        Err(_) if !error.use_stderr() => End::by(alloc, &Status::WriteFault),
+        // Where nothing can be said, the status still tells.
+        _ => End::quiet(exit_of(error)),
+    }
 }

@@ -11,4 +11,3 @@ pub mod Verdicts
 pub mod Answers
 pub mod Sessions
 pub mod Leading
-pub mod Marks

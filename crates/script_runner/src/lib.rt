@@ -7,7 +7,6 @@ mod checking;
 mod laws;
 mod listening;
 mod proving;
-mod reached;
 mod reading;
 mod reply;
 mod report;
@@ -24,7 +23,6 @@ pub use laws::{
 };
 pub use listening::{Listener, Silent};
 pub use proving::prove_script;
-pub use reached::reached_nodes;
 pub use reading::{Reading, fault_code, reading_of, refused_for};
 pub use reply::{is_refusal, reply_to};
 pub use run::{run_script, tell_many_lines};

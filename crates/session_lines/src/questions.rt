@@ -138,18 +138,15 @@ fn push_wished(alloc: Global, out: &mut String, planner: &Planner, wished: &Wish
 }
 
 // The lines that make a table for a wish.
-fn push_wish<W: Wishes, L>(
+fn push_wish<W: Wishes>(
     alloc: Global,
     out: &mut String,
-    planner: &mut Planner,
+    planner: &Planner,
     shown: &ShownFields,
     wishes: &W,
     words: &[u8],
-    steps: &mut Steps<L>,
-) -> Done
-    ensures stays { planner.new ≡ planner.old }
-{
-    let wished = wishes.answer_wish(alloc, planner, shown, words, steps)?;
+) -> Done {
+    let wished = wishes.answer_wish(alloc, planner, shown, words)?;
     push_wished(alloc, out, planner, &wished)
 }
 
@@ -173,7 +170,7 @@ fn push_asked<W: Wishes, L>(
         Question::Flow => push_flow(alloc, out, planner, words, steps),
         Question::WhyNot => push_reason(alloc, out, planner, words, steps),
         Question::Limits => push_rate(alloc, out, planner, words, steps),
-        Question::Wish => push_wish(alloc, out, planner, shown, wishes, words, steps),
+        Question::Wish => push_wish(alloc, out, planner, shown, wishes, words),
     }
 }
 

@@ -1,8 +1,6 @@
 //! What answers wishes.
-ghost use Rattle.std.specs.Prelude.{◌≡◌};
-
 use catalog_text::ShownFields;
-use plan_base::{NoMemory, Steps};
+use plan_base::NoMemory;
 use plan_lines::RefusalCode;
 use planner_core::Planner;
 use std::alloc::Global;
@@ -18,20 +16,18 @@ pub enum Wished {
     Unmet(String),
 }
 
-/// What answers wishes by a planner, which stays as it was.
+/// What answers wishes by a planner.
 pub trait Wishes {
     /// Answers the words behind the first of a question that wishes.
     ///
     /// # Errors
     ///
     /// `NoMemory` where memory could not be had.
-    fn answer_wish<L>(
+    fn answer_wish(
         &self,
         alloc: Global,
-        planner: &mut Planner,
+        planner: &Planner,
         shown: &ShownFields,
         words: &[u8],
-        steps: &mut Steps<L>,
-    ) -> Result<Wished, NoMemory>
-        ensures { planner.new ≡ planner.old };
+    ) -> Result<Wished, NoMemory>;
 }

@@ -3,19 +3,17 @@ ghost use Rattle.std.specs.Prelude.{◌≡◌, ◌≤◌, ◌+◌, true, false, 
 ghost use Rattle.state_changes.specs.States.{State};
 ghost use Rattle.planner_core.specs.Lines.{IsSessionOf};
 ghost use Rattle.plan_io.specs.Lines.{lines_of};
-ghost use Rattle.planning_state.specs.Worlds.{is_reached};
+ghost use Rattle.planner_core.specs.Replies.{reached_marks};
 ghost use Rattle.script_runner.specs.Leading.{Continues};
-ghost use Rattle.script_runner.specs.Marks.{MarksOnly};
 ghost use Rattle.wish_answers.specs.Meeting.{HasMet, MeetsWish};
 
 use crate::failures::Failure;
-use crate::finding::{Found, found_lines};
+use crate::finding::{Found, Given, found_lines};
 use crate::standing::check_standing;
-use fractions::Ratio;
 use plan_base::Steps;
 use plan_io::{LINE_LIMIT, line_count};
 use planner_core::Planner;
-use script_runner::{Progress, reached_nodes, step_lines};
+use script_runner::{Progress, step_lines};
 use std::alloc::Global;
 use wish_setups::{Met, Wish};
 use wish_words::WishRequest;
@@ -35,21 +33,15 @@ pub fn has_too_many(before: Progress, lines: &[u8]) -> bool
     before.count as usize > LINE_LIMIT || line_count(lines) > room
 }
 
-/// Marks for each node whether a planner reaches it. No other is marked.
+/// Whether a planner reaches each node, in node order.
 ///
 /// # Errors
 ///
 /// `Refused` where a batch is open, which is said, or `NoMemory`.
-pub fn reached_in<L>(
-    alloc: Global,
-    planner: &mut Planner,
-    said: &mut String,
-    steps: &mut Steps<L>,
-) -> Result<Vec<bool>, Failure>
-    ensures same { planner.new ≡ planner.old }
-    ensures only { IfOk result (λ marks. MarksOnly (is_reached planner.old.state.book) marks.items) }
+pub fn reached_in(planner: &Planner, said: &mut String) -> Result<Vec<bool>, Failure>
+    ensures { IfOk result (λ marks. marks.items ≡ reached_marks planner.now.state.book) }
 {
-    match reached_nodes(alloc, planner, steps)? {
+    match planner.reached()? {
         Some(marks) => Ok(marks),
         None => {
             said.push_str("a batch is open behind the script")?;
@@ -64,7 +56,7 @@ fn found_in(
     planner: &Planner,
     reached: &[bool],
     asked: &WishRequest<'_>,
-    belt: Option<Ratio>,
+    given: &Given<'_>,
     command: &str,
     said: &mut String,
 ) -> Result<Found, Failure>
@@ -76,7 +68,7 @@ fn found_in(
         reached,
         planner.tables(),
         asked,
-        belt,
+        given,
         command,
         said,
     )
@@ -146,7 +138,7 @@ pub fn answered_lines<L>(
     planner: &mut Planner,
     before: Progress,
     asked: &WishRequest<'_>,
-    belt: Option<Ratio>,
+    given: &Given<'_>,
     command: &str,
     said: &mut String,
     steps: &mut Steps<L>,
@@ -158,13 +150,13 @@ pub fn answered_lines<L>(
     ensures met { IfOk result (λ answer. asked.now.more ≡ None → MeetsWish planner.old planner.new asked.now.table.now asked.now.power) }
     ensures history { (base : State) → IsSessionOf base planner.old → IsSessionOf base planner.new }
 {
-    let reached = reached_in(alloc, planner, said, steps)?;
+    let reached = reached_in(planner, said)?;
     let found = found_in(
         alloc,
         planner,
         reached.as_slice(),
         asked,
-        belt,
+        given,
         command,
         said,
     )?;

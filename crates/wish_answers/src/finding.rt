@@ -16,6 +16,15 @@ use wish_setups::{Met, Wish, WishFault};
 use wish_tables::{more_rows, wish_table};
 use wish_words::{AskedMore, NameFault, WishRequest, say_name_fault, say_wish_fault, wish_of};
 
+/// What a dump shows of a game and no rule reads, as far as wishes go by it.
+#[derive(Clone, Copy)]
+pub struct Given<'a> {
+    /// Items a second on the belt that the words name, where they name one.
+    pub belt: Option<Ratio>,
+    /// Marks for each recipe whether the game hides it.
+    pub hidden: &'a [bool],
+}
+
 /// The lines for a wish, with the wish that the words name and what meets it.
 #[derive(Drop)]
 pub struct Found {
@@ -174,7 +183,7 @@ fn lines_for(
 }
 
 /// The lines for the wish that the words ask for, in a state with this game and these tables that reaches these nodes. A good without a
-/// rate is wished for at the rate of a belt. The words of a command stand in the comments before those that ask for more rows.
+/// rate is wished for at the rate of the given belt. The words of a command stand in the comments before those that ask for more rows.
 ///
 /// # Errors
 ///
@@ -185,7 +194,7 @@ pub fn found_lines(
     reached: &[bool],
     tables: &[Table],
     asked: &WishRequest<'_>,
-    belt: Option<Ratio>,
+    given: &Given<'_>,
     command: &str,
     said: &mut String,
 ) -> Result<Found, Failure>
@@ -193,7 +202,7 @@ pub fn found_lines(
     requires tables { AreSoundTables game.now tables.now }
     ensures { IfOk result (λ found. found.wish.power ≡ asked.now.power) }
 {
-    match wish_of(alloc, game, reached, asked, belt) {
+    match wish_of(alloc, game, reached, asked, given.belt, given.hidden) {
         Ok(wish) => lines_for(alloc, game, reached, tables, asked, wish, command, said),
         Err(fault) => Err(no_wish(alloc, game, reached, fault, said)),
     }

@@ -10,6 +10,6 @@ mod standing;
 
 pub use answers::{Answer, answered_lines, reached_in};
 pub use failures::Failure;
-pub use finding::{Found, found_lines};
+pub use finding::{Found, Given, found_lines};
 pub use script_runner::Progress;
 pub use scripts::whole_script;

@@ -1,14 +1,15 @@
 //! A script with the lines of a wish behind its own.
-ghost use Rattle.std.specs.Prelude.{◌≡◌, OnOk, IfOk, length, string_bytes};
+ghost use Rattle.std.specs.Prelude.{◌≡◌, ℕ, List, None, OnOk, IfOk, length, string_bytes};
 ghost use Rattle.state_changes.specs.States.{State};
 ghost use Rattle.planner_core.specs.Lines.{IsSessionOf};
 ghost use Rattle.plan_io.specs.Lines.{lines_of};
 ghost use Rattle.script_runner.specs.Leading.{Continues, LeadsToPlan, ends_within, joined};
 ghost use Rattle.script_runner.specs.declared.stepping.Progress.{Progress};
+ghost use Rattle.wish_answers.specs.Meeting.{MeetsWishBehind};
 
 use crate::answers::{answered_lines, has_too_many};
 use crate::failures::Failure;
-use fractions::Ratio;
+use crate::finding::Given;
 use plan_base::{NoMemory, Steps};
 use planner_core::Planner;
 use script_runner::{Progress, step_lines};
@@ -64,8 +65,8 @@ fn join(script: &mut Vec<u8>, lines: &str) -> Result<(), NoMemory>
     Ok(())
 }
 
-/// Puts the lines for the wish that the words ask for behind a script, whose own lines come first. All are carried out: none is refused,
-/// and the last is answered by a plan. A good without a rate is wished for at the rate of a belt. The words of a command stand in the
+/// Puts the lines for the wish that the words ask for behind a script, whose own lines come first, on lines of their own. All are carried out: none is refused,
+/// and the last is answered by a plan. A new table meets the wish by what is reached behind the script's own lines. A good without a rate is wished for at the rate of a belt. The words of a command stand in the
 /// comments before those that ask for more rows.
 ///
 /// # Errors
@@ -76,16 +77,18 @@ pub fn whole_script<L>(
     planner: &mut Planner,
     script: &mut Vec<u8>,
     asked: &WishRequest<'_>,
-    belt: Option<Ratio>,
+    given: &Given<'_>,
     command: &str,
     said: &mut String,
     steps: &mut Steps<L>,
 ) -> Result<(), Failure>
     ensures leads { OnOk result (LeadsToPlan planner.old script.new.items planner.new) }
+    ensures keeps { OnOk result ((lines : List ℕ) × (script.new.items ≡ joined script.old.items lines)) }
+    ensures met { OnOk result (asked.now.more ≡ None → MeetsWishBehind planner.old script.old.items planner.new asked.now.table.now asked.now.power) }
     ensures history { (base : State) → IsSessionOf base planner.old → IsSessionOf base planner.new }
 {
     let before = carry_script(alloc, planner, script.as_slice(), said, steps)?;
-    let answer = answered_lines(alloc, planner, before, asked, belt, command, said, steps)?;
+    let answer = answered_lines(alloc, planner, before, asked, given, command, said, steps)?;
     join(script, answer.lines.as_str())?;
     Ok(())
 }

@@ -15,5 +15,5 @@ mod words;
 pub use checking::is_met;
 pub use lines::{more_text, table_text};
 pub use names::{good_text, like_names, machine_text, names_of, push_label, recipe_text};
-pub use notes::Notes;
+pub use notes::{Notes, noted_good};
 pub use solving::{BUDGET, Solved, is_solvable, solve_table};

@@ -19,6 +19,14 @@ pub struct Notes<'a> {
     pub command: &'a str,
 }
 
+// What stands between the good and the words of the program in the comment on an import.
+const ESTIMATED: &str = " comes in at an estimate of what one takes; its rows: ";
+
+// What stands before the good and before the table behind those words.
+const ROWS_FOR: &str = " --rows-for ";
+
+const INTO: &str = " --into ";
+
 // Whether a good is imported at the price of its estimate.
 fn is_estimated(rim: &[(GoodId, Ratio)], good: GoodId, price: &Ratio) -> bool {
     rim.iter()
@@ -41,25 +49,20 @@ pub fn push_import_note(
         return Ok(());
     }
     let good = good_text(alloc, game, import.0)?;
-    push(
-        text,
-        &[
-            "# ",
-            good.as_str(),
-            " comes in at an estimate of what one takes; its rows: ",
-        ],
-    )?;
-    push(
-        text,
-        &[
-            notes.command,
-            " --rows-for ",
-            good.as_str(),
-            " --into ",
-            table,
-            "\n",
-        ],
-    )
+    push(text, &["# ", good.as_str(), ESTIMATED, notes.command])?;
+    push(text, &[ROWS_FOR, good.as_str(), INTO, table, "\n"])
+}
+
+/// The good, as it is printed, of which a line of a script is the comment that it comes into a table, whose name is given as it is printed, at an
+/// estimate.
+pub fn noted_good<'a>(line: &'a str, table: &str) -> Option<&'a str> {
+    let (good, behind) = line.strip_prefix("# ")?.split_once(ESTIMATED)?;
+    let before = behind.strip_suffix(table)?.strip_suffix(INTO)?;
+    if before.strip_suffix(good)?.ends_with(ROWS_FOR) {
+        Some(good)
+    } else {
+        None
+    }
 }
 
 /// Writes the comment that tells what whole machines draw, where the table makes its electric power.

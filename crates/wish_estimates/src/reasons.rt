@@ -9,7 +9,7 @@ use wish_setups::{
     Reason, State, Unmade, Wish, gives, is_good_marked, is_good_reached, is_marked, is_reached,
     mark_good,
 };
-use wish_ways::{Give, Way, is_excluded};
+use wish_ways::{Give, Way, is_excluded, is_hidden};
 
 // Whether a good of a table is reached: an item or a fluid, electricity, a technology.
 fn is_had(game: &Game, reached: &[bool], good: GoodId) -> bool
@@ -26,53 +26,51 @@ fn is_had(game: &Game, reached: &[bool], good: GoodId) -> bool
     }
 }
 
-fn crafts_by_heat(machine: &Machine, category: u32) -> bool {
-    match (&machine.kind, &machine.energy) {
-        (MachineKind::Crafter { categories, .. }, Energy::Heat) => {
+// What a machine does that gives a good.
+#[derive(Clone, Copy)]
+enum Work {
+    /// It crafts recipes of a category.
+    Craft(u32),
+    /// It heats a fluid, which becomes this one.
+    Heat(GoodId),
+}
+
+fn does(machine: &Machine, work: Work) -> bool {
+    match (&machine.kind, work) {
+        (MachineKind::Crafter { categories, .. }, Work::Craft(category)) => {
             holds(categories.as_slice(), category)
         }
-        _ => false,
-    }
-}
-
-// The first reached machine that crafts a category by heat.
-fn heated_crafter(game: &Game, reached: &[bool], category: u32) -> Option<EntityId>
-    requires { IsSound game.now }
-{
-    for place in 0..game.shape().machines {
-        if is_reached(game, reached, Kind::Machine, place) {
-            if let Some(machine) = game.machines.as_slice().get(place as usize) {
-                if crafts_by_heat(machine, category) {
-                    return Some(EntityId(place));
-                }
-            }
-        }
-    }
-    None
-}
-
-fn heats_by_heat(machine: &Machine, good: GoodId) -> bool {
-    match (&machine.kind, &machine.energy) {
         (
             MachineKind::Boiler {
                 output: Some(output),
                 ..
             },
-            Energy::Heat,
+            Work::Heat(good),
         ) => output.0 == good.0,
         _ => false,
     }
 }
 
-// The first reached machine that heats a fluid by heat.
-fn heated_boiler(game: &Game, reached: &[bool], good: GoodId) -> Option<EntityId>
+// The reason by what a machine takes for its energy, where no row gives it that.
+fn reason_by(machine: &Machine, number: EntityId) -> Option<Reason> {
+    match machine.energy {
+        Energy::Heat => Some(Reason::ByHeat(number)),
+        Energy::Fluid { .. } => Some(Reason::ByFluid(number)),
+        _ => None,
+    }
+}
+
+// The reason by the first reached machine that does this work and can't be a row.
+fn machine_reason(game: &Game, reached: &[bool], work: Work) -> Option<Reason>
     requires { IsSound game.now }
 {
     for place in 0..game.shape().machines {
         if is_reached(game, reached, Kind::Machine, place) {
             if let Some(machine) = game.machines.as_slice().get(place as usize) {
-                if heats_by_heat(machine, good) {
-                    return Some(EntityId(place));
+                if does(machine, work) {
+                    if let Some(reason) = reason_by(machine, EntityId(place)) {
+                        return Some(reason);
+                    }
                 }
             }
         }
@@ -94,27 +92,43 @@ fn reason_of(
     if is_excluded(game, wish, number, good) {
         return Reason::Excluded;
     }
-    match heated_crafter(game, reached, recipe.category) {
-        Some(machine) => Reason::ByHeat(machine),
+    if is_hidden(wish, number) {
+        return Reason::Hidden(number);
+    }
+    match machine_reason(game, reached, Work::Craft(recipe.category)) {
+        Some(reason) => reason,
         None => Reason::ByHand(number),
     }
 }
 
-// The reason of the first reached recipe that gives a good.
+// Of the reasons of two recipes the first, unless that is that the game hides it.
+fn better(first: Option<Reason>, second: Reason) -> Reason {
+    match first {
+        Some(Reason::Hidden(_)) | None => match second {
+            Reason::Hidden(_) => first.unwrap_or(second),
+            _ => second,
+        },
+        Some(reason) => reason,
+    }
+}
+
+// The reason of the reached recipes that give a good.
 fn recipe_reason(game: &Game, reached: &[bool], wish: &Wish, good: GoodId) -> Option<Reason>
     requires { IsSound game.now }
 {
+    let mut found = None;
     for place in 0..game.shape().recipes {
         if is_reached(game, reached, Kind::Recipe, place) {
             if let Some(recipe) = game.recipes.as_slice().get(place as usize) {
                 if gives(recipe.products.as_slice(), good) {
                     let number = RecipeId(place);
-                    return Some(reason_of(game, reached, wish, number, recipe, good));
+                    let reason = reason_of(game, reached, wish, number, recipe, good);
+                    found = Some(better(found, reason));
                 }
             }
         }
     }
-    None
+    found
 }
 
 // Why nothing gives a good.
@@ -124,8 +138,8 @@ fn no_way(game: &Game, reached: &[bool], wish: &Wish, good: GoodId) -> Reason
     if !is_had(game, reached, good) {
         return Reason::Unreached;
     }
-    if let Some(machine) = heated_boiler(game, reached, good) {
-        return Reason::ByHeat(machine);
+    if let Some(reason) = machine_reason(game, reached, Work::Heat(good)) {
+        return reason;
     }
     match recipe_reason(game, reached, wish, good) {
         Some(reason) => reason,

@@ -5,25 +5,7 @@ use crate::estimates::Estimates;
 use game_types::{Fluid, Game};
 use plan_base::{GoodId, Items, NoMemory};
 use std::alloc::Global;
-use wish_setups::{Cheapest, State, Wish, mined_goods, reached_fuels};
-
-// A wish for nothing.
-fn no_wish(alloc: Global) -> Wish {
-    Wish {
-        wants: Items::from_vec(Vec::new(alloc)),
-        by: Items::from_vec(Vec::new(alloc)),
-        modules: Items::from_vec(Vec::new(alloc)),
-        beacon: None,
-        fuel: None,
-        imports: Items::from_vec(Vec::new(alloc)),
-        without: Items::from_vec(Vec::new(alloc)),
-        only: Items::from_vec(Vec::new(alloc)),
-        rows: 1,
-        cheapest: Cheapest::Cost,
-        dig: false,
-        power: false,
-    }
-}
+use wish_setups::{State, Wish, mined_goods, reached_fuels};
 
 fn is_variant(fluid: &Fluid, base: GoodId) -> bool {
     match fluid.of {
@@ -90,7 +72,7 @@ pub fn given_variants(
         mined: mined.as_slice(),
         fuels: fuels.as_slice(),
     };
-    let estimates = Estimates::of(alloc, game, state, &no_wish(alloc))?;
+    let estimates = Estimates::of(alloc, game, state, &Wish::nothing(alloc))?;
     let variants = all_variants(alloc, game, base)?;
     let mut given = Vec::new(alloc);
     add_known(&estimates, variants.as_slice(), &mut given)?;

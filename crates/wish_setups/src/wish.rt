@@ -2,6 +2,7 @@
 use fractions::Ratio;
 use plan_base::{EntityId, GoodId, Items, NoMemory, RecipeId};
 use production_table::Table;
+use std::alloc::Global;
 
 /// Beacons round each machine that takes their effects, each of them full of one module.
 #[derive(Clone, Copy)]
@@ -43,6 +44,8 @@ pub struct Wish {
     pub without: Items<RecipeId>,
     /// What one of these recipes gives is made by no other recipe.
     pub only: Items<RecipeId>,
+    /// Marks for each recipe whether the game hides it: then it is a row only where it is one of those.
+    pub hidden: Items<bool>,
     /// The most rows.
     pub rows: u32,
     pub cheapest: Cheapest,
@@ -50,6 +53,27 @@ pub struct Wish {
     pub dig: bool,
     /// Whether electric power is made in the table.
     pub power: bool,
+}
+
+impl Wish {
+    /// A wish for nothing.
+    pub fn nothing(alloc: Global) -> Wish {
+        Wish {
+            wants: Items::from_vec(Vec::new(alloc)),
+            by: Items::from_vec(Vec::new(alloc)),
+            modules: Items::from_vec(Vec::new(alloc)),
+            beacon: None,
+            fuel: None,
+            imports: Items::from_vec(Vec::new(alloc)),
+            without: Items::from_vec(Vec::new(alloc)),
+            only: Items::from_vec(Vec::new(alloc)),
+            hidden: Items::from_vec(Vec::new(alloc)),
+            rows: 1,
+            cheapest: Cheapest::Cost,
+            dig: false,
+            power: false,
+        }
+    }
 }
 
 /// Why no row gives a good.
@@ -61,6 +85,10 @@ pub enum Reason {
     ByHand(RecipeId),
     /// What gives it takes heat, as this machine does, and can't be a row.
     ByHeat(EntityId),
+    /// What gives it takes the energy of a fluid, as this machine does, and can't be a row.
+    ByFluid(EntityId),
+    /// The game hides the recipes that give it, of which this is the first.
+    Hidden(RecipeId),
     /// The wish excludes what gives it.
     Excluded,
     /// Nothing gives it that can be a row.

@@ -16,5 +16,5 @@ pub use machines::{push_fluids, push_generators, push_studies};
 pub use network::{Give, Network, Span, Take, Way, cost_at, part};
 pub use numbers::{NONE, float_of, rounded};
 pub use prices::{free_price, pump_price, source_price};
-pub use recipes::{Marks, is_excluded, mark_held, push_recipes};
+pub use recipes::{Marks, is_excluded, is_hidden, mark_held, push_recipes};
 pub use sources::push_sources;

@@ -6,7 +6,7 @@ use crate::network::Network;
 use crate::numbers::float_of;
 use game_types::{Activity, Fluid, Game, Part, Product, Recipe, is_within};
 use plan_base::{GoodId, Kind, NoMemory, RecipeId};
-use wish_setups::{Cheapest, State, Wish, gives, is_good_marked, is_reached, mark_good};
+use wish_setups::{Cheapest, State, Wish, gives, is_good_marked, is_marked, is_reached, mark_good};
 
 /// What a product is expected to give, nearly.
 pub fn expected(product: &Product) -> f64 {
@@ -108,6 +108,12 @@ pub fn is_excluded(game: &Game, wish: &Wish, recipe: RecipeId, good: GoodId) -> 
         || (!has_recipe(wish.only.as_slice(), recipe) && is_held(game, wish, good))
 }
 
+/// Whether the game hides a recipe, and the wish doesn't name it among its only ones.
+pub fn is_hidden(wish: &Wish, recipe: RecipeId) -> bool {
+    is_marked(wish.hidden.as_slice(), recipe.0 as usize)
+        && !has_recipe(wish.only.as_slice(), recipe)
+}
+
 // Whether one of the wish's only recipes gives a good.
 fn is_held(game: &Game, wish: &Wish, good: GoodId) -> bool {
     wish.only
@@ -180,7 +186,7 @@ fn push_reached(
     let Some(recipe) = game.recipes.as_slice().get(place as usize) else {
         return Ok(());
     };
-    if has_recipe(wish.without.as_slice(), number) {
+    if has_recipe(wish.without.as_slice(), number) || is_hidden(wish, number) {
         return Ok(());
     }
     match crafters.crafter(game, state.reached, number, recipe) {

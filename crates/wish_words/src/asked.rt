@@ -65,9 +65,6 @@ pub struct AskedMore<'a> {
 /// What the words ask for.
 #[derive(Drop)]
 pub struct WishRequest<'a> {
-    /// The file of the dump, empty where the words name none.
-    pub dump: &'a str,
-    pub script: Option<&'a str>,
     pub table: &'a str,
     pub wishes: Vec<AskedWish<'a>>,
     /// The belt of which a good without a rate fills one.

@@ -8,7 +8,7 @@ use crate::objects::{
 };
 use fractions::Ratio;
 use game_types::Game;
-use plan_base::{GoodId, Items};
+use plan_base::{GoodId, Items, NoMemory};
 use std::alloc::Global;
 use wish_setups::{Cheapest, Wish, WishBeacon};
 
@@ -131,7 +131,17 @@ fn cheapest(asked: Least) -> Cheapest {
     }
 }
 
+// The same marks.
+fn marks(alloc: Global, marked: &[bool]) -> Result<Items<bool>, NoMemory>
+    ensures { IfOk result (λ marks. marks ≡ marked.now) }
+{
+    let mut marks = Vec::new(alloc);
+    marks.extend_from_slice(marked)?;
+    Ok(Items::from_vec(marks))
+}
+
 /// The wish that the words ask for in a state that reaches these nodes. A good without a rate is wished for at the rate of a belt.
+/// Recipes are marked that the game hides.
 ///
 /// # Errors
 ///
@@ -142,8 +152,10 @@ pub fn wish_of<'a>(
     reached: &[bool],
     asked: &WishRequest<'a>,
     belt: Option<Ratio>,
+    hidden: &[bool],
 ) -> Result<Wish, NameFault<'a>>
     requires { IsSound game.now }
+    ensures hidden { IfOk result (λ wish. wish.hidden ≡ hidden.now) }
     ensures asked { IfOk result (λ wish. (wish.rows ≡ asked.now.choice.rows) × (wish.dig ≡ asked.now.dig) × (wish.power ≡ asked.now.power)) }
 {
     let wants = all_wants(alloc, game, reached, asked, &belt)?;
@@ -154,6 +166,7 @@ pub fn wish_of<'a>(
     let imports = imports(alloc, game, reached, asked.imports.as_slice())?;
     let without = recipes(alloc, game, asked.choice.without.as_slice())?;
     let only = recipes(alloc, game, asked.choice.only.as_slice())?;
+    let hidden = marks(alloc, hidden)?;
     Ok(Wish {
         wants,
         by,
@@ -163,6 +176,7 @@ pub fn wish_of<'a>(
         imports,
         without,
         only,
+        hidden,
         rows: asked.choice.rows,
         cheapest: cheapest(asked.choice.cheapest),
         dig: asked.dig,

@@ -1,34 +1,15 @@
-//! The command, with the words and the options that it takes.
+//! The words and the options of a wish, as clap reads them.
 use clap::{Arg, ArgAction, Command};
+use command_words::{flag, option};
 use std::alloc::{AllocError, Global};
 
 static BEACON_NAMES: [&str; 4] = ["MACHINE", "COUNT", "SHARE", "ITEM"];
 
 static WISH_NAMES: [&str; 2] = ["GOOD", "RATE"];
 
-// An option with a value behind its name.
-fn option<'a>(alloc: Global, id: &'a str, value: &'a str, help: &'a str) -> Arg<'a> {
-    Arg::new(alloc, id).long(id).value_name(value).help(help)
-}
-
 // An option with a value behind its name, which may stand several times.
 fn options<'a>(alloc: Global, id: &'a str, value: &'a str, help: &'a str) -> Arg<'a> {
     option(alloc, id, value, help).action(ArgAction::Append)
-}
-
-// An option with no value.
-fn flag<'a>(alloc: Global, id: &'a str, help: &'a str) -> Arg<'a> {
-    Arg::new(alloc, id)
-        .long(id)
-        .action(ArgAction::SetTrue)
-        .help(help)
-}
-
-fn dump<'a>(alloc: Global) -> Arg<'a> {
-    Arg::new(alloc, "dump")
-        .value_name("DUMP")
-        .required(true)
-        .help("the file data-raw-dump.json")
 }
 
 fn wishes<'a>(alloc: Global) -> Arg<'a> {
@@ -85,7 +66,7 @@ fn with_machines<'a>(alloc: Global, command: Command<'a>) -> Result<Command<'a>,
             alloc,
             "by",
             "MACHINE",
-            "a machine to take before faster ones",
+            "a machine to take before faster ones; may stand several times",
         ))?
         .arg(options(
             alloc,
@@ -105,12 +86,17 @@ fn with_machines<'a>(alloc: Global, command: Command<'a>) -> Result<Command<'a>,
 // Which recipes are rows.
 fn with_recipes<'a>(alloc: Global, command: Command<'a>) -> Result<Command<'a>, AllocError> {
     command
-        .arg(options(alloc, "without", "RECIPE", "a recipe that is no row"))?
+        .arg(options(
+            alloc,
+            "without",
+            "RECIPE",
+            "a recipe that is no row; may stand several times",
+        ))?
         .arg(options(
             alloc,
             "only",
             "RECIPE",
-            "what this recipe gives is made by no other",
+            "what this recipe gives is made by no other; may stand several times",
         ))?
         .arg(option(
             alloc,
@@ -133,14 +119,18 @@ fn with_ends<'a>(alloc: Global, command: Command<'a>) -> Result<Command<'a>, All
             alloc,
             "import",
             "GOOD=PRICE",
-            "take a good as it is, at a price of one unit",
+            "take a good as it is, at a price of one unit; may stand several times",
         ))?
         .arg(flag(alloc, "dig", "mine what sources give"))?
         .arg(flag(alloc, "power", "make the electric power in the table"))
 }
 
-// The words and the options behind those of the files.
-fn with_rest<'a>(alloc: Global, command: Command<'a>) -> Result<Command<'a>, AllocError> {
+/// A command with the words and the options of a wish behind its own.
+///
+/// # Errors
+///
+/// `AllocError` where memory could not be had.
+pub fn with_wish<'a>(alloc: Global, command: Command<'a>) -> Result<Command<'a>, AllocError> {
     let command = with_wishes(alloc, command)?;
     let command = with_more(alloc, command)?;
     let command = with_machines(alloc, command)?;
@@ -148,24 +138,7 @@ fn with_rest<'a>(alloc: Global, command: Command<'a>) -> Result<Command<'a>, All
     with_ends(alloc, command)
 }
 
-/// The command of the program, of this version.
-///
-/// # Errors
-///
-/// `AllocError` where memory could not be had.
-pub fn command<'a>(alloc: Global, version: &'a str) -> Result<Command<'a>, AllocError> {
-    let command = Command::new(alloc, "factoplan_table")
-        .version(version)
-        .about(
-            "Prints the lines of a script for `factoplan run` that make a table of each GOOD at RATE a second",
-        )
-        .arg(dump(alloc))?
-        .arg(option(alloc, "script", "FILE", "lines that come first"))?;
-    with_rest(alloc, command)
-}
-
-/// The command of a question in a session, whose dump and script are known: its words are those of the program without DUMP and
-/// `--script`.
+/// The command of a question in a session, whose dump and script are known: its words are those of a wish alone.
 ///
 /// # Errors
 ///
@@ -174,5 +147,5 @@ pub fn question<'a>(alloc: Global) -> Result<Command<'a>, AllocError> {
     let command = Command::new(alloc, "?wish").about(
         "Tells the lines of a script that make a table of each GOOD at RATE a second",
     );
-    with_rest(alloc, command)
+    with_wish(alloc, command)
 }

@@ -213,6 +213,28 @@ fn push_reason(alloc: Global, game: &Game, reason: Reason, said: &mut String) ->
                 ],
             )
         }
+        Reason::ByFluid(machine) => {
+            let machine = machine_text(alloc, game, machine)?;
+            push(
+                said,
+                &[
+                    "it takes a machine that runs on a fluid, as ",
+                    machine.as_str(),
+                    " does, which can't be a row",
+                ],
+            )
+        }
+        Reason::Hidden(recipe) => {
+            let recipe = recipe_text(alloc, game, recipe)?;
+            push(
+                said,
+                &[
+                    "the game hides what gives it, as ",
+                    recipe.as_str(),
+                    ", which --only takes",
+                ],
+            )
+        }
         Reason::Excluded => push(said, &["--without and --only leave out what gives it"]),
         Reason::NoWay => push(said, &["nothing that can be a row gives it"]),
     }

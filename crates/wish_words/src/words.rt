@@ -264,8 +264,6 @@ pub fn read_asked<'a>(
     let setup = setup(alloc, matches)?;
     let choice = choice(alloc, matches)?;
     Ok(WishRequest {
-        dump: matches.get_str("dump").unwrap_or(""),
-        script: matches.get_str("script"),
         table: matches.get_str("table").unwrap_or("wish"),
         wishes,
         belt,

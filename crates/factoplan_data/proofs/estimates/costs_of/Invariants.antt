@@ -1,6 +1,0 @@
-use Rattle.std.proofs.Common.{◌≡◌}
-use Rattle.factoplan_data.specs.Costs.{goods_of, reached_below}
-use Rattle.factoplan_data.proofs.estimates.costs_of.Given as goal
-
-abbrev pub invariant-loop-place : goal.invariant-loop-place
-invariant-loop-place l = goods_of l.costs.items ≡ reached_below l.game l.reached l.place
