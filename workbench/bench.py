@@ -8,6 +8,7 @@ import time
 from typing import Any, Dict
 
 from faults import Refused
+from kept import Kept
 from pictures import Pictures
 from program import Program
 from script_lines import quoted
@@ -15,7 +16,7 @@ from scripts import Scripts, version_of
 from session import Session
 
 MOST_QUESTIONS, MOST_SESSIONS = 2000, 3
-CALLS = ("open", "read", "version", "create", "run", "wish", "page", "certificate")
+CALLS = ("open", "read", "version", "create", "run", "wish", "page", "certificate", "keep", "progress", "stop")
 # The options of a wish that the page may name, and how many words stand behind each: none of them names a file.
 OPTIONS = {
     "--table": 1,
@@ -45,7 +46,7 @@ class Bench:
     def __init__(self, dump: str, folder: str, first: str, program: str, output: str | None, seconds: float) -> None:
         self.dump = os.path.realpath(dump)
         self.scripts, self.pictures = Scripts(folder, first), Pictures(output)
-        self.program = Program(program, seconds)
+        self.program, self.kept = Program(program, seconds), Kept(folder)
         self.sessions: dict[tuple[str, str], Session] = {}
         self.lock = threading.Lock()
 
@@ -85,6 +86,7 @@ class Bench:
             "files": self.scripts.names(),
             "dump": os.path.basename(self.dump),
             "stamp": self.stamp(),
+            "kept": self.kept.page(),
             "names": self.pictures.names(),
             "pictures": self.pictures.known(),
         }
@@ -125,6 +127,32 @@ class Bench:
         answered = time.time() * 1000
         said = {n: text_of(reply) for n, reply in replies.items()}
         return {**out, "at": answered, "replies": said, "answers": [text_of(answer) for answer in answers]}
+
+    def do_keep(self, asked: Asked) -> dict[str, Any]:
+        """Keeps how the page is left."""
+        values = asked.get("values")
+        if not isinstance(values, dict):
+            raise Refused(400, "values is no object")
+        self.kept.keep_page(values)
+        return {}
+
+    def do_progress(self, asked: Asked) -> dict[str, Any]:
+        """How many bytes of the dump the planner of a script has read, where the system tells, and how many there are."""
+        with self.lock:
+            found = self.sessions.get((plain(asked, "file"), self.stamp()))
+        return {
+            "read": found.bytes_read() if found else None,
+            "size": os.path.getsize(self.dump),
+            "seconds": self.program.limits.seconds,
+        }
+
+    def do_stop(self, asked: Asked) -> dict[str, Any]:
+        """Ends the planner of a script, whatever it is at."""
+        with self.lock:
+            found = self.sessions.get((plain(asked, "file"), self.stamp()))
+        if found:
+            found.stop()
+        return {}
 
     def do_wish(self, asked: Asked) -> dict[str, Any]:
         """The lines of a table for a wish, behind the lines of the script; or why there are none."""

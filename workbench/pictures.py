@@ -29,6 +29,12 @@ NAME = re.compile(r"[^/\\\0]{1,200}\Z")
 MOST_PICTURE, MOST_NAMES = 1 << 20, 32 << 20
 
 
+def is_script_output(folder: str) -> bool:
+    """Whether the game left names or pictures in a folder."""
+    names = os.path.isfile(os.path.join(folder, LOCALES["item"] + "-locale.json"))
+    return names or os.path.isdir(os.path.join(folder, "item"))
+
+
 class Pictures:
     """The pictures and the names of a folder; of none there are none."""
 

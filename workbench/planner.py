@@ -8,7 +8,7 @@ import tempfile
 import time
 from collections import deque
 
-from program import MOST_ANSWER, surroundings, too_much
+from program import LONGER, MOST_ANSWER, surroundings, too_much
 from wide_pipe import WIDE, pipe_of, widen
 
 MOST_REPLY = 1_000_000  # lines of an answer
@@ -18,6 +18,10 @@ END = b"."
 
 class Died(Exception):
     """The program ended or fell silent: why."""
+
+
+class Late(Died):
+    """It took more than the seconds that it has: once more it would take as many."""
 
 
 class Planner:
@@ -48,6 +52,18 @@ class Planner:
         self.answers.close()
         self.running.wait()
         self.said.close()
+
+    def stop(self) -> None:
+        """Ends the program: who waits for an answer comes to the end of it."""
+        self.running.kill()
+
+    def bytes_read(self) -> int | None:
+        """How many bytes it has read, where the system tells (Linux)."""
+        try:
+            with open("/proc/%d/io" % self.running.pid) as file:
+                return int(file.readline().split()[1])
+        except (OSError, ValueError, IndexError):
+            return None
 
     def say(self, lines: list[bytes]) -> list[tuple[int, list[bytes]]]:
         """The number and the reply of each line, in order.
@@ -84,7 +100,7 @@ class Planner:
         while rest:
             left = end - time.monotonic()
             if left <= 0 or not select.select([], [pipe], [], left)[1]:
-                raise Died("it took no line within %d seconds" % self.seconds)
+                raise Late("it took no line within %d seconds%s" % (self.seconds, LONGER))
             try:
                 rest = rest[os.write(pipe, rest[:CHUNK]) :]
             except OSError:
@@ -98,7 +114,7 @@ class Planner:
             while not self.come:
                 left = end - time.monotonic()
                 if left <= 0 or not select.select([self.answers], [], [], left)[0]:
-                    raise Died("no answer within %d seconds" % self.seconds)
+                    raise Late("no answer within %d seconds%s" % (self.seconds, LONGER))
                 more = os.read(self.answers.fileno(), WIDE)
                 if not more:
                     raise Died(self.last_words())

@@ -14,6 +14,8 @@ from wide_pipe import pipe_of
 MOST_ANSWER = 64 << 20
 MOST_SAID = 20_000
 AT_ONCE, WAITING = 2, 8
+# What is said of the seconds that are too few.
+LONGER = " (--seconds N of the workbench gives it more)"
 
 
 class Limits:
@@ -88,7 +90,7 @@ class Program:
 
 def too_much(name: str, seconds: float) -> str:
     """Why a run was ended."""
-    return "%s took more than %d seconds, or gave more than %d bytes" % (name, seconds, MOST_ANSWER)
+    return "%s took more than %d seconds%s, or gave more than %d bytes" % (name, seconds, LONGER, MOST_ANSWER)
 
 
 def surroundings() -> dict[str, str]:

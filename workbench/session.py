@@ -11,7 +11,7 @@ import threading
 from typing import NamedTuple
 
 from faults import Refused
-from planner import Died, Planner
+from planner import Died, Late, Planner
 from program import Limits
 from script_lines import EDITS, QUESTIONS, first_word, is_plain, is_refused, words_of
 
@@ -43,7 +43,7 @@ class Session:
         self.command, self.limits = command, limits
         self.lock = threading.Lock()
         self.planner: Planner | None = None
-        self.retired = False
+        self.retired = self.stopped = False
         self.starts = 0
         self.forget()
 
@@ -67,10 +67,12 @@ class Session:
                 raise Refused(400, "that is no question")
         with self.lock, self.limits:
             try:
+                self.stopped = False
                 try:
                     return self.answers_once(lines, questions)
-                except Died:
+                except Died as fault:
                     self.end()
+                    self.tell_end(fault)
                 try:
                     return self.answers_once(lines, questions)
                 except Died as fault:
@@ -79,6 +81,13 @@ class Session:
             finally:
                 if self.retired:
                     self.end()
+
+    def tell_end(self, fault: Died) -> None:
+        """Refuses what isn't tried a second time: what was stopped, and what takes too long."""
+        if self.stopped:
+            raise Refused(409, "it was stopped")
+        if isinstance(fault, Late):
+            raise Refused(502, "the planner ended: %s" % fault)
 
     def answers_once(
         self, lines: list[bytes], questions: list[bytes]
@@ -93,6 +102,18 @@ class Session:
         if self.lock.acquire(blocking=False):
             self.end()
             self.lock.release()
+
+    def stop(self) -> None:
+        """Ends the program at once: who waits for its answer is told so."""
+        self.stopped = True
+        planner = self.planner
+        if planner:
+            planner.stop()
+
+    def bytes_read(self) -> int | None:
+        """How many bytes the program has read since it was started, where it runs and the system tells."""
+        planner = self.planner
+        return planner.bytes_read() if planner else None
 
     def end(self) -> None:
         """Ends the program, where it runs."""

@@ -3,6 +3,7 @@ import { call } from './calls.js';
 import { meet } from './files.js';
 import { derive, game, KINDS } from './game.js';
 import { inForce, inForceOf, modelOf } from './model.js';
+import { tellRefused } from './refusal.js';
 import { planOf, rateOf, readReply } from './replies.js';
 import { line, linesOf, solveWords } from './script.js';
 import { S, show, tableShown } from './state.js';
@@ -27,6 +28,14 @@ const editLines = () => linesAt(S.model.edits.map(e => e.line));
  * @type {(table: Table) => string}
  */
 const stampOf = table => [editLines(), linesAt(table.mine), ...solveWords(S.model, table.name)].join('\n\n');
+
+/**
+ * Whether what was answered of a table last is of another text than it has now, and no answer is on its way.
+ *
+ * @type {(table: Table) => boolean}
+ */
+export const isStale = table =>
+  Boolean(S.alone || S.fault) && S.plans.get(table.name)?.of !== stampOf(table);
 
 /** @type {Promise<void> | null} */
 let running = null;
@@ -59,12 +68,8 @@ export function run(save = true) {
       S.fault = '';
     } catch (fault) {
       S.fault = fault.message;
-      toast(
-        fault.status === 403
-          ? 'This page needs the whole address that the workbench printed.'
-          : `No answer: ${fault.message}`,
-        { bad: true, act: ['Try again', () => run()] },
-      );
+      // (what is said of a server that is gone stands above all: alone.js)
+      if (!S.alone) toast(`No answer: ${fault.message}`, { bad: true, act: ['Try again', () => run()] });
     } finally {
       running = null;
       S.busy = false;
@@ -113,6 +118,7 @@ async function once(save) {
   S.busy = false;
   show();
   drawnWithin(out.at);
+  tellRefused();
   await others(text);
 }
 

@@ -1,4 +1,5 @@
 // The workbench: the top, the tabs, the keys, and how all of it is drawn.
+import { aloneView } from './alone.js';
 import { run } from './answers.js';
 import { call, takeToken } from './calls.js';
 import { cardView } from './card.js';
@@ -10,8 +11,9 @@ import { begin, lookAround, openFile } from './files.js';
 import { game } from './game.js';
 import { look, plain } from './look.js';
 import { isPicking } from './pick.js';
+import { readingView } from './reading.js';
 import { go, side } from './routes.js';
-import { kept, onChange, S, show, tableShown } from './state.js';
+import { kept, onChange, receive, S, show, tableShown } from './state.js';
 import { tableView } from './table.js';
 import { toast } from './toast.js';
 import { conflictView, KEYS, noticeView, search, tabsView, theme, topView } from './top.js';
@@ -22,11 +24,7 @@ import { wishView } from './wish.js';
 
 function view() {
   const table = tableShown();
-  if (!game.at.size) {
-    return h('p.start', { key: 'start', role: 'status' },
-      S.fault ? `✗ The game can’t be read: ${S.fault}` : 'Reading the game …',
-    );
-  }
+  if (!game.at.size) return readingView();
   if (S.route === 'explore') return exploreView();
   if (S.route === 'what') return whatIfView();
   return table ? tableView(table) : wishView();
@@ -58,6 +56,7 @@ function drawAll() {
   draw(document.getElementById('app'), [
     topView(),
     tabsView(),
+    S.alone && aloneView(),
     S.conflict && conflictView(),
     noticeView(),
     h('div.body', { key: 'body' }, h('main', { key: 'main' }, view()), aside),
@@ -94,6 +93,8 @@ function watchRoom(main) {
 document.addEventListener('keydown', e => {
   const { tagName } = /** @type {HTMLElement} */ (e.target);
   const isTyped = /INPUT|TEXTAREA|SELECT/.test(tagName);
+  // (in a field it is what was typed there that is taken back, which the browser does)
+  const isField = isTyped && !/^(checkbox|select-one)$/.test(/** @type {HTMLInputElement} */ (e.target).type);
   const ctrl = e.ctrlKey || e.metaKey;
   const key = e.key.toLowerCase();
   /** @type {(how: () => any) => void} */
@@ -101,9 +102,9 @@ document.addEventListener('keydown', e => {
     e.preventDefault();
     how();
   };
-  if (ctrl && key === 'z' && !/TEXTAREA/.test(tagName)) {
+  if (ctrl && key === 'z' && !isField) {
     act(e.shiftKey ? redo : undo);
-  } else if (ctrl && key === 'y' && !isTyped) {
+  } else if (ctrl && key === 'y' && !isField) {
     act(redo);
   } else if ((ctrl && key === 'k') || (key === '/' && !isTyped)) {
     act(search);
@@ -136,15 +137,27 @@ window.addEventListener('resize', show);
 
 // ---- The beginning ----
 
+/**
+ * Names and the like of a server, by kind: as maps, since what is so called may have any name.
+ *
+ * @param {Answer} it
+ */
+function takeLook(it) {
+  look.names = new Map(Object.entries(it.names).map(([kind, names]) => [kind, new Map(Object.entries(names))]));
+  look.pictures = new Map(Object.entries(it.pictures).map(([kind, names]) => [kind, new Set(names)]));
+  receive(it.kept);
+  theme(kept('theme', document.documentElement.dataset.theme));
+  look.per = Number(kept('per', 60)) || 60;
+  look.belt = kept('belt', null);
+}
+
 (async () => {
-  theme(localStorage.getItem('theme') || (matchMedia('(prefers-color-scheme: dark)').matches ? 'dark' : 'light'));
-  look.per = Number(localStorage.getItem('per')) || 60;
-  look.belt = localStorage.getItem('belt');
-  takeToken();
+  const wanted = matchMedia('(prefers-color-scheme: dark)').matches ? 'dark' : 'light';
+  document.documentElement.dataset.theme = kept('theme', wanted);
   try {
+    await takeToken();
     const it = await call('open');
-    look.names = it.names;
-    look.pictures = Object.fromEntries(Object.entries(it.pictures).map(([kind, names]) => [kind, new Set(names)]));
+    takeLook(it);
     Object.assign(S, { stamp: it.stamp, dump: it.dump });
     onChange(drawSoon);
     const last = kept('file', it.file);
@@ -152,7 +165,7 @@ window.addEventListener('resize', show);
       await openFile(last);
     } else {
       begin(it);
-      await run(false);
+      await run(S.script !== S.saved);
     }
   } catch (fault) {
     draw(document.getElementById('app'), [

@@ -4,7 +4,9 @@ import { Frac } from './exact.js';
 import { put } from './fittings.js';
 import { beaconsFor, get, isReached } from './game.js';
 import { icon, nameOf } from './look.js';
-import { choose, field, form } from './pick.js';
+import { hear, tellBeside } from './numbers.js';
+import { choose, form, whole } from './pick.js';
+import { BEACONS } from './wishing.js';
 
 /**
  * The beacons of a row, to be chosen; null where none may stand round its machine.
@@ -64,21 +66,29 @@ export function beaconForm(anchor, able, now, mayEnd, set) {
     ? { by: now.by, count: now.count, share: now.share, module: now.modules[0]?.[0] }
     : { by: first.id, count: 8, share: 4, module: swiftest(first.modules) };
   /** @type {(text: string, k: string) => View} */
-  const number = (text, k) => field(text, {
-    type: 'number',
-    min: 1,
-    max: 65535,
-    value: it[k],
-    'data-key': k,
-    oninput: e => {
-      it[k] = Math.max(1, Math.min(65535, Math.floor(Number(e.target.value)) || 1));
+  const number = (text, k) => h('label', null, h('span', null, text), whole(
+    {
+      value: it[k],
+      'data-key': k,
+      oninput: e => {
+        it[k] = e.target.value;
+      },
     },
-  });
+    BEACONS,
+  ));
+  /** @type {(k: string) => Heard} */
+  const heard = k => hear(`${it[k]}`, 'whole', BEACONS);
   form(anchor, 'Beacons around each machine', (leave, paint) => {
     const beacon = able.find(x => x.id === it.by) || first;
     const finish = () => {
+      const wrong = ['count', 'share'].find(k => !heard(k).x);
+      if (wrong) {
+        tellBeside(document.querySelector(`.picker [data-key="${wrong}"]`), heard(wrong).said);
+        return;
+      }
+      const [count, share] = [heard('count'), heard('share')].map(({ x }) => x.number);
       leave();
-      set({ by: beacon.id, count: it.count, share: it.share, modules: [[it.module, beacon.slots]] });
+      set({ by: beacon.id, count, share, modules: [[it.module, beacon.slots]] });
     };
     /** @type {(id: Id) => void} */
     const another = id => {

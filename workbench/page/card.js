@@ -3,10 +3,11 @@ import { answer } from './answers.js';
 import { addLines, change, closed, drop, say } from './changes.js';
 import { h } from './dom.js';
 import { Frac } from './exact.js';
-import { EFFECTS, game, get, isGood, isReached, kindOf, newRow } from './game.js';
+import { EFFECTS, game, get, isGood, isReached, kindOf, machinesFor, newRow } from './game.js';
 import { amount, chip, icon, mark, nameOf, num, percent, plain, power } from './look.js';
 import { pick } from './pick.js';
 import { chips, equation, recipes } from './recipes.js';
+import { NOT_IN_THE_MODEL } from './replies.js';
 import { go, open, side } from './routes.js';
 import { line, rowLine } from './script.js';
 import { keep, S, show, tableShown } from './state.js';
@@ -120,7 +121,7 @@ export function cardView(id) {
         },
         kind === 'tech' ? 'Research …' : 'Make …',
       ),
-      table && it.by?.length > 0 && h(
+      table && machinesFor(id).length > 0 && h(
         'button.quiet',
         {
           type: 'button',
@@ -133,6 +134,7 @@ export function cardView(id) {
       ),
       MARKS.map(markButton(id)),
     ),
+    table && it.by?.length > 0 && !machinesFor(id).length && h('p.dim', { key: 'unplanned' }, NOT_IN_THE_MODEL),
     h('div.facts', null, facts(it, kind)),
     kind === 'recipe' || kind === 'tech' || kind === 'source'
       ? block(

@@ -1,5 +1,6 @@
 // Changes of the script, and the way back from them.
 import { run } from './answers.js';
+import { wrote } from './refusal.js';
 import { changed, line } from './script.js';
 import { keep, S } from './state.js';
 
@@ -12,7 +13,10 @@ let keeping = null;
  *
  * @type {(how: Changes) => void}
  */
-export const change = how => become(changed(S.script, how));
+export const change = how => {
+  wrote([...(how.add || []), ...Object.values(how.put || {}).filter(Boolean)]);
+  return become(changed(S.script, how));
+};
 
 /**
  * Another text of the script.

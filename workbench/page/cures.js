@@ -2,11 +2,11 @@
 // offered is only a guess that is tried: whether it mends, the program says.
 import { addLines, change } from './changes.js';
 import { Frac } from './exact.js';
-import { game, get, isReached, kindOf, newRow } from './game.js';
+import { game, get, isGood, isReached, kindOf, machinesFor, newRow } from './game.js';
 import { nameOf, plain } from './look.js';
 import { rowOf } from './model.js';
 import { nearest } from './nearest.js';
-import { MEANS } from './replies.js';
+import { meaningOf } from './replies.js';
 import { cure, curesOfRow } from './rowcures.js';
 import { removeRow } from './rows.js';
 import { line, linesOf, rowLine, solveWords } from './script.js';
@@ -33,7 +33,7 @@ export function curesOfPlan(table, plan) {
   // offered)
   const named = table.rows.filter(r =>
     (S.rates.has(r.label) && !S.rates.get(r.label)) || (code === 'K4' && r.label === more[0]));
-  const why = `${MEANS[code] || 'it is refused'}${named.length ? ` (row ${named.map(r => plain(r.label)).join(', ')})` : ''}.`;
+  const why = `${meaningOf(code)}${named.length ? ` (row ${named.map(r => plain(r.label)).join(', ')})` : ''}.`;
   const rows = named.length ? named : table.rows.slice(-MOST);
   if (code === 'V1' || code === 'V2') return { why, cures: curesOfSolver(table, plan) };
   return {
@@ -71,7 +71,7 @@ function curesOfInfeasible(table, plan) {
   const made = g => get(g).made || [];
   /** @type {(g: Id) => Id[]} */
   const ways = g => [...made(g).filter(isSource), g, ...made(g).filter(x => !isSource(x))].filter(x =>
-    isReached(x) && get(x).by?.length && !table.rows.some(r => r.does === x));
+    isReached(x) && machinesFor(x).length && !table.rows.some(r => r.does === x));
   /** @type {(g: Id) => Cure[]} */
   const make = g => {
     const [way] = ways(g), row = way && newRow(table, way);
@@ -201,7 +201,7 @@ const COMMANDS = [
 export function curesOfLine(n) {
   const said = S.refused.get(n), [, code, ...rest] = said, at = rest.at(-2) === 'at' ? Number(rest.at(-1)) : null;
   const details = at ? rest.slice(0, -2) : rest, target = at || n, words = S.model.commands[target - 1] || [];
-  const why = `${MEANS[code] || 'it is refused'}${details.length ? `: ${details.map(d => plain(d)).join(' ')}` : ''}${at ? ` (line ${at} of its batch)` : ''}.`;
+  const why = `${meaningOf(code, words)}${details.length ? `: ${details.map(d => plain(d)).join(' ')}` : ''}${at ? ` (line ${at} of its batch)` : ''}.`;
   /** @type {(next: string[]) => void} */
   const to = next => change({ put: { [target]: line(...next) } });
   const cures = [];
@@ -209,7 +209,12 @@ export function curesOfLine(n) {
     const row = rowOf(words);
     cures.push(...curesOfRow(code, details, row, next => change({ put: { [target]: rowLine(words[1], next) } })));
   }
-  if (code === 'X1' || code === 'Q5') {
+  if (words[0] === 'row' && (code === 'L4' || words[3] === 'special:heat')) {
+    const { out = [] } = get(words[3]), goods = isGood(words[3]) ? [words[3]] : out.map(p => p.good);
+    cures.push(...goods.map(g =>
+      cure(g, `Bring in ${nameOf(g)} instead`, () => to(['import', words[1], g, '0']))));
+  }
+  if (code === 'X1' || (code === 'Q5' && words[3] !== 'special:heat')) {
     const missing = details[0] || words.find(w => /^\w+:/.test(w) && !game.at.has(w)) || '';
     const i = words.indexOf(missing);
     if (i > 0) {

@@ -6,6 +6,7 @@ import { h } from './dom.js';
 import { savePage } from './exports.js';
 import { newFile, openFile } from './files.js';
 import { icon, plain } from './look.js';
+import { tellBeside } from './numbers.js';
 import { field, form } from './pick.js';
 import { side } from './routes.js';
 import { linesOf, typedAs } from './script.js';
@@ -98,12 +99,11 @@ function files() {
   const make = e => form(e.currentTarget, 'A new script', leave => {
     const it = { name: '', copy: false };
     const finish = async () => {
-      if (!it.name.trim()) return;
-      leave();
       try {
         await newFile(it.name.trim(), it.copy ? S.script : '');
+        leave();
       } catch (fault) {
-        toast(fault.message, { bad: true });
+        tellBeside(document.querySelector('[data-key="new name"]'), `✗ ${fault.message}`);
       }
     };
     return [

@@ -22,7 +22,7 @@ export class Frac {
   static of(text) {
     const whole = /^(-?\d+)\/(\d+)$/.exec(text);
     if (whole) return BigInt(whole[2]) ? Frac.low(BigInt(whole[1]), BigInt(whole[2])) : null;
-    const found = /^(-?)(\d*)(?:[.,](\d*))?(?:[eE]([+-]?\d{1,3}))?$/.exec(text.trim());
+    const found = /^(-?)(\d*)(?:\.(\d*))?(?:[eE]([+-]?\d{1,3}))?$/.exec(text.trim());
     if (!found || !(found[2] || found[3]) || text.length > 400) return null;
     const digits = ((found[2] || '') + (found[3] || '')).replace(/^0+(?=.)/, '');
     let places = (found[3] || '').length - (Number(found[4]) || 0), n = BigInt(digits);

@@ -2,6 +2,7 @@
 import { run, working } from './answers.js';
 import { call, download } from './calls.js';
 import { plain } from './look.js';
+import { tellWhy } from './refusal.js';
 import { line, linesOf, solveWords } from './script.js';
 import { S } from './state.js';
 import { toast } from './toast.js';
@@ -26,11 +27,11 @@ export const savePage = () => working(async () => {
     const out = await call('page', {
       script: scriptWith([...S.model.tables.keys()].map(name => line('solve', ...solveWords(S.model, name)))),
     });
-    if (!out.text) return toast(`No page: ${out.said}`, { bad: true });
+    if (!out.text) return tellWhy(`no page: ${out.said}`);
     download(`${fileName(S.file.replace(/\.txt$/, ''))}.html`, out.text, 'text/html');
     return toast('The page is in your downloads.');
   } catch (fault) {
-    return toast(`No page: ${fault.message}`, { bad: true });
+    return tellWhy(`no page: ${fault.message}`);
   }
 });
 
@@ -46,12 +47,12 @@ export const saveCertificate = table => working(async () => {
       file: S.file,
     });
     if (out.status > 1 || !out.text.startsWith('{')) {
-      return toast(`No certificate: ${out.said || out.text}`, { bad: true });
+      return tellWhy(`no certificate: ${out.said || out.text}`);
     }
     download(`${fileName(table.name)}.certificate.json`, out.text, 'application/json');
     download(`${fileName(table.name)}.script.txt`, out.script, 'text/plain');
     return toast(`The certificate and its script are in your downloads. The checker says: ${out.verdict}.`);
   } catch (fault) {
-    return toast(`No certificate: ${fault.message}`, { bad: true });
+    return tellWhy(`no certificate: ${fault.message}`);
   }
 });

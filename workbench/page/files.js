@@ -1,6 +1,6 @@
 // The scripts of the folder, and what other tabs and editors do to them meanwhile.
 import { answering, run, working } from './answers.js';
-import { call } from './calls.js';
+import { call, greet } from './calls.js';
 import { keepHistory, settleHistory } from './changes.js';
 import { modelOf } from './model.js';
 import { typedAs } from './script.js';
@@ -59,7 +59,7 @@ function isHalfTyped() {
 
 /** Looks whether script and dump are still those that were read. */
 export async function lookAround() {
-  if (!S.version || answering() || S.conflict) return;
+  if (!S.version || answering() || S.conflict || S.alone || await greet() !== 200) return;
   const now = await call('version', { file: S.file }).catch(() => null);
   if (!now || answering() || S.conflict) return;
   if (now.version !== S.version) {
@@ -88,7 +88,7 @@ export async function lookAround() {
 export const openFile = file => working(async () => {
   await answering();
   begin(await call('read', { file }));
-  await run(false);
+  await run(S.script !== S.saved);
 });
 /**
  * A new script, with a text to begin with.
@@ -100,6 +100,15 @@ export const newFile = (name, text) => working(async () => {
   await call('create', { file, script: text });
   await openFile(file);
 });
+
+/** What couldn't be saved when the page was left stands in it again; where the file is another by now, one chooses. */
+function takeUnsaved() {
+  const mine = kept('unsaved ' + S.file, null);
+  if (!mine || mine.script === S.script) return;
+  if (mine.version !== S.version) meet({ ...S, script: S.script });
+  S.script = mine.script;
+  keep('unsaved ' + S.file, null);
+}
 
 /**
  * Begins with a script that was read.
@@ -122,6 +131,7 @@ export function begin(it) {
     ranksOf: null,
     conflict: null,
   });
+  takeUnsaved();
   S.model = modelOf(S.script);
   keep('file', S.file);
   if (!S.route || (S.route.startsWith('table:') && !tableShown())) {

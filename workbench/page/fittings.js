@@ -2,7 +2,7 @@
 import { change } from './changes.js';
 import { h } from './dom.js';
 import { Frac } from './exact.js';
-import { byOther, EFFECTS, get, isReached, modulesFor } from './game.js';
+import { byOther, EFFECTS, get, isReached, machinesFor, modulesFor } from './game.js';
 import { icon, nameOf, percent, plain, watts } from './look.js';
 import { pick } from './pick.js';
 import { rowLine } from './script.js';
@@ -66,7 +66,7 @@ export function machine(table, r, key) {
       onclick: e => pick(e.currentTarget, {
         current: r.by,
         hint: 'Which machine?',
-        options: (get(r.does).by || []).map(id => ({ id, note: machineNote(id) })),
+        options: machinesFor(r.does).map(id => ({ id, note: machineNote(id) })),
         done: id => id !== r.by && put(table, r, byOther(table, r, id)),
       }),
     },

@@ -110,6 +110,15 @@ const speedOf = id => Frac.of(get(id).speed || '1')?.number ?? 0;
 
 // ---- What fits a row ----
 
+const UNPLANNED = new Set(['heat', 'fluid']);
+/**
+ * The machines by which it may be a row. Heat is none, and neither is what runs on it or on a fluid (docs/LIMITS.md).
+ *
+ * @type {(does: Id) => Id[]}
+ */
+export const machinesFor = does =>
+  does === 'special:heat' ? [] : (get(does).by || []).filter(m => !UNPLANNED.has(get(m).energy));
+
 /** @type {(module: Id, does: Id) => boolean} */
 const isLimited = (module, does) => {
   const { only, not } = get(module).module || {};
@@ -144,7 +153,7 @@ export function beaconsFor(by, does) {
  * @returns {Row | null}
  */
 export function newRow(table, does) {
-  const able = reached(get(does).by).length ? reached(get(does).by) : get(does).by || [];
+  const all = machinesFor(does), able = reached(all).length ? reached(all) : all;
   const [by] = [...able].sort((a, b) =>
     Number(get(a).energy === 'burner') - Number(get(b).energy === 'burner') || speedOf(b) - speedOf(a));
   if (!by) return null;

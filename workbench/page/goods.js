@@ -7,7 +7,7 @@ import { carried, chip, flow, look, mark, nameOf, num } from './look.js';
 import { edit, pick } from './pick.js';
 import { open } from './routes.js';
 import { line } from './script.js';
-import { S, show } from './state.js';
+import { keep, S, show } from './state.js';
 import { makeHere } from './wishing.js';
 
 const goodOptions = () => [
@@ -16,11 +16,12 @@ const goodOptions = () => [
   ...game.ids.filter(i => kindOf(i) === 'tech'),
 ];
 /**
- * Picks one of all goods, also of those that only a table can want.
+ * Picks one of all goods, also of those that only a table can want, but for those that are there.
  *
- * @type {(anchor: HTMLElement, hint: string, done: (id: Id) => any) => void}
+ * @type {(anchor: HTMLElement, hint: string, done: (id: Id) => any, there?: Map<Id, any>) => void}
  */
-export const pickGood = (anchor, hint, done) => pick(anchor, { options: goodOptions(), hint, done });
+export const pickGood = (anchor, hint, done, there = new Map()) =>
+  pick(anchor, { options: goodOptions().filter(id => !there.has(id)), hint, done });
 
 /**
  * Sets how much is wanted of a good, or at what price it comes in or goes out; null is no longer.
@@ -58,7 +59,7 @@ export function goods(table, plan) {
         'aria-label': 'Belts that flows are counted in',
         onchange: e => {
           look.belt = e.target.value;
-          localStorage.setItem('belt', look.belt);
+          keep('belt', look.belt);
           show();
         },
       },
@@ -129,7 +130,7 @@ function side(table, what, name, hint, flows, start, more) {
           'aria-label': hint,
           title: hint,
           'data-key': 'add ' + what,
-          onclick: e => pickGood(e.currentTarget, hint, id => table[what].has(id) || set(table, what, id, start)),
+          onclick: e => pickGood(e.currentTarget, hint, id => set(table, what, id, start), table[what]),
         },
         '+',
       ),

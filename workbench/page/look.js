@@ -5,14 +5,17 @@ import { Frac } from './exact.js';
 import { get, kindOf, rankOf, rawOf } from './game.js';
 
 /** @type {Look} */
-export const look = { names: {}, pictures: {}, per: 60, belt: null, room: 900 };
+export const look = { names: new Map(), pictures: new Map(), per: 60, belt: null, room: 900 };
 /** @type {{ [seconds: string]: string }} */
 export const PER = { 1: '/s', 60: '/min', 3600: '/h' };
 
 // ---- Names ----
 
-/** @type {{ [id: Id]: string }} */
-const SPECIAL = { 'special:electricity': 'Electricity', 'special:heat': 'Heat', 'special:character': 'The character' };
+const SPECIAL = new Map([
+  ['special:electricity', 'Electricity'],
+  ['special:heat', 'Heat'],
+  ['special:character', 'The character'],
+]);
 // Controls, and marks that turn the direction of a text, join or hide letters: a name can't have them act on what
 // stands beside it.
 // eslint-disable-next-line no-control-regex, no-misleading-character-class
@@ -50,12 +53,14 @@ export function nameOf(id) {
  * @returns {string}
  */
 function fullName(id) {
-  if (SPECIAL[id]) return SPECIAL[id];
+  if (SPECIAL.has(id)) return SPECIAL.get(id);
   const kind = kindOf(id), raw = rawOf(id), [name, degrees] = kind === 'fluid' ? raw.split('@') : [raw];
   const launch = kind === 'recipe' && /^launch:([^:]*):(.*)$/.exec(raw);
   if (launch) return `Launch of ${fullName('item:' + launch[2]).toLowerCase()}`;
-  const told = look.names[kind]?.[name] || (kind === 'recipe' && (look.names.item?.[name] || look.names.fluid?.[name]));
-  const said = told || name.slice(0, 200).replace(/[-_]+/g, ' ').replace(/^./, c => c.toUpperCase());
+  /** @type {(of: string) => string | undefined} */
+  const told = of => look.names.get(of)?.get(name);
+  const own = told(kind) || (kind === 'recipe' && (told('item') || told('fluid')));
+  const said = own || name.slice(0, 200).replace(/[-_]+/g, ' ').replace(/^./, c => c.toUpperCase());
   return degrees ? `${said} ${degrees}°` : said;
 }
 
@@ -101,7 +106,7 @@ export function lettersOf(id) {
  *
  * @type {(id: Id) => boolean}
  */
-export const hasPicture = id => Boolean(look.pictures[kindOf(id)]?.has(rawOf(id).split('@')[0]));
+export const hasPicture = id => Boolean(look.pictures.get(kindOf(id))?.has(rawOf(id).split('@')[0]));
 /**
  * Where the picture of a thing is.
  *

@@ -1,7 +1,8 @@
 // The list that opens under a button to pick one of many, small forms, and numbers that are edited where they stand.
 import { draw, h } from './dom.js';
 import { Frac } from './exact.js';
-import { found, icon, nameOf, plain } from './look.js';
+import { found, icon, look, nameOf, plain } from './look.js';
+import { hear, tellBeside, typedOf } from './numbers.js';
 
 const MOST_SHOWN = 80;
 let close = () => {};
@@ -203,31 +204,61 @@ export const choose = (text, options, value, onchange) => h('label', null,
  * @param {Editing} editing
  * @returns {View}
  */
-export function edit(text, { label, done, key, wide = false, per = 1 }) {
-  const exact = Frac.of(text), shown = exact ? exact.times(per).text.replace(/\u2009/g, '').replace('−', '-') : text;
+export function edit(text, { label, done, key, wide = false, sort = 'number' }) {
+  const exact = Frac.of(text), shown = exact ? typedOf(exact, sort) : text;
   /** @type {(e: UiEvent) => void} */
   const finish = e => {
-    const it = e.target;
-    const x = Frac.of(it.value.trim()), bad = !x || x.n < 0n;
-    it.setAttribute('aria-invalid', String(bad));
-    if (!bad && it.value !== shown) done(x.over(per));
+    const it = e.target, { x, said } = hear(it.value, sort);
+    it.setAttribute('aria-invalid', String(!x));
+    tellBeside(it, x ? '' : said);
+    if (x && it.value !== shown) done(x);
   };
   return h('input.edit' + (wide ? '.broad' : '') + (text === '0' ? '.zero' : ''), {
     key,
     value: shown,
-    title: exact ? `exactly ${exact.times(per)}` : '',
-    inputMode: 'decimal',
+    title: exact ? `exactly ${sort === 'rate' ? exact.times(look.per) : exact}` : '',
+    style: { '--letters': shown.length },
+    inputMode: 'text',
     'aria-label': label,
+    'aria-describedby': 'heard',
     'data-key': key,
     autocomplete: 'off',
     onchange: finish,
+    oninput: e => {
+      e.target.style.setProperty('--letters', e.target.value.length);
+      tellBeside(e.target, e.target.value === shown ? '' : hear(e.target.value, sort).said);
+    },
     onfocus: e => e.target.select(),
     onkeydown: e => {
       if (e.key === 'Enter') e.target.blur();
       if (e.key === 'Escape') {
         e.target.value = shown;
+        tellBeside(e.target, '');
         e.target.blur();
       }
     },
   });
 }
+
+/**
+ * A field of a whole number in a form or a wish, which is told what was typed; beside it stands what was understood.
+ *
+ * @param {Props} props
+ * @param {Bounds} bounds
+ * @param {boolean} [mayBeEmpty]
+ * @returns {View}
+ */
+export const whole = (props, bounds, mayBeEmpty = false) => h('input.edit', {
+  ...props,
+  inputMode: 'numeric',
+  autocomplete: 'off',
+  'aria-describedby': 'heard',
+  oninput: e => {
+    const { value } = e.target, { x, said } = value || !mayBeEmpty ? hear(value, 'whole', bounds) : EMPTY;
+    e.target.setAttribute('aria-invalid', String(!x && said !== ''));
+    tellBeside(e.target, x && `${x}` === value ? '' : said);
+    props.oninput(e);
+  },
+});
+/** @type {Heard} */
+const EMPTY = { x: null, unit: '', said: '' };

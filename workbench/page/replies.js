@@ -94,12 +94,12 @@ export function rateOf(text) {
   };
 }
 
-/**
- * What a refusal means, in words.
- *
- * @type {{ [code: string]: string }}
- */
-export const MEANS = {
+/** What the model hasn't of machines, in the words of docs/LIMITS.md. */
+export const NOT_IN_THE_MODEL = 'Reactors, heat pipes and heat exchangers aren’t rows, and neither is a machine that takes '
+  + 'a fluid for its energy: import what it makes, and count its machines and their fluid by hand.';
+
+/** What a refusal means, in words. */
+const MEANS = new Map(Object.entries({
   Q1: 'the first word is no command',
   Q2: 'the number of words is wrong, or a fixed word isn’t one',
   Q3: 'a word is no number of the kind that stands there',
@@ -130,11 +130,18 @@ export const MEANS = {
   L1: 'it burns a fuel and none is named',
   L2: 'it doesn’t take this fuel',
   L3: 'it burns no fuel',
-  L4: 'machines that run on heat or a fluid aren’t planned',
+  L4: NOT_IN_THE_MODEL.replace(/\.$/, ''),
   U1: 'there are more modules than slots',
   U2: 'an effect of the module isn’t allowed there',
   U3: 'the module isn’t allowed on this recipe',
   B1: 'no machine shares the beacon',
   V1: 'a number of the solver grew too wide',
   V2: 'the budget of steps is used up',
-};
+}));
+/**
+ * What a refusal means, in words: its code, and its details.
+ *
+ * @type {(code: string, details?: string[]) => string}
+ */
+export const meaningOf = (code, details = []) =>
+  MEANS.get(code === 'Q5' && details.includes('special:heat') ? 'L4' : code) || 'it is refused';

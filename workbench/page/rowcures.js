@@ -1,5 +1,5 @@
 // What would mend a row that is refused.
-import { choicesOf, get, isReached, modulesFor, rawOf, reached } from './game.js';
+import { choicesOf, get, isReached, machinesFor, modulesFor, rawOf, reached } from './game.js';
 import { nameOf } from './look.js';
 import { S } from './state.js';
 
@@ -20,7 +20,7 @@ export const cure = (id, text, act) => ({ id, text, act });
  * @returns {Cure[]}
  */
 export function curesOfRow(code, details, r, put) {
-  const by = () => [...reached(get(r.does).by), ...(get(r.does).by || []).filter(m => !isReached(m))]
+  const by = () => [...reached(machinesFor(r.does)), ...machinesFor(r.does).filter(m => !isReached(m))]
     .filter(m => m !== r.by)
     .slice(0, 4)
     .map(m => cure(m, `By ${nameOf(m)}`, () => put({ ...r, by: m })));

@@ -3,8 +3,9 @@
 import { beaconForm, beacons } from './beacons.js';
 import { addLines, change } from './changes.js';
 import { h, memo } from './dom.js';
+import { Frac } from './exact.js';
 import { effect, effectsOf, fuel, machine, machineNote, MOST_SLOTS, rowNow, slots, tableNow, temperature } from './fittings.js';
-import { beaconsFor, byOther, choicesOf, game, get, isReached, modulesFor, rawOf } from './game.js';
+import { beaconsFor, byOther, choicesOf, game, get, isReached, machinesFor, modulesFor, rawOf } from './game.js';
 import { carried, chip, flowText, look, mark, nameOf, num, PER, plain, power, rate } from './look.js';
 import { edit, pick } from './pick.js';
 import { open } from './routes.js';
@@ -38,7 +39,7 @@ export function rowsView(table, plan, rates) {
     Object.values(rates.get(r.label) || {}).join(' '),
   ].join('|');
   return h('div.scroll', { role: 'region', 'aria-label': 'Rows', tabindex: '0' },
-    h('table.rows' + (burns ? '.burns' : ''), { style: wideness(table) },
+    h('table.rows' + (burns ? '.burns' : ''), { style: wideness(table, plan) },
       h('thead', null,
         h('tr', null,
           th('Recipe', 'th.name'),
@@ -62,13 +63,17 @@ export function rowsView(table, plan, rates) {
   );
 }
 
+/** @type {(counts: Figure[]) => number} */
+const longest = counts => Math.max(0, ...counts.map(x => x?.text.length ?? 0));
 /**
- * What the widths of the columns hang on (look.css). They hang on no number of the plan, so that another number lays
- * out no other row anew.
+ * What the widths of the columns hang on (look.css). Of the plan's numbers only counts of machines that are longer than
+ * most, and prices, have a part in it: no figure of theirs is cut, and another number lays out no other row anew.
  *
- * @type {(table: Table) => Props}
+ * @type {(table: Table, plan: Plan | null) => Props}
  */
-const wideness = table => ({
+const wideness = (table, plan) => ({
+  '--counted': Math.max(0, longest([...(plan?.rows?.values() || [])].map(r => r.count)) - 5),
+  '--priced': Math.max(0, longest(table.rows.map(r => Frac.of(r.price || '0'))) - 4),
   '--slots': Math.max(2, ...table.rows.map(r => Math.min(get(r.by).slots || 0, MOST_SLOTS))),
   '--effects': Number(table.rows.some(r => r.modules.length || r.beacons.length)),
   '--ring': Number(table.rows.some(r => r.beacons.length)),
@@ -193,7 +198,7 @@ export function allRows(table) {
 function allButtons(table) {
   // (rows that do the same by the same machine take the same)
   const kinds = [...new Map(table.rows.map(r => [`${r.does} ${r.by}`, r])).values()];
-  const machines = union(kinds.map(r => get(r.does).by || [])).filter(id => get(id).speed);
+  const machines = union(kinds.map(r => machinesFor(r.does))).filter(id => get(id).speed);
   const modules = union(kinds.map(r => modulesFor(r.by, r.does))), able = new Map();
   for (const r of kinds) {
     for (const b of beaconsFor(r.by, r.does)) {
@@ -215,7 +220,7 @@ function allButtons(table) {
       {
         options: machines.map(id => ({ id, note: machineNote(id) })),
         hint: 'Which machine, wherever it fits?',
-        done: id => putAll(table, r => r.by !== id && get(r.does).by?.includes(id) && byOther(table, r, id)),
+        done: id => putAll(table, r => r.by !== id && machinesFor(r.does).includes(id) && byOther(table, r, id)),
       },
     )),
     modules.length > 0 && one('modules', 'modules', 'One module in all slots that take it', e => pick(e.currentTarget, {

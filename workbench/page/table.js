@@ -1,13 +1,15 @@
 // A table with its plan: what is wanted, what came of it, the rows, the flow chart, and what comes in and goes out.
+import { isStale } from './answers.js';
 import { addLines, change, closed } from './changes.js';
 import { curesOfPlan } from './cures.js';
 import { h } from './dom.js';
 import { sum } from './exact.js';
 import { saveCertificate, savePage } from './exports.js';
 import { flowSection } from './flows.js';
-import { game, get, isReached, kindOf, newRow } from './game.js';
+import { game, isReached, kindOf, machinesFor, newRow } from './game.js';
 import { goods, pickGood, set } from './goods.js';
 import { icon, look, mark, nameOf, num, PER, plain, power } from './look.js';
+import { tellBeside } from './numbers.js';
 import { edit, pick } from './pick.js';
 import { open } from './routes.js';
 import { allRows, rowsView } from './rows.js';
@@ -22,11 +24,11 @@ import { toast } from './toast.js';
  * @returns {View}
  */
 export function tableView(table) {
-  const plan = planFor(table), isPlan = plan?.kind === 'plan';
+  const plan = planFor(table), isPlan = plan?.kind === 'plan', stale = isStale(table);
   const isEmpty = !table.rows.length && !table.want.size;
-  return h('section.tableview', { key: 'table ' + table.name, 'aria-label': `Table ${plain(table.name)}` },
+  return h('section.tableview' + (stale ? '.stale' : ''), { key: 'table ' + table.name, 'aria-label': `Table ${plain(table.name)}` },
     head(table),
-    isEmpty ? beginning(table) : verdict(table, plan),
+    isEmpty ? beginning(table) : verdict(table, plan, stale),
     table.rows.length > 0 && rowsView(table, plan, S.rates),
     h('div.under', null,
       h(
@@ -35,7 +37,9 @@ export function tableView(table) {
           type: 'button',
           'data-key': 'addrow',
           onclick: e => pick(e.currentTarget, {
-            options: game.ids.filter(i => get(i).by?.length && isReached(i)).map(id => ({ id, note: kindOf(id) })),
+            options: game.ids
+              .filter(i => machinesFor(i).length && isReached(i))
+              .map(id => ({ id, note: kindOf(id) })),
             hint: 'A recipe, a mine, a pump, a technology …',
             done: id => {
               const row = newRow(table, id);
@@ -75,11 +79,20 @@ const beginning = table => h('div.verdict', { key: 'beginning' },
 );
 
 /**
+ * Gives a table another name; where that is another's, it says so by the field.
+ *
  * @param {Table} table
- * @param {string} name
+ * @param {HTMLInputElement} it
  */
-function rename(table, name) {
-  if (!name || name === table.name || S.model.tables.has(name)) return;
+function rename(table, it) {
+  const name = it.value.trim();
+  it.value = name || table.name;
+  if (!name || name === table.name) return;
+  if (S.model.tables.has(name)) {
+    it.value = table.name;
+    tellBeside(it, `✗ another table is called ${plain(name)}`);
+    return;
+  }
   S.route = 'table:' + name;
   change({
     put: Object.fromEntries(linesAbout(S.model, table.name).map(([w, n]) => [n, line(w[0], name, ...w.slice(2))])),
@@ -103,8 +116,8 @@ function remove(table) {
  * @returns {View}
  */
 function head(table) {
-  /** @type {(g: Id) => string} */
-  const unit = g => g === 'special:electricity' ? 'W' : PER[look.per];
+  /** @type {(g: Id) => boolean} */
+  const isPower = g => g === 'special:electricity';
   const title = h('input.title', {
     key: 'title',
     value: table.name,
@@ -112,22 +125,19 @@ function head(table) {
     spellcheck: false,
     size: Math.max(4, Math.min(40, table.name.length)),
     'data-key': 'title',
-    onchange: e => {
-      rename(table, e.target.value.trim());
-      e.target.value = e.target.value.trim() || table.name;
-    },
+    onchange: e => rename(table, e.target),
     onkeydown: e => e.key === 'Enter' && e.target.blur(),
   });
   const wants = [...table.want].map(([g, w]) => h('div.want', { key: 'want ' + g },
     icon(g),
     edit(w.value, {
-      label: `How much of ${nameOf(g)} is wanted, ${unit(g)}`,
+      label: `How much of ${nameOf(g)} is wanted, ${isPower(g) ? 'W' : PER[look.per]}`,
       key: 'want ' + g,
-      per: g === 'special:electricity' ? 1 : look.per,
+      sort: isPower(g) ? 'power' : 'rate',
       wide: true,
       done: x => set(table, 'want', g, x),
     }),
-    h('span.dim', null, unit(g)),
+    !isPower(g) && h('span.dim', null, PER[look.per]),
     h('button.link', { type: 'button', onclick: () => open(g), title: plain(g, 200) }, nameOf(g)),
     mark('×', `${nameOf(g)} is no longer wanted`, () => set(table, 'want', g, null)),
   ));
@@ -140,7 +150,7 @@ function head(table) {
         type: 'button',
         key: 'add',
         'data-key': 'addwant',
-        onclick: e => pickGood(e.currentTarget, 'What else is wanted?', id => set(table, 'want', id, '1')),
+        onclick: e => pickGood(e.currentTarget, 'What else is wanted?', id => set(table, 'want', id, '1'), table.want),
       },
       '+ Want',
     ),
@@ -181,10 +191,15 @@ function head(table) {
 /**
  * @param {Table} table
  * @param {Plan | null} plan
+ * @param {boolean} stale
  * @returns {View}
  */
-function verdict(table, plan) {
-  if (!plan) return h('div.verdict', { key: 'verdict', role: 'status' }, h('span.dim', null, 'Solving …'));
+function verdict(table, plan, stale) {
+  if (!plan || (stale && plan.kind !== 'plan')) {
+    return h('div.verdict', { key: 'verdict', role: 'status' },
+      h('span.dim', null, stale ? 'Not answered: this table is as you left it.' : 'Solving …'),
+    );
+  }
   if (plan.kind !== 'plan') {
     const { why, cures } = curesOfPlan(table, plan);
     return h('div.verdict.bad', { key: 'verdict', role: 'status' },
@@ -209,7 +224,7 @@ function verdict(table, plan) {
   const counts = [...plan.rows.values()].map(r => r.count);
   /** @type {(name: string, value: Child, note?: string) => View} */
   const figure = (name, value, note) => h('div.kpi', { title: note || '' }, h('b', null, value), h('span', null, name));
-  return h('div.verdict.good', { key: 'verdict', role: 'status' },
+  return h('div.verdict' + (stale ? '' : '.good'), { key: 'verdict', role: 'status' },
     figure('machines', num(sum(counts)), 'Whole machines, of all rows'),
     figure('electric power', power(sum(all)), 'At work, at rest and for beacons'),
     figure('pollution /min', num(of('pollution'))),
@@ -218,11 +233,13 @@ function verdict(table, plan) {
       num(plan.cost),
       'What the plan costs a second, in the prices of what comes in, what goes out and rows',
     ),
-    proof(
-      table,
-      'nothing is cheaper',
-      'No plan of this table costs less: its prices prove it. A click gives the certificate, with which anyone can check that.',
-    ),
+    stale
+      ? h('span.unanswered', null, 'Not answered: the figures are those of the table before.')
+      : proof(
+        table,
+        'nothing is cheaper',
+        'No plan of this table costs less: its prices prove it. A click gives the certificate, with which anyone can check that.',
+      ),
   );
 }
 

@@ -9,7 +9,7 @@ import { look, noteOf, PER, plain } from './look.js';
 import { pick } from './pick.js';
 import { go, open, side } from './routes.js';
 import { line } from './script.js';
-import { S, show } from './state.js';
+import { keep, S, show } from './state.js';
 import { toast } from './toast.js';
 
 export const KEYS = '/ search · w wish · 1–9 tabs · e script · Ctrl Z undo · Ctrl Shift Z redo · Esc close';
@@ -38,11 +38,9 @@ export function topView() {
     ? 'typing …'
     : busy
       ? 'working …'
-      : S.conflict
+      : S.conflict || S.saved !== S.script
         ? 'not saved'
-        : S.saved === S.script
-          ? 'saved'
-          : 'not saved';
+        : 'saved';
   return h('header.top', { key: 'top' },
     h('b.brand', null, 'factoplan', h('span', null, ' workbench')),
     h(
@@ -69,7 +67,7 @@ export function topView() {
           'aria-pressed': String(Number(k) === look.per),
           onclick: () => {
             look.per = Number(k);
-            localStorage.setItem('per', k);
+            keep('per', look.per);
             show();
           },
         },
@@ -82,7 +80,7 @@ export function topView() {
         type: 'button',
         id: 'undo',
         disabled: !S.past.length,
-        title: 'Undo (Ctrl Z)',
+        title: 'Undo in the plan (Ctrl Z outside of a field)',
         'aria-label': 'Undo',
         onclick: undo,
       },
@@ -94,7 +92,7 @@ export function topView() {
         type: 'button',
         id: 'redo',
         disabled: !S.future.length,
-        title: 'Redo (Ctrl Shift Z)',
+        title: 'Redo in the plan (Ctrl Shift Z outside of a field)',
         'aria-label': 'Redo',
         onclick: redo,
       },
@@ -272,5 +270,5 @@ export const noticeView = () => [
  */
 export function theme(name) {
   document.documentElement.dataset.theme = name;
-  localStorage.setItem('theme', name);
+  keep('theme', name);
 }

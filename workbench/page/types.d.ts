@@ -10,6 +10,24 @@ type Frac = import('./exact.js').Frac;
 /** A number that is null where it is past the limits of fractions. */
 type Figure = Frac | null;
 
+// ---- Numbers that are typed (numbers.js) ----
+
+/** What a field takes: units a time, watts, belts, a number without a unit, or a whole one. */
+type Sort = 'rate' | 'power' | 'belts' | 'number' | 'whole';
+
+interface Bounds {
+  least?: number;
+  most?: number;
+}
+
+/** What was understood: a number, a second or in watts or belts as `unit` says; null where nothing was. */
+interface Heard {
+  x: Figure;
+  unit: Sort | '';
+  /** What is shown of it, or why there is none. */
+  said: string;
+}
+
 // ---- The game, as its catalog has it (docs/CATALOG.md) ----
 
 /** What a recipe takes or gives: texts of numbers. */

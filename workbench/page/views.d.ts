@@ -35,6 +35,8 @@ interface State {
   /** The text that another tab or editor saved first. */
   conflict: { theirs: string; version: string } | null;
   fault: string;
+  /** Whether the page stands alone: '' is no, `gone` without a server, `other` with another's. */
+  alone: '' | 'gone' | 'other';
   /** When the program answered last (milliseconds of the clock), and how long after that it was shown. */
   times: { answer: number; shown: number };
   route: string;
@@ -60,8 +62,8 @@ interface Game {
 
 /** How things are shown (look.js): names and pictures by kind, seconds of the unit of time, belt, and width in pixels. */
 interface Look {
-  names: { [kind: string]: { [name: string]: string } };
-  pictures: { [kind: string]: Set<string> };
+  names: Map<string, Map<string, string>>;
+  pictures: Map<string, Set<string>>;
   per: number;
   belt: Id | null;
   room: number;
@@ -140,8 +142,7 @@ interface Editing {
   label: string;
   key: string;
   wide?: boolean;
-  /** What the number that is shown is multiplied by. */
-  per?: number;
+  sort?: Sort;
   done: (x: Frac) => any;
 }
 

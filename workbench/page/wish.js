@@ -2,9 +2,10 @@
 import { h } from './dom.js';
 import { Frac } from './exact.js';
 import { game, get, isGood, isReached, kindOf } from './game.js';
-import { icon, look, nameOf, PER } from './look.js';
+import { icon, look, nameOf } from './look.js';
+import { tellBeside } from './numbers.js';
 import { pick } from './pick.js';
-import { allScience, makeWish, unitOf, wish } from './wishing.js';
+import { allScience, amountOf, makeWish, packsAmount, unitOf, wish } from './wishing.js';
 import { options, set } from './wishoptions.js';
 
 /**
@@ -42,9 +43,13 @@ export function wishView() {
       h('input.amount', {
         value: wish.amount,
         'data-key': 'wish amount',
-        inputMode: 'decimal',
         'aria-label': 'How much',
-        oninput: e => set('amount', e.target.value),
+        autocomplete: 'off',
+        'aria-describedby': 'heard',
+        oninput: e => {
+          set('amount', e.target.value);
+          tellBeside(e.target, amountOf().said);
+        },
       }),
       unitView(),
       h(
@@ -80,9 +85,7 @@ export function wishView() {
       'Or ',
       h('button.link', { type: 'button', id: 'science', onclick: allScience }, 'all of them at once'),
       ', ',
-      wish.amount,
-      ' ',
-      PER[look.per],
+      packsAmount().said.replace(/^= /, ''),
       ' each.',
     ),
   );

@@ -5,8 +5,9 @@ import { addLines, change, closed } from './changes.js';
 import { Frac } from './exact.js';
 import { game, get, isReached, kindOf, rawOf } from './game.js';
 import { look, nameOf, PER, plain } from './look.js';
+import { hear } from './numbers.js';
+import { tellWhy } from './refusal.js';
 import { keep, S, show } from './state.js';
-import { toast } from './toast.js';
 
 /** @type {Wish} */
 export const wish = {
@@ -44,14 +45,50 @@ export const unitOf = good => good === 'special:electricity' ? 'W' : PER[look.pe
 const isInBelts = () => wish.inBelts && Boolean(wish.good) && kindOf(wish.good) === 'item' && game.belts.length > 0;
 
 /**
- * A wished amount of a good as a rate: units a second, or watts.
+ * What is understood of the wished amount: units a second, watts, or belts.
  *
- * @param {Frac} x
- * @returns {Frac}
+ * @type {() => Heard}
  */
-function rateOf(x) {
-  if (wish.good === 'special:electricity') return x;
-  return isInBelts() ? x.times(Frac.of(get(look.belt).belt)) : x.over(look.per);
+export const amountOf = () =>
+  hear(wish.amount, wish.good === 'special:electricity' ? 'power' : isInBelts() ? 'belts' : 'rate');
+/**
+ * The same where it is of each science pack.
+ *
+ * @type {() => Heard}
+ */
+export const packsAmount = () => hear(wish.amount, 'rate');
+/**
+ * The rate of an amount: units a second, or watts; null, and why, where there is none above 0.
+ *
+ * @param {Heard} heard
+ * @returns {Figure}
+ */
+function rateOf({ x, unit, said }) {
+  if (x?.n > 0n) return unit === 'belts' ? x.times(Frac.of(get(look.belt).belt)) : x;
+  Object.assign(wish, { said: x ? 'The amount must be above 0.' : `Of the amount: ${said.slice(2)}.`, words: [] });
+  show();
+  return null;
+}
+
+/** How many rows a wish may have, and how many beacons a row: as many as a script's line takes. */
+export const ROWS = { least: 1, most: 512 }, BEACONS = { least: 1, most: 65535 };
+
+/**
+ * Whether the whole numbers of the wish are such; where one isn't, why.
+ *
+ * @returns {boolean}
+ */
+function hasRows() {
+  const { rows, beacon } = wish, beacons = beacon ? [beacon.count, beacon.share] : [];
+  const heard = [
+    ...(rows ? [{ name: 'rows', ...hear(rows, 'whole', ROWS) }] : []),
+    ...beacons.map(n => ({ name: 'beacons', ...hear(`${n}`, 'whole', BEACONS) })),
+  ];
+  const wrong = heard.find(it => !it.x);
+  if (!wrong) return true;
+  Object.assign(wish, { said: `Of the ${wrong.name}: ${wrong.said.slice(2)}.`, words: [] });
+  show();
+  return false;
 }
 
 /**
@@ -69,13 +106,14 @@ function wordsOfWish(wants, table) {
   if (wish.module && wish.other) out.push('--module', wish.other);
   if (wish.fuel) out.push('--fuel', wish.fuel);
   if (wish.beacon) {
-    out.push('--beacon', wish.beacon.by, `${wish.beacon.count}`, `${wish.beacon.share}`, wish.beacon.module);
+    const { by, count, share, module } = wish.beacon;
+    out.push('--beacon', by, ...[count, share].map(n => `${hear(`${n}`, 'whole', BEACONS).x}`), module);
   }
   for (const id of wish.imports) out.push('--import', `${id}=${wish.prices[id] || '1'}`);
   for (const key of ['dig', 'power']) if (wish[key]) out.push('--' + key);
   for (const key of ['without', 'only']) for (const id of wish[key]) out.push('--' + key, id);
-  if (/^[1-9]\d{0,2}$/.test(wish.rows)) {
-    out.push('--rows', wish.rows);
+  if (wish.rows) {
+    out.push('--rows', `${hear(wish.rows, 'whole', ROWS).x}`);
   } else if (wants.length > 1) {
     out.push('--rows', '120');
   }
@@ -142,7 +180,7 @@ export async function makeHere(table, good) {
   await wishing(async () => {
     const made = await linesFor(['--rows-for', good, '--into', table.name]);
     if (made.said) {
-      toast(`No rows for ${nameOf(good)}: ${made.said}`, { bad: true });
+      tellWhy(`no rows for ${nameOf(good)}: ${made.said}`);
     } else {
       addLines(table, ...made.lines);
     }
@@ -152,14 +190,10 @@ export async function makeHere(table, good) {
 
 /** Asks for the wish, and shows the table that it is answered with. */
 export async function makeWish() {
-  const x = Frac.of(wish.amount.trim());
-  if (!wish.good) return;
-  if (!x || x.n <= 0n) {
-    Object.assign(wish, { said: 'The amount must be a number above 0.', words: [] });
-    return show();
-  }
+  const rate = wish.good && rateOf(amountOf());
+  if (!rate || !hasRows()) return;
   await wishing(async () => {
-    const name = nameFor(rawOf(wish.good)), made = await linesFor(wordsOfWish([[wish.good, rateOf(x)]], name));
+    const name = nameFor(rawOf(wish.good)), made = await linesFor(wordsOfWish([[wish.good, rate]], name));
     if (made.said) return made;
     S.route = 'table:' + name;
     change({ add: closed(made.lines) });
@@ -169,14 +203,11 @@ export async function makeWish() {
 
 /** One table for all science packs that can be had: one click for all that research takes. */
 export async function allScience() {
-  const x = Frac.of(wish.amount.trim());
-  if (!x || x.n <= 0n) {
-    Object.assign(wish, { said: 'The amount must be a number above 0.', words: [] });
-    return show();
-  }
+  const rate = rateOf(packsAmount());
+  if (!rate || !hasRows()) return;
   await wishing(async () => {
     const name = nameFor('science');
-    const wants = game.packs.filter(isReached).map(/** @returns {[Id, Frac]} */ pack => [pack, x.over(look.per)]);
+    const wants = game.packs.filter(isReached).map(/** @returns {[Id, Frac]} */ pack => [pack, rate]);
     const made = await linesFor(wordsOfWish(wants, name));
     if (made.said) return made;
     S.route = 'table:' + name;

@@ -2,10 +2,10 @@
 import { h } from './dom.js';
 import { game, get, isGood, isReached, kindOf } from './game.js';
 import { chip, icon, mark, nameOf } from './look.js';
-import { edit, pick } from './pick.js';
+import { edit, pick, whole } from './pick.js';
 import { open } from './routes.js';
 import { show } from './state.js';
-import { wish } from './wishing.js';
+import { BEACONS, ROWS, wish } from './wishing.js';
 
 /** @type {(key: string, value: any) => void} */
 export const set = (key, value) => {
@@ -116,32 +116,33 @@ const cheapestOption = () => h('label.opt', null,
 );
 const rowsOption = () => h('label.opt', null,
   h('span.dim', null, 'Rows at most'),
-  h('input.edit', {
-    type: 'number',
-    min: 1,
-    max: 512,
-    value: wish.rows,
-    placeholder: '40',
-    'data-key': 'wish rows',
-    oninput: e => set('rows', e.target.value),
-  }),
+  whole(
+    {
+      value: wish.rows,
+      placeholder: '40',
+      'data-key': 'wish rows',
+      oninput: e => set('rows', e.target.value),
+    },
+    ROWS,
+    true,
+  ),
 );
 
 function beaconOption() {
   const b = wish.beacon, [first] = those(m => m.kind === 'beacon')();
   if (!b && !first) return null;
   /** @type {(key: string, label: string) => View} */
-  const number = (key, label) => h('input.edit', {
-    type: 'number',
-    min: 1,
-    max: 65535,
-    value: b[key],
-    'aria-label': label,
-    'data-key': 'beacon ' + key,
-    oninput: e => {
-      b[key] = e.target.value;
+  const number = (key, label) => whole(
+    {
+      value: b[key],
+      'aria-label': label,
+      'data-key': 'beacon ' + key,
+      oninput: e => {
+        b[key] = e.target.value;
+      },
     },
-  });
+    BEACONS,
+  );
   const start = () => set('beacon', {
     by: first,
     count: 8,
