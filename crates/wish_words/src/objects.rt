@@ -191,12 +191,7 @@ fn machine<'a>(alloc: Global, game: &Game, word: &'a str) -> Result<EntityId, Na
     requires { IsSound game.now }
     ensures { IfOk result (λ id. IsPlaceOf game.now OneMachine word.now id.0) }
 {
-    Ok(EntityId(place_named(
-        alloc,
-        game,
-        word,
-        Place::OneMachine,
-    )?))
+    Ok(EntityId(place_named(alloc, game, word, Place::OneMachine)?))
 }
 
 /// The machines that words name.
@@ -223,12 +218,7 @@ fn recipe<'a>(alloc: Global, game: &Game, word: &'a str) -> Result<RecipeId, Nam
     requires { IsSound game.now }
     ensures { IfOk result (λ id. IsPlaceOf game.now OneRecipe word.now id.0) }
 {
-    Ok(RecipeId(place_named(
-        alloc,
-        game,
-        word,
-        Place::OneRecipe,
-    )?))
+    Ok(RecipeId(place_named(alloc, game, word, Place::OneRecipe)?))
 }
 
 /// The recipes that words name.
