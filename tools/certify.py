@@ -36,13 +36,13 @@ class Unfit(Exception):
 # ---- words and numbers of scripts and reports
 def words_of(line: str) -> List[str]:
     found = re.finditer(r'"((?:[^"\\]|\\.)*)"|([^ \t"]+)', line)
-    return [it[2] if it[1] is None else re.sub(r"\\(.)", lambda e: PLAIN.get(e[1], e[1]), it[1]) for it in found]
+    return [it[2] if it[1] is None else re.sub(r"\\(.)", lambda e: PLAIN.get(e[1]) or e[1], it[1]) for it in found]
 
 
 def quoted(word: str) -> str:
     if word and word[0] != "#" and not re.search(r'[ \t\n\r"\\]', word):
         return word
-    return '"%s"' % re.sub(r'[\n\t\r"\\]', lambda it: "\\" + ESCAPES.get(it[0], it[0]), word)
+    return '"%s"' % re.sub(r'[\n\t\r"\\]', lambda it: "\\" + (ESCAPES.get(it[0]) or it[0]), word)
 
 
 def number(text: str) -> Fraction:
@@ -63,6 +63,7 @@ def lines_of(name: str) -> List[str]:
 def replies_of(report: List[str]) -> Dict[int, List[List[str]]]:
     """The words of each line of each reply, by the number of the line that it answers."""
     replies: Dict[int, List[List[str]]] = {}
+    last = 0
     for line in report:
         if line.startswith("  "):
             replies[last].append(words_of(line))
@@ -146,7 +147,9 @@ class Solve(NamedTuple):
 
 def solves_of(script: List[str], replies: Dict[int, List[List[str]]], catalog: "Catalog") -> Iterator[Solve]:
     """Carries out the lines that were accepted."""
-    state, done, undone = State({}, {}), [], []
+    state = State({}, {})
+    done: List[State] = []
+    undone: List[State] = []
     held: Optional[List[List[str]]] = None
     rates: Dict[Tuple[str, str], Numbers] = {}
     quiet = False
@@ -164,7 +167,10 @@ def solves_of(script: List[str], replies: Dict[int, List[List[str]]], catalog: "
             yield Solve(line, words[1], state, rates, reply)
         elif command == "rate":
             told = reply[0][3:]
-            rates = {**rates, (words[1], words[2]): {k: Fraction(v) for k, v in zip(told[::2], told[1::2]) if v != "wide"}}
+            rates = {
+                **rates,
+                (words[1], words[2]): {k: Fraction(v) for k, v in zip(told[::2], told[1::2]) if v != "wide"},
+            }
         elif command == "quiet":
             quiet = words[1] == "on"
         elif command in ("batch", "cancel"):
@@ -210,7 +216,7 @@ class Catalog:
             return part["good"]
         return next((name for name in own if name in [it for _, it in fits]), min(fits)[1])
 
-    def joules(self, machine: str, fluid: str) -> Fraction:
+    def joules(self, machine: str, fluid: str) -> Any:
         """What a generator makes of one unit of a fluid, by the dump."""
         if self.dump is None:
             raise Unfit(f"{machine} takes a fluid: how much, only the dump says (--dump)")
@@ -240,12 +246,12 @@ class Catalog:
             for part in self.parts(state, activity, "out"):
                 made[part["good"]] += Fraction(part["amount"]) + rate["productivity"] * Fraction(part["free"])
         else:
-            made[activity] += 1 + (rate["productivity"] if kind == "tech" else 0)
+            made[activity] += 1 + (rate["productivity"] if kind == "tech" else Fraction(0))
         for part in self.parts(state, activity, "in"):
             made[self.choice(part, own)] -= Fraction(part["amount"])
         if machine["kind"] in ("boiler", "generator"):
             fluid = self.choice({"good": machine["takes"]}, own) if "takes" in machine else own[0]
-            made[fluid] -= 1 if machine["kind"] == "boiler" else 1 / self.joules(by, fluid)
+            made[fluid] -= Fraction(1) if machine["kind"] == "boiler" else 1 / self.joules(by, fluid)
         if fuel:
             made[fuel] -= rate["fuel"]
             burnt = self.things[fuel].get("burnt")
