@@ -34,15 +34,23 @@ class Unfit(Exception):
 
 
 # ---- words and numbers of scripts and reports
+def plain(escape: "re.Match[str]") -> str:
+    return PLAIN.get(escape[1], escape[1])
+
+
+def escaped(char: "re.Match[str]") -> str:
+    return "\\" + ESCAPES.get(char[0], char[0])
+
+
 def words_of(line: str) -> List[str]:
     found = re.finditer(r'"((?:[^"\\]|\\.)*)"|([^ \t"]+)', line)
-    return [it[2] if it[1] is None else re.sub(r"\\(.)", lambda e: PLAIN.get(e[1]) or e[1], it[1]) for it in found]
+    return [it[2] if it[1] is None else re.sub(r"\\(.)", plain, it[1]) for it in found]
 
 
 def quoted(word: str) -> str:
     if word and word[0] != "#" and not re.search(r'[ \t\n\r"\\]', word):
         return word
-    return '"%s"' % re.sub(r'[\n\t\r"\\]', lambda it: "\\" + (ESCAPES.get(it[0]) or it[0]), word)
+    return '"%s"' % re.sub(r'[\n\t\r"\\]', escaped, word)
 
 
 def number(text: str) -> Fraction:
