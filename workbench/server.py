@@ -108,7 +108,9 @@ class Handler(http.server.BaseHTTPRequestHandler):
 
     def proof_of(self, question: str) -> str:
         """What only a server of this address that has the token can say: a page asks for it before it gives its own."""
-        return hmac.new(self.server.token.encode(), ("%s %s" % (self.headers["Host"], question)).encode(), "sha256").hexdigest()
+        return hmac.new(
+            self.server.token.encode(), ("%s %s" % (self.headers["Host"], question)).encode(), "sha256"
+        ).hexdigest()
 
     # ---- Files and pictures ----
 

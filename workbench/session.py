@@ -58,7 +58,8 @@ class Session:
         """The replies to the lines of a script by their numbers, but for those that are just `ok` or `held`, and those
         to questions behind it. Each is a list of lines.
 
-        A session that died is started again where it was; what it dies of a second time is told.
+        A session that died is started again where it was; what it dies of a second time is told, and so is what takes
+        too long in a session that was new.
         """
         if len(lines) > MOST_SCRIPT_LINES:
             raise Refused(413, "the script has more than %d lines" % MOST_SCRIPT_LINES)
@@ -67,27 +68,25 @@ class Session:
                 raise Refused(400, "that is no question")
         with self.lock, self.limits:
             try:
-                self.stopped = False
+                self.stopped, before = False, self.starts
                 try:
                     return self.answers_once(lines, questions)
                 except Died as fault:
                     self.end()
-                    self.tell_end(fault)
+                    if self.stopped or (isinstance(fault, Late) and self.starts > before):
+                        raise self.refusal(fault)
                 try:
                     return self.answers_once(lines, questions)
                 except Died as fault:
                     self.end()
-                    raise Refused(502, "the planner ended: %s" % fault)
+                    raise self.refusal(fault)
             finally:
                 if self.retired:
                     self.end()
 
-    def tell_end(self, fault: Died) -> None:
-        """Refuses what isn't tried a second time: what was stopped, and what takes too long."""
-        if self.stopped:
-            raise Refused(409, "it was stopped")
-        if isinstance(fault, Late):
-            raise Refused(502, "the planner ended: %s" % fault)
+    def refusal(self, fault: Died) -> Refused:
+        """What is told of a session that died."""
+        return Refused(409, "it was stopped") if self.stopped else Refused(502, "the planner ended: %s" % fault)
 
     def answers_once(
         self, lines: list[bytes], questions: list[bytes]

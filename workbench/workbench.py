@@ -36,7 +36,9 @@ def asked_words(words: list[str]) -> argparse.Namespace:
     )
     p.add_argument("--program", metavar="PATH", default=PROGRAM, help="the built program")
     p.add_argument(
-        "--script-output", metavar="DIR", help="the game's folder with its pictures and names (that of DUMP, if it is one)"
+        "--script-output",
+        metavar="DIR",
+        help="the game's folder with its pictures and names (that of DUMP, if it is one)",
     )
     p.add_argument(
         "--port",

@@ -1,4 +1,4 @@
-// The page without its server: what it says then, and how it takes up where it was once a server of the folder is there.
+// The page without its server: what it says then, and how it goes on where it was once a server of the folder is there.
 import { answering, run } from './answers.js';
 import { download, greet, onLost } from './calls.js';
 import { h } from './dom.js';

@@ -118,7 +118,8 @@ async function once(save) {
   S.busy = false;
   show();
   drawnWithin(out.at);
-  tellRefused();
+  // (behind what is drawn of it, which may move what was clicked)
+  queueMicrotask(tellRefused);
   await others(text);
 }
 

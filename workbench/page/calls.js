@@ -33,6 +33,8 @@ export async function takeToken() {
   } else {
     token = given.length > 7 ? given : sessionStorage.getItem('token') || '';
   }
+  // (what another folder's page left in this tab isn't ours)
+  if (sessionStorage.getItem('token') !== token) sessionStorage.clear();
   sessionStorage.setItem('token', token);
 }
 
@@ -42,6 +44,9 @@ export async function takeToken() {
  * @type {(kind: string, name: string) => string}
  */
 export const picturePath = (kind, name) => `/picture/${token}/${kind}/${encodeURIComponent(name)}`;
+
+// (the address of another server in the same tab changes only what is behind #)
+window.addEventListener('hashchange', () => location.hash.length > 8 && location.reload());
 
 /** @type {(bytes: ArrayBuffer | Uint8Array) => string} */
 const hex = bytes => Array.from(new Uint8Array(bytes), b => b.toString(16).padStart(2, '0')).join('');

@@ -482,7 +482,7 @@ def conflict(b, bench):
         check("the choice isn't covered at %d pixels" % width, seen)
     b.size(*SIZES[0])
     b.click("#keep-both")
-    names = sorted(os.listdir(bench.folder))
+    names = bench.files()
     with open(os.path.join(bench.folder, "factory (mine).txt")) as file:
         mine = file.read()
     check(

@@ -124,6 +124,10 @@ class Bench:
         except FileNotFoundError:
             return b""
 
+    def files(self):
+        """What is in the folder beside that which the workbench keeps there of itself."""
+        return sorted(name for name in os.listdir(self.folder) if name != ".workbench")
+
     def children(self):
         """The runs of the program below the server, whichever of its threads began them."""
         found = []

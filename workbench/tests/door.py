@@ -4,6 +4,7 @@ import base64
 import json
 import os
 import shutil
+import signal
 import socket
 import subprocess
 import sys
@@ -178,8 +179,8 @@ def paths(program):
                 check("no %s of a file %r" % (call, name[:20]), status in (400, 404), (status, reply))
         check(
             "and nothing was written",
-            sorted(os.listdir(bench.folder)) == ["factory.txt", "folder.txt", "link.txt", "secret.json"],
-            os.listdir(bench.folder),
+            bench.files() == ["factory.txt", "folder.txt", "link.txt", "secret.json"],
+            bench.files(),
         )
         for call in ("do_run", "end", "session", "__init__", "text", "nothing"):
             check("no call of %s" % call, bench.ask("POST", "/api/" + call, b"{}", bench.headers())[0] == 404)
@@ -330,11 +331,25 @@ def number_limit(program):
             statuses,
         )
     with Bench(program) as bench:
-        held = [socket.create_connection(("127.0.0.1", bench.port)) for _ in range(70)]
-        check("not more than 64 connections", until(lambda: bench.ask("GET", "/", seconds=5)[0] == 0))
+        held = [socket.create_connection(("127.0.0.1", bench.port)) for _ in range(80)]
+        begun = time.time()
+        status = bench.ask("GET", "/", seconds=20)[0]
+        check("80 connections that say nothing keep nobody out", status == 200 and time.time() - begun < 3, status)
+        open_still = sum(not is_ended(it) for it in held)
+        check("and not more than 64 are open", 32 <= open_still < 64, open_still)
         for it in held:
             it.close()
-        check("and those that end make room", until(lambda: bench.ask("GET", "/", seconds=5)[0] == 200))
+
+
+def is_ended(connection):
+    """Whether the other end of a connection is closed."""
+    connection.settimeout(0.01)
+    try:
+        return connection.recv(1) == b""
+    except socket.timeout:
+        return False
+    except ConnectionError:
+        return True
 
 
 def patience(program):
@@ -346,7 +361,7 @@ def patience(program):
         with open(os.path.join(copy, "server.py")) as file:
             text = file.read()
         with open(os.path.join(copy, "server.py"), "w") as file:
-            file.write(text.replace("PATIENCE = 30", "PATIENCE = 1"))
+            file.write(text.replace("HEAD, NEXT, PATIENCE = 5, 20, 30", "HEAD, NEXT, PATIENCE = 1, 1, 1"))
         with Bench(program, server=copy) as bench:
             for half in (
                 b"",
@@ -364,6 +379,18 @@ def patience(program):
                     except socket.timeout:
                         ended = False
                 check("a connection that stops after %d bytes is ended" % min(len(half), 100), ended)
+            with socket.create_connection(("127.0.0.1", bench.port), timeout=8) as it:
+                check("and so is one that says a letter at a time", until(lambda: is_dripped_out(it), 6))
+
+
+def is_dripped_out(connection):
+    """Whether a connection is ended, to which a letter more is said."""
+    time.sleep(0.2)
+    try:
+        connection.sendall(b"x")
+    except ConnectionError:
+        return True
+    return is_ended(connection)
 
 
 def opens(program):
@@ -380,12 +407,75 @@ def opens(program):
                     return file.read()
 
             check(
-                "it opens the browser on its address",
+                "it opens the browser on its address, with a word in place of the token",
                 until(lambda: os.path.exists(told))
-                and said() == bench.url
-                and bench.url.startswith("http://127.0.0.1:"),
-                bench.url,
+                and said().startswith("http://%s/#once-" % bench.here)
+                and bench.token not in said(),
+                (bench.url, os.path.exists(told) and said()),
             )
+            word = said().split("#once-")[1]
+            enter = lambda given, **changes: bench.ask(
+                "POST",
+                "/api/enter",
+                json.dumps({"word": given}).encode(),
+                bench.headers(**{"X_Workbench_Token": None, **changes}),
+            )
+            for what, given in (("another word", word + "x"), ("no word", None), ("a list", [word])):
+                check("no token for %s" % what, enter(given)[0] == 403)
+            check("nor for a page of another site", enter(word, Origin="http://evil.example")[0] == 403)
+            check("the word gives the token", json.loads(enter(word)[2]) == {"token": bench.token})
+            check("once", enter(word)[0] == 403)
+            check("a long request is refused without the token", enter("x" * 2000)[0] == 413)
+
+
+def foreground(program):
+    """A browser of the terminal, which stays in the foreground, is answered; and Ctrl C ends without a traceback."""
+    with tempfile.TemporaryDirectory() as room:
+        browser = os.path.join(room, "browser")
+        with open(browser, "w") as file:
+            file.write("#!/bin/sh\nexec sleep 60\n")
+        os.chmod(browser, 0o755)
+        with Bench(program, opens=True, env={**os.environ, "BROWSER": browser}, more=["--port", "0"]) as bench:
+            check("it answers beside a browser in the foreground", bench.ask("GET", "/", seconds=5)[0] == 200)
+            check("the browser is there", until(bench.children))
+            sleeping = bench.children()
+            bench.process.send_signal(signal.SIGINT)
+            status = bench.process.wait(10)
+            for pid in sleeping:
+                os.kill(pid, signal.SIGKILL)
+            said = bench.process.stderr.read()
+            check("Ctrl C ends it without a word", status == 0 and said == "", (status, said))
+
+
+def ports(program):
+    """Where a port is taken it is one of the next, and it says so; a folder keeps its port and its token."""
+    with tempfile.TemporaryDirectory() as folder:
+        with Bench(program, folder=folder, more=["--port", "0"]) as bench:
+            first = bench.url
+            with Bench(program, more=["--port", str(bench.port)]) as other:
+                other.process.send_signal(signal.SIGINT)
+                said = other.process.stderr.read()
+                check(
+                    "a taken port is told, and one of the next taken",
+                    bench.port < other.port <= bench.port + 20
+                    and said == "factoplan: port %d is taken, so it is %d\n" % (bench.port, other.port),
+                    said,
+                )
+        kept = os.path.join(folder, ".workbench", "address")
+        check(
+            "the address is kept for nobody else to read",
+            os.stat(kept).st_mode & 0o777 == 0o600 and os.stat(os.path.dirname(kept)).st_mode & 0o777 == 0o700,
+        )
+        with Bench(program, folder=folder) as bench:
+            check("a server that is started anew has its address", bench.url == first, (bench.url, first))
+            status = bench.call("keep", values={"theme": "dark", "per": 1})[0]
+            check("and keeps how the page is left", status == 200 and not bench.process.poll())
+        with Bench(program, folder=folder, more=["--port", "0"]) as bench:
+            found = bench.call("open")[1]["kept"]
+            check("also at another port", found == {"theme": "dark", "per": 1} and bench.url != first, found)
+        os.chmod(kept, 0o644)
+        with Bench(program, folder=folder, more=["--port", str(first.split(":")[2].split("/")[0])]) as bench:
+            check("a token that others could read isn't taken again", bench.url != first)
 
 
 def plain_python(program):
@@ -441,6 +531,8 @@ PARTS = [
     number_limit,
     patience,
     opens,
+    foreground,
+    ports,
     plain_python,
     ends,
 ]

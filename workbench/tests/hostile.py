@@ -103,6 +103,40 @@ def names(program, make):
                 b.it.quit()
 
 
+def own_names(program, make):
+    """Names that each object of JavaScript has by itself are names like others."""
+    with tempfile.TemporaryDirectory() as room:
+        with open(DUMP) as file:
+            dump = json.load(file)
+        text = "table t\nimport t item:iron-ore 1\n"
+        for name in ("constructor", "__proto__", "toString"):
+            dump["item"][name] = {**dump["item"]["iron-plate"], "name": name}
+            dump["recipe"][name] = json.loads(json.dumps(dump["recipe"]["iron-plate"]).replace("iron-plate", name))
+            text += "row t %s recipe:%s by machine:electric-furnace\nwant t item:%s 1\n" % (name, name, name)
+        path, output = os.path.join(room, "data-raw-dump.json"), os.path.join(room, "item-locale.json")
+        for place, it in ((path, dump), (output, {"names": {"__proto__": "Proto", "iron-ore": "Ore"}})):
+            with open(place, "w") as file:
+                json.dump(it, file)
+        # (the game leaves the dump beside its names)
+        with Bench(program, dump=path, text=text.encode()) as bench:
+            b = make()
+            try:
+                b.it.get(bench.url)
+                b.settle()
+                check("such a table has a plan", "nothing is cheaper" in b.text(".proof"), b.text("body"))
+                rows = b.text(".rows")
+                check("with its names", all(it in rows for it in ("Constructor", "ToString", "Proto")), rows)
+                check("and those of the dump's folder", "Ore" in b.text(".side"), b.text(".side"))
+                for route in ("explore", "what", "wish"):
+                    b.click('[data-route="%s"]' % route)
+                b.click("#good")
+                b.one(".picker input").send_keys("constructor")
+                check("and it is found", "Constructor" in b.text(".picker"), b.text(".picker"))
+                check("no complaints of the browser", not b.faults(), b.faults())
+            finally:
+                b.it.quit()
+
+
 def safe(b, where):
     """No name became an element or ran, none turns what stands beside it, and none pushes the page apart."""
     check("%s: nothing ran" % where, b.js("return window.pwned === undefined"))
@@ -200,4 +234,4 @@ def answered(b, amount):
     return stood, worked
 
 
-PARTS = [names, unread, large]
+PARTS = [names, own_names, unread, large]

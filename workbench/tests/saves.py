@@ -74,7 +74,7 @@ for name in names:
 
 
 def left_of(folder):
-    return sorted(n for n in os.listdir(folder) if n != "factory.txt")
+    return sorted(n for n in os.listdir(folder) if n not in ("factory.txt", ".workbench"))
 
 
 def said_by(code):

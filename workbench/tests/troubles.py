@@ -57,8 +57,8 @@ def full(program, b):
         )
         check(
             "the old text stays on the disk, alone",
-            bench.saved() == TEXT and os.listdir(bench.folder) == ["factory.txt"],
-            os.listdir(bench.folder),
+            bench.saved() == TEXT and bench.files() == ["factory.txt"],
+            bench.files(),
         )
         check("and the new one on the page", b.one("textarea").get_attribute("value").endswith("much more \n"))
         resource.prlimit(bench.process.pid, resource.RLIMIT_FSIZE, limits)
