@@ -1,4 +1,5 @@
 """What the tools here read of a checkout: its crates, its version and the toolchain's name."""
+import os
 import pathlib
 import re
 import shutil
@@ -36,6 +37,22 @@ def closure(names: List[str], crates: Dict[str, List[str]]) -> List[str]:
     for name in names:
         visit(name)
     return found
+
+
+def lay_out(names: List[str], crates: Dict[str, List[str]], room: str) -> None:
+    """Copies what is proved and run of these crates, as a repository of its own."""
+    os.mkdir(f"{room}/.git")
+    with open(f"{room}/crates.txt", "w", encoding="utf-8") as file:
+        file.write("".join(f"{name}: {' '.join(crates[name])}\n" for name in names))
+    shutil.copy(TOP / "HANDLES", f"{room}/HANDLES")
+    for name in names:
+        for part in (*PARTS, *RUN_ON):
+            path, to = TOP / "crates" / name / part, f"{room}/crates/{name}/{part}"
+            if path.is_dir():
+                shutil.copytree(path, to)
+            elif path.is_file():
+                os.makedirs(os.path.dirname(to), exist_ok=True)
+                shutil.copy(path, to)
 
 
 def of_launcher(name: str) -> str:

@@ -85,7 +85,7 @@ balanced g t goods columns rates e o plan s within =
     subst (λ (k : ℕ). sum_below (column_count l) (λ j. column_part l j k *ʳ number_at rates j) ≡ want_at l k) at.spot_is here
 
 -- ---- what columns cost
-column_costs : List LinearColumn → List Fraction → Fraction
+abbrev column_costs : List LinearColumn → List Fraction → Fraction
 column_costs [] rates = zero_fraction
 column_costs (c ∷ cs) [] = zero_fraction
 column_costs (c ∷ cs) (rate ∷ rates) = rate *ʳ c.price +ʳ column_costs cs rates

@@ -5,6 +5,7 @@ ghost use Rattle.planner_core.specs.Lines.{IsSessionOf};
 ghost use Rattle.plan_io.specs.Lines.{lines_of};
 ghost use Rattle.planner_core.specs.Replies.{reached_marks};
 ghost use Rattle.script_runner.specs.Leading.{Continues};
+ghost use Rattle.wish_words.specs.Named.{IsWishOf};
 ghost use Rattle.wish_answers.specs.Meeting.{HasMet, MeetsWish};
 
 use crate::failures::Failure;
@@ -60,7 +61,8 @@ fn found_in(
     command: &str,
     said: &mut String,
 ) -> Result<Found, Failure>
-    ensures { IfOk result (λ found. found.wish.power ≡ asked.now.power) }
+    ensures asked { IfOk result (λ found. IsWishOf planner.now.state.book.game given.now.belt asked.now found.wish) }
+    ensures hidden { IfOk result (λ found. found.wish.hidden ≡ given.now.hidden.now) }
 {
     found_lines(
         alloc,
@@ -147,7 +149,7 @@ pub fn answered_lines<L>(
     ensures planned { IfOk result (λ answer. answer.done.planned ≡ true) }
     ensures few { IfOk result (λ answer. answer.done.count ≤ 100_000) }
     ensures counted { IfOk result (λ answer. answer.done.count ≡ before.count + length (lines_of (string_bytes answer.lines))) }
-    ensures met { IfOk result (λ answer. asked.now.more ≡ None → MeetsWish planner.old planner.new asked.now.table.now asked.now.power) }
+    ensures met { IfOk result (λ answer. asked.now.more ≡ None → MeetsWish planner.old planner.new given.now asked.now) }
     ensures history { (base : State) → IsSessionOf base planner.old → IsSessionOf base planner.new }
 {
     let reached = reached_in(planner, said)?;

@@ -3,6 +3,7 @@ ghost use Rattle.std.specs.Prelude.{◌≡◌, IfOk};
 ghost use Rattle.game_types.specs.Sound.{IsSound};
 ghost use Rattle.planner_tables.specs.Effects.{AreSoundTables};
 ghost use Rattle.production_table.specs.Tables.{IsSoundTable};
+ghost use Rattle.wish_words.specs.Named.{IsWishOf};
 
 use crate::failures::Failure;
 use fractions::Ratio;
@@ -200,7 +201,8 @@ pub fn found_lines(
 ) -> Result<Found, Failure>
     requires game { IsSound game.now }
     requires tables { AreSoundTables game.now tables.now }
-    ensures { IfOk result (λ found. found.wish.power ≡ asked.now.power) }
+    ensures asked { IfOk result (λ found. IsWishOf game.now given.now.belt asked.now found.wish) }
+    ensures hidden { IfOk result (λ found. found.wish.hidden ≡ given.now.hidden.now) }
 {
     match wish_of(alloc, game, reached, asked, given.belt, given.hidden) {
         Ok(wish) => lines_for(alloc, game, reached, tables, asked, wish, command, said),

@@ -66,7 +66,7 @@ fn join(script: &mut Vec<u8>, lines: &str) -> Result<(), NoMemory>
 }
 
 /// Puts the lines for the wish that the words ask for behind a script, whose own lines come first, on lines of their own. All are carried out: none is refused,
-/// and the last is answered by a plan. A new table meets the wish by what is reached behind the script's own lines. A good without a rate is wished for at the rate of a belt. The words of a command stand in the
+/// and the last is answered by a plan. A new table meets the wish of the words, each good that they name at its rate, by what is reached behind the script's own lines. A good without a rate is wished for at the rate of a belt. The words of a command stand in the
 /// comments before those that ask for more rows.
 ///
 /// # Errors
@@ -84,7 +84,7 @@ pub fn whole_script<L>(
 ) -> Result<(), Failure>
     ensures leads { OnOk result (LeadsToPlan planner.old script.new.items planner.new) }
     ensures keeps { OnOk result ((lines : List ℕ) × (script.new.items ≡ joined script.old.items lines)) }
-    ensures met { OnOk result (asked.now.more ≡ None → MeetsWishBehind planner.old script.old.items planner.new asked.now.table.now asked.now.power) }
+    ensures met { OnOk result (asked.now.more ≡ None → MeetsWishBehind planner.old script.old.items planner.new given.now asked.now) }
     ensures history { (base : State) → IsSessionOf base planner.old → IsSessionOf base planner.new }
 {
     let before = carry_script(alloc, planner, script.as_slice(), said, steps)?;

@@ -1,6 +1,9 @@
 //! The wish that words ask for, by what they name in a game.
-ghost use Rattle.std.specs.Prelude.{◌≡◌, IfOk};
+ghost use Rattle.std.specs.Prelude.{◌≡◌, ◌++◌, [], ◌∷◌, Some, None, IfOk, OnOk};
+ghost use Rattle.std.specs.List.{AllZip};
 ghost use Rattle.game_types.specs.Sound.{IsSound};
+ghost use Rattle.script_reader.specs.declared.fields.Place.TheVariants.{OneItem};
+ghost use Rattle.wish_words.specs.Named.{BothOrNone, IsBeaconOf, IsImportOf, IsPlaceOf, IsWantOf, IsWishOf, cheapest_of, rate_or};
 
 use crate::asked::{AskedBeacon, AskedImport, AskedWish, Least, WishRequest};
 use crate::objects::{
@@ -17,7 +20,9 @@ fn add<'a>(
     word: &'a str,
     pair: (GoodId, Ratio),
     pairs: &mut Vec<(GoodId, Ratio)>,
-) -> Result<(), NameFault<'a>> {
+) -> Result<(), NameFault<'a>>
+    ensures { OnOk result (pairs.new.items ≡ pairs.old.items ++ pair ∷ []) }
+{
     if pairs.iter().any(|other| other.0.0 == pair.0.0) {
         return Err(NameFault::Twice(word));
     }
@@ -26,7 +31,9 @@ fn add<'a>(
 }
 
 // The units a second that are wished for.
-fn rate_of<'a>(asked: &AskedWish<'a>, belt: &Option<Ratio>) -> Result<Ratio, NameFault<'a>> {
+fn rate_of<'a>(asked: &AskedWish<'a>, belt: &Option<Ratio>) -> Result<Ratio, NameFault<'a>>
+    ensures { IfOk result (λ rate. rate_or asked.now.rate belt.now ≡ Some rate) }
+{
     if let Some(rate) = asked.rate {
         return Ok(rate);
     }
@@ -34,6 +41,22 @@ fn rate_of<'a>(asked: &AskedWish<'a>, belt: &Option<Ratio>) -> Result<Ratio, Nam
         Some(rate) => Ok(*rate),
         None => Err(NameFault::NoRate(asked.good)),
     }
+}
+
+// One good that is wished for.
+fn want<'a>(
+    alloc: Global,
+    game: &Game,
+    reached: &[bool],
+    asked: &AskedWish<'a>,
+    belt: &Option<Ratio>,
+) -> Result<(GoodId, Ratio), NameFault<'a>>
+    requires { IsSound game.now }
+    ensures { IfOk result (IsWantOf game.now belt.now asked.now) }
+{
+    let good = wished_good(alloc, game, reached, asked.good)?;
+    let rate = rate_of(asked, belt)?;
+    Ok((good, rate))
 }
 
 // What is wished for.
@@ -45,12 +68,12 @@ fn wants<'a>(
     belt: &Option<Ratio>,
 ) -> Result<Vec<(GoodId, Ratio)>, NameFault<'a>>
     requires { IsSound game.now }
+    ensures { IfOk result (λ wants. AllZip (IsWantOf game.now belt.now) asked.now wants.items) }
 {
     let mut wants = Vec::new(alloc);
     for wish in asked {
-        let good = wished_good(alloc, game, reached, wish.good)?;
-        let rate = rate_of(wish, belt)?;
-        add(wish.good, (good, rate), &mut wants)?;
+        let want = want(alloc, game, reached, wish, belt)?;
+        add(wish.good, want, &mut wants)?;
     }
     Ok(wants)
 }
@@ -64,6 +87,7 @@ fn all_wants<'a>(
     belt: &Option<Ratio>,
 ) -> Result<Items<(GoodId, Ratio)>, NameFault<'a>>
     requires { IsSound game.now }
+    ensures { IfOk result (λ wants. asked.now.more ≡ None → AllZip (IsWantOf game.now belt.now) asked.now.wishes.items wants) }
 {
     let mut wants = wants(alloc, game, reached, asked.wishes.as_slice(), belt)?;
     if let Some(more) = asked.more {
@@ -73,6 +97,19 @@ fn all_wants<'a>(
     Ok(Items::from_vec(wants))
 }
 
+// One good that is taken as it is, with its price.
+fn import<'a>(
+    alloc: Global,
+    game: &Game,
+    reached: &[bool],
+    asked: &AskedImport<'a>,
+) -> Result<(GoodId, Ratio), NameFault<'a>>
+    requires { IsSound game.now }
+    ensures { IfOk result (IsImportOf game.now asked.now) }
+{
+    Ok((good(alloc, game, reached, asked.good)?, asked.price))
+}
+
 fn imports<'a>(
     alloc: Global,
     game: &Game,
@@ -80,11 +117,12 @@ fn imports<'a>(
     asked: &[AskedImport<'a>],
 ) -> Result<Items<(GoodId, Ratio)>, NameFault<'a>>
     requires { IsSound game.now }
+    ensures { IfOk result (λ imports. AllZip (IsImportOf game.now) asked.now imports) }
 {
     let mut imports = Vec::new(alloc);
-    for import in asked {
-        let good = good(alloc, game, reached, import.good)?;
-        add(import.good, (good, import.price), &mut imports)?;
+    for asked in asked {
+        let import = import(alloc, game, reached, asked)?;
+        add(asked.good, import, &mut imports)?;
     }
     Ok(Items::from_vec(imports))
 }
@@ -95,6 +133,7 @@ fn fuel<'a>(
     word: Option<&'a str>,
 ) -> Result<Option<GoodId>, NameFault<'a>>
     requires { IsSound game.now }
+    ensures { IfOk result (BothOrNone (λ word item. IsPlaceOf game.now OneItem word.now item.0) word.entry) }
 {
     match word {
         Some(word) => Ok(Some(item(alloc, game, word)?)),
@@ -108,6 +147,7 @@ fn surrounding<'a>(
     asked: Option<AskedBeacon<'a>>,
 ) -> Result<Option<WishBeacon>, NameFault<'a>>
     requires { IsSound game.now }
+    ensures { IfOk result (BothOrNone (IsBeaconOf game.now) asked.entry) }
 {
     let Some(asked) = asked else {
         return Ok(None);
@@ -122,7 +162,9 @@ fn surrounding<'a>(
     }))
 }
 
-fn cheapest(asked: Least) -> Cheapest {
+fn cheapest(asked: Least) -> Cheapest
+    ensures { result ≡ cheapest_of asked }
+{
     match asked {
         Least::Cost => Cheapest::Cost,
         Least::Power => Cheapest::Power,
@@ -156,7 +198,7 @@ pub fn wish_of<'a>(
 ) -> Result<Wish, NameFault<'a>>
     requires { IsSound game.now }
     ensures hidden { IfOk result (λ wish. wish.hidden ≡ hidden.now) }
-    ensures asked { IfOk result (λ wish. (wish.rows ≡ asked.now.choice.rows) × (wish.dig ≡ asked.now.dig) × (wish.power ≡ asked.now.power)) }
+    ensures asked { IfOk result (IsWishOf game.now belt asked.now) }
 {
     let wants = all_wants(alloc, game, reached, asked, &belt)?;
     let by = machines(alloc, game, asked.by.as_slice())?;

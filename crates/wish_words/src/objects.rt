@@ -1,10 +1,18 @@
 //! What a word names in a game.
+ghost use Rattle.std.specs.Prelude.{◌≡◌, true, None, IfOk};
+ghost use Rattle.std.specs.List.{AllZip};
 ghost use Rattle.game_types.specs.Sound.{IsSound};
+ghost use Rattle.game_types.specs.Temperatures.{is_fit};
+ghost use Rattle.script_reader.specs.Fields.{IsObjectAt};
+ghost use Rattle.script_reader.specs.declared.fields.Place.TheVariants.{OneItem, OneMachine, OneRecipe};
+ghost use Rattle.wish_words.specs.Named.{IsGoodOf, IsNamedGood, IsPlaceOf};
 
 use game_types::{Game, MachineKind};
-use plan_base::{EntityId, GoodId, Items, Kind, NoMemory, RecipeId, TechId};
+use plan_base::{Denied, EntityId, GoodId, Items, NoMemory, RecipeId};
+use plan_lines::Object;
 use script_reader::{Place, ScriptFault, object_at};
 use std::alloc::{AllocFailed, Global};
+use table_rows::good_named;
 use wish_estimates::{all_variants, given_variants};
 
 /// Why words name no wish.
@@ -37,59 +45,108 @@ impl<'a> From<NoMemory> for NameFault<'a> {
     }
 }
 
-// The kind and the place of the object that a word names.
-fn object<'a>(
+// The object that a word writes.
+#[tactic(auto, unfolding(script_reader::specs::Reading::Answers, script_reader::specs::Reading::the_one))]
+fn object<'a>(alloc: Global, word: &'a str, place: Place) -> Result<Object, NameFault<'a>>
+    ensures { IfOk result (λ object. IsObjectAt place word.now object) }
+{
+    match object_at(alloc, word, place) {
+        Ok(object) => Ok(object),
+        Err(ScriptFault::NoMemory) => Err(NameFault::NoMemory),
+        Err(_) => Err(NameFault::Unknown(word, place)),
+    }
+}
+
+// The place of the thing that a word names, among those of its kind.
+fn place_named<'a>(
     alloc: Global,
     game: &Game,
     word: &'a str,
     place: Place,
-) -> Result<(Kind, u32), NameFault<'a>>
+) -> Result<u32, NameFault<'a>>
     requires { IsSound game.now }
+    ensures { IfOk result (IsPlaceOf game.now place word.now) }
 {
-    let object = match object_at(alloc, word, place) {
-        Ok(object) => object,
-        Err(ScriptFault::NoMemory) => return Err(NameFault::NoMemory),
-        Err(_) => return Err(NameFault::Unknown(word, place)),
-    };
-    match game.find(object.kind, object.name.as_str()) {
-        Some(node) => Ok(game.shape().kind_of(node)),
+    let object = object(alloc, word, place)?;
+    match game.place_of(object.kind, object.name.as_str()) {
+        Some(index) => Ok(index),
         None => Err(NameFault::Unknown(word, place)),
     }
 }
 
-// A fluid that has one temperature: itself, or the only one of its variants that something reached gives.
-fn fluid<'a>(
+// The good of a table that a word names.
+fn good_of_word<'a>(alloc: Global, game: &Game, word: &'a str) -> Result<GoodId, NameFault<'a>>
+    requires { IsSound game.now }
+    ensures { IfOk result (IsNamedGood game.now word.now) }
+{
+    let object = object(alloc, word, Place::TableGood)?;
+    match good_named(alloc, game, &object) {
+        Ok(good) => Ok(good),
+        Err(Denied::Refused(_)) => Err(NameFault::Unknown(word, Place::TableGood)),
+        Err(Denied::NoMemory) => Err(NameFault::NoMemory),
+    }
+}
+
+// The good itself, or of a fluid of several temperatures the only variant that something reached gives, where there is one alone.
+fn way_to(
     alloc: Global,
     game: &Game,
     reached: &[bool],
-    word: &'a str,
-    place: u32,
-) -> Result<GoodId, NameFault<'a>>
+    named: GoodId,
+) -> Result<Option<GoodId>, NoMemory>
     requires { IsSound game.now }
 {
-    let good = GoodId(game.shape().items.saturating_add(place));
-    if !game.is_base(good) {
-        return Ok(good);
+    if !game.is_base(named) {
+        return Ok(Some(named));
     }
-    let variants = given_variants(alloc, game, reached, good)?;
+    let variants = given_variants(alloc, game, reached, named)?;
     match variants.as_slice() {
-        [only] => Ok(*only),
-        _ => Err(NameFault::SeveralTemperatures(word, good)),
+        [only] => Ok(Some(*only)),
+        _ => Ok(None),
     }
 }
 
-// One unit of a technology.
-fn unit<'a>(game: &Game, word: &'a str, place: u32) -> Result<GoodId, NameFault<'a>>
+// The first variant of a fluid to which there is no way at any temperature: a wish for it tells why.
+fn ungiven(
+    alloc: Global,
+    game: &Game,
+    reached: &[bool],
+    named: GoodId,
+) -> Result<Option<GoodId>, NoMemory>
     requires { IsSound game.now }
 {
-    if (place as usize) < game.techs.len() {
-        Ok(game.units_good(TechId(place)))
-    } else {
-        Err(NameFault::Unknown(word, Place::TableGood))
+    if given_variants(alloc, game, reached, named)?.len() > 0 {
+        return Ok(None);
+    }
+    let variants = all_variants(alloc, game, named)?;
+    match variants.as_slice() {
+        [first, ..] => Ok(Some(*first)),
+        [] => Ok(None),
     }
 }
 
-/// The good of a table that a word names.
+// The good that was found for a fluid of several temperatures, or for any other good.
+fn fitting<'a>(
+    game: &Game,
+    word: &'a str,
+    named: GoodId,
+    found: Option<GoodId>,
+) -> Result<GoodId, NameFault<'a>>
+    ensures { IfOk result (λ good. is_fit game.now named.0 None None good.0 ≡ true) }
+{
+    match found {
+        Some(good) => {
+            if game.is_fit(named, &None, &None, good) {
+                Ok(good)
+            } else {
+                Err(NameFault::SeveralTemperatures(word, named))
+            }
+        }
+        None => Err(NameFault::SeveralTemperatures(word, named)),
+    }
+}
+
+/// The good of a table that a word names: of a fluid of several temperatures the only variant that something reached gives.
 ///
 /// # Errors
 ///
@@ -101,32 +158,11 @@ pub fn good<'a>(
     word: &'a str,
 ) -> Result<GoodId, NameFault<'a>>
     requires { IsSound game.now }
+    ensures { IfOk result (IsGoodOf game.now word.now) }
 {
-    match object(alloc, game, word, Place::TableGood)? {
-        (Kind::Item, place) => Ok(GoodId(place)),
-        (Kind::Fluid, place) => fluid(alloc, game, reached, word, place),
-        (Kind::Tech, place) => unit(game, word, place),
-        _ => Ok(game.electricity()),
-    }
-}
-
-// The first variant of a fluid to which there is no way at any temperature: a wish for it tells why.
-fn ungiven<'a>(
-    alloc: Global,
-    game: &Game,
-    reached: &[bool],
-    word: &'a str,
-    base: GoodId,
-) -> Result<GoodId, NameFault<'a>>
-    requires { IsSound game.now }
-{
-    if given_variants(alloc, game, reached, base)?.len() > 0 {
-        return Err(NameFault::SeveralTemperatures(word, base));
-    }
-    match all_variants(alloc, game, base)?.as_slice().first() {
-        Some(first) => Ok(*first),
-        None => Err(NameFault::SeveralTemperatures(word, base)),
-    }
+    let named = good_of_word(alloc, game, word)?;
+    let found = way_to(alloc, game, reached, named)?;
+    fitting(game, word, named, found)
 }
 
 /// The good of a table for which a word wishes: of a fluid that nothing gives at any temperature its first variant.
@@ -141,19 +177,21 @@ pub fn wished_good<'a>(
     word: &'a str,
 ) -> Result<GoodId, NameFault<'a>>
     requires { IsSound game.now }
+    ensures { IfOk result (IsGoodOf game.now word.now) }
 {
-    match good(alloc, game, reached, word) {
-        Err(NameFault::SeveralTemperatures(word, base)) => {
-            ungiven(alloc, game, reached, word, base)
-        }
-        found => found,
+    let named = good_of_word(alloc, game, word)?;
+    let mut found = way_to(alloc, game, reached, named)?;
+    if found.is_none() {
+        found = ungiven(alloc, game, reached, named)?;
     }
+    fitting(game, word, named, found)
 }
 
 fn machine<'a>(alloc: Global, game: &Game, word: &'a str) -> Result<EntityId, NameFault<'a>>
     requires { IsSound game.now }
+    ensures { IfOk result (λ id. IsPlaceOf game.now OneMachine word.now id.0) }
 {
-    Ok(EntityId(object(alloc, game, word, Place::OneMachine)?.1))
+    Ok(EntityId(place_named(alloc, game, word, Place::OneMachine)?))
 }
 
 /// The machines that words name.
@@ -167,6 +205,7 @@ pub fn machines<'a>(
     words: &[&'a str],
 ) -> Result<Items<EntityId>, NameFault<'a>>
     requires { IsSound game.now }
+    ensures { IfOk result (λ machines. AllZip (λ word id. IsPlaceOf game.now OneMachine word.now id.0) words.now machines) }
 {
     let mut machines = Vec::new(alloc);
     for word in words {
@@ -177,8 +216,9 @@ pub fn machines<'a>(
 
 fn recipe<'a>(alloc: Global, game: &Game, word: &'a str) -> Result<RecipeId, NameFault<'a>>
     requires { IsSound game.now }
+    ensures { IfOk result (λ id. IsPlaceOf game.now OneRecipe word.now id.0) }
 {
-    Ok(RecipeId(object(alloc, game, word, Place::OneRecipe)?.1))
+    Ok(RecipeId(place_named(alloc, game, word, Place::OneRecipe)?))
 }
 
 /// The recipes that words name.
@@ -192,6 +232,7 @@ pub fn recipes<'a>(
     words: &[&'a str],
 ) -> Result<Items<RecipeId>, NameFault<'a>>
     requires { IsSound game.now }
+    ensures { IfOk result (λ recipes. AllZip (λ word id. IsPlaceOf game.now OneRecipe word.now id.0) words.now recipes) }
 {
     let mut recipes = Vec::new(alloc);
     for word in words {
@@ -207,8 +248,9 @@ pub fn recipes<'a>(
 /// `Unknown`, or `NoMemory`.
 pub fn item<'a>(alloc: Global, game: &Game, word: &'a str) -> Result<GoodId, NameFault<'a>>
     requires { IsSound game.now }
+    ensures { IfOk result (λ id. IsPlaceOf game.now OneItem word.now id.0) }
 {
-    Ok(GoodId(object(alloc, game, word, Place::OneItem)?.1))
+    Ok(GoodId(place_named(alloc, game, word, Place::OneItem)?))
 }
 
 fn is_module(game: &Game, item: GoodId) -> bool {
@@ -225,6 +267,7 @@ fn is_module(game: &Game, item: GoodId) -> bool {
 /// `Unknown`, `NoModule`, or `NoMemory`.
 pub fn module<'a>(alloc: Global, game: &Game, word: &'a str) -> Result<GoodId, NameFault<'a>>
     requires { IsSound game.now }
+    ensures { IfOk result (λ id. IsPlaceOf game.now OneItem word.now id.0) }
 {
     let module = item(alloc, game, word)?;
     if is_module(game, module) {
@@ -245,6 +288,7 @@ pub fn modules<'a>(
     words: &[&'a str],
 ) -> Result<Items<GoodId>, NameFault<'a>>
     requires { IsSound game.now }
+    ensures { IfOk result (λ modules. AllZip (λ word id. IsPlaceOf game.now OneItem word.now id.0) words.now modules) }
 {
     let mut modules = Vec::new(alloc);
     for word in words {
@@ -267,6 +311,7 @@ fn is_beacon(game: &Game, machine: EntityId) -> bool {
 /// `Unknown`, `NoBeacon`, or `NoMemory`.
 pub fn beacon<'a>(alloc: Global, game: &Game, word: &'a str) -> Result<EntityId, NameFault<'a>>
     requires { IsSound game.now }
+    ensures { IfOk result (λ id. IsPlaceOf game.now OneMachine word.now id.0) }
 {
     let beacon = machine(alloc, game, word)?;
     if is_beacon(game, beacon) {

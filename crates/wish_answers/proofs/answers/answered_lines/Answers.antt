@@ -7,6 +7,7 @@ returns-clause-met g c = λ none. record {
   marks = c.in_ok-reached.reached.items;
   reached = c.in_ok-reached.ensures;
   wish = c.in_ok-found.found.wish;
-  powered = c.in_ok-found.ensures;
+  asked_for = c.in_ok-found.ensures.asked;
+  hidden = c.in_ok-found.ensures.hidden;
   has = subst (λ (marks : List Bool). HasMet c.carry_out.new.planner marks c.args.asked.now.table.now c.in_ok-found.found.wish) c.as_slice-2.ensures.value (c.in_ok-check_found.ensures none);
 }

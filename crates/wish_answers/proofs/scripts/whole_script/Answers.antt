@@ -1,4 +1,4 @@
-use Rattle.std.proofs.Common.{◌≡◌, ◌∙◌, ℕ, List, [], ap, length, refl, subst, false, string_bytes}
+use Rattle.std.proofs.Common.{◌∙◌, ℕ, List, [], ap, length, refl, subst, false, string_bytes}
 use Rattle.plan_io.specs.Lines.{lines_of}
 use Rattle.script_runner.specs.Leading.{Continues, joined}
 use Rattle.script_runner.specs.declared.stepping.Progress.{Progress}
