@@ -38,12 +38,12 @@ behind : (m n : ℕ) (b : Bool) → b ≡ false → m ≡ n → ◌≡◌ {A = �
 behind m n true h e = absurd (cc)
 behind m n false h e = ap suc e
 
-record IsAt (goods : List GoodId) (s : ℕ) : Type 0 where
-  good : GoodId
-  has : Has goods good.0
-  spot_is : spot good.0 goods ≡ s
+pub record IsAt (goods : List GoodId) (s : ℕ) : Type 0 where
+  pub good : GoodId
+  pub has : Has goods good.0
+  pub spot_is : spot good.0 goods ≡ s
 
-good_at : (low : ℕ) (goods : List GoodId) (s : ℕ) → GoodsRise low goods → s < length goods → IsAt goods s
+pub good_at : (low : ℕ) (goods : List GoodId) (s : ℕ) → GoodsRise low goods → s < length goods → IsAt goods s
 good_at low [] s rise within = absurd (omega arith)
 good_at low (g ∷ goods) zero rise within = record { good = g; has = inl refl; spot_is = here g.0 (spot g.0 goods) (g.0 == g.0) refl }
 good_at low (g ∷ goods) (suc s) rise within =

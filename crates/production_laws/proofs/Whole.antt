@@ -38,7 +38,7 @@ count_rows g power goods first (row ∷ rows) columns e =
     let same : one.0 ∷ two.0 ≡ columns = cc in
     subst (λ (cs : List (List (GoodId × Fraction))). length (row_columns goods first (row ∷ rows) cs) ≡ length (row ∷ rows)) same (ap suc (count_rows g power goods (first + 1) rows two.0 two.1))
 
-wants_in : (t : Table) (columns : List (List (GoodId × Fraction))) → AllIn (table_goods t columns) t.wants
+pub wants_in : (t : Table) (columns : List (List (GoodId × Fraction))) → AllIn (table_goods t columns) t.wants
 wants_in t columns =
     let a : List GoodId = with_columns [] columns in
     let b : List GoodId = with_goods a t.wants in

@@ -1,6 +1,6 @@
 -- What is said has no newline but its last byte.
 use Rattle.std.proofs.Common.{◌≡◌, ◌∙◌, ◌++◌, ◌/◌, ◌%◌, ◌⊎◌, inl, inr, ◌∷◌, [], ℕ, zero, suc, Bool, true, false, not, List, length, ap, sym, refl, codes, arith, append_assoc}
-use Rattle.std.specs.Prelude.{Option, Some, None, ◌==◌, if◌then◌else◌, decimal}
+use Rattle.std.specs.Prelude.{Option, Some, None, ◌==◌, ◌||◌, if◌then◌else◌, decimal}
 use Rattle.std.specs.List.{flat_map, list_all}
 use Rattle.std.specs.Fmt.{digit_glyph, digits, digits_onto}
 use Rattle.std.proofs.lemmas.List.Folds.{list_all-append}
@@ -10,7 +10,7 @@ use Rattle.std.proofs.lemmas.Bool.{and_parts}
 use Rattle.plan_report.specs.Words.{in_quotes, is_bare, needs_quotes, printed_word, quoted}
 use Rattle.program_runs.specs.Places.{is_newline}
 use Rattle.program_runs.specs.Hints.{IsLine, cert_text, hint_line, hint_of, is_unbroken, long_hint, name_part}
-use Rattle.program_runs.specs.Faults.{fault_text, field_text, field_words, front_text, is_gzip, is_marked, json_text_at, json_words, kind_text, known_place, or_else, part, text_by, words_at}
+use Rattle.program_runs.specs.Faults.{fault_text, field_text, field_words, begins_with, front_text, json_text_at, json_words, kind_text, known_place, or_else, part, text_by, words_at}
 use Rattle.program_runs.specs.Names.{dump_name, script_name}
 use Rattle.program_runs.specs.declared.place.Place.{Place}
 use Rattle.json_text.specs.declared.fault.JsonCode.{JsonCode}
@@ -128,14 +128,18 @@ field_text_unbroken fault =
 kind_text_unbroken : (fault : DumpFault) → is_unbroken (kind_text fault) ≡ true
 kind_text_unbroken fault = either (length fault.section == 0) (codes "no section of Factorio 1.1 found") (field_text fault) refl (field_text_unbroken fault)
 
-chosen : (first second : Bool) (other : List ℕ) → is_unbroken other ≡ true
-    → is_unbroken (or_else (if first then Some (codes "the file is packed by gzip, and has to be unpacked first") else if second then Some (codes "the file begins with a byte order mark") else None) other) ≡ true
-chosen true second other rest = refl
-chosen false true other rest = refl
-chosen false false other rest = rest
+found : (is : Bool) (text : List ℕ) (others : Option (List ℕ)) (other : List ℕ) → is_unbroken text ≡ true → is_unbroken (or_else others other) ≡ true → is_unbroken (or_else (if is then Some text else others) other) ≡ true
+found true text others other one rest = one
+found false text others other one rest = rest
 
 front_unbroken : (dump : Option (List ℕ)) (other : List ℕ) → is_unbroken other ≡ true → is_unbroken (or_else (front_text dump) other) ≡ true
-front_unbroken (Some bytes) other rest = chosen (is_gzip bytes) (is_marked bytes) other rest
+front_unbroken (Some bytes) other rest =
+    found (begins_with bytes (31 ∷ 139 ∷ [])) (codes "the file is packed by gzip, and has to be unpacked first") _ other refl
+    (found (begins_with bytes (80 ∷ 75 ∷ 3 ∷ 4 ∷ [])) (codes "the file is packed by zip, and has to be unpacked first") _ other refl
+    (found (begins_with bytes (253 ∷ 55 ∷ 122 ∷ 88 ∷ 90 ∷ [])) (codes "the file is packed by xz, and has to be unpacked first") _ other refl
+    (found (begins_with bytes (40 ∷ 181 ∷ 47 ∷ 253 ∷ [])) (codes "the file is packed by zstd, and has to be unpacked first") _ other refl
+    (found (begins_with bytes (239 ∷ 187 ∷ 191 ∷ [])) (codes "the file begins with a byte order mark") _ other refl
+    (found (begins_with bytes (255 ∷ 254 ∷ []) || begins_with bytes (254 ∷ 255 ∷ [])) (codes "the file is UTF-16, and has to be UTF-8") None other refl rest)))))
 front_unbroken None other rest = rest
 
 text_by_unbroken : (code : DumpCode) (fault : DumpFault) (dump : Option (List ℕ)) → is_unbroken (text_by code fault dump) ≡ true

@@ -1,6 +1,6 @@
 -- What is said of a dump that is refused: where, and what is wrong there.
-use Rattle.std.specs.Prelude.{ℕ, List, [], ◌++◌, Bool, false, ◌==◌, ◌&&◌, nat_le, if◌then◌else◌, Option, None, Some, codes, decimal, length}
-use Rattle.std.specs.List.{slice_get}
+use Rattle.std.specs.Prelude.{ℕ, List, [], ◌∷◌, ◌++◌, Bool, ◌==◌, ◌&&◌, ◌||◌, nat_eq, nat_le, if◌then◌else◌, Option, None, Some, codes, decimal, length}
+use Rattle.std.specs.List.{starts_with}
 use Rattle.json_text.specs.declared.fault.JsonCode.{JsonCode}
 use Rattle.json_text.specs.declared.fault.JsonCode.TheVariants as j
 use Rattle.json_text.specs.declared.fault.JsonFault.{JsonFault}
@@ -35,23 +35,20 @@ json_text_at (Some place) fault =
     codes "line " ++ (decimal place.line ++ (codes ", column " ++ (decimal place.column ++ (codes ": " ++ words_at place fault.code))))
 json_text_at None fault = codes "after " ++ (decimal fault.at ++ (codes " bytes: " ++ json_words fault.code))
 
-abbrev pub is_byte : Option ℕ → ℕ → Bool
-is_byte (Some byte) wanted = byte == wanted
-is_byte None wanted = false
+-- the bytes begin with these
+abbrev pub begins_with : List ℕ → List ℕ → Bool
+begins_with bytes front = starts_with nat_eq bytes front
 
--- RFC 1952: a file packed by gzip begins so
-abbrev pub is_gzip : List ℕ → Bool
-is_gzip bytes = is_byte (slice_get bytes 0) 31 && is_byte (slice_get bytes 1) 139
-
--- the byte order mark in UTF-8
-abbrev pub is_marked : List ℕ → Bool
-is_marked bytes = is_byte (slice_get bytes 0) 239 && is_byte (slice_get bytes 1) 187 && is_byte (slice_get bytes 2) 191
-
--- what the first bytes of a dump tell, that are no JSON
+-- What the first bytes of a dump tell, that are no JSON: those of packed files (RFC 1952, APPNOTE.TXT of zip, the .xz file format, RFC 8878) and the byte order marks of UTF-8 and UTF-16.
 abbrev pub front_text : Option (List ℕ) → Option (List ℕ)
 front_text (Some bytes) =
-    if is_gzip bytes then Some (codes "the file is packed by gzip, and has to be unpacked first")
-    else if is_marked bytes then Some (codes "the file begins with a byte order mark") else None
+    if begins_with bytes (31 ∷ 139 ∷ []) then Some (codes "the file is packed by gzip, and has to be unpacked first")
+    else if begins_with bytes (80 ∷ 75 ∷ 3 ∷ 4 ∷ []) then Some (codes "the file is packed by zip, and has to be unpacked first")
+    else if begins_with bytes (253 ∷ 55 ∷ 122 ∷ 88 ∷ 90 ∷ []) then Some (codes "the file is packed by xz, and has to be unpacked first")
+    else if begins_with bytes (40 ∷ 181 ∷ 47 ∷ 253 ∷ []) then Some (codes "the file is packed by zstd, and has to be unpacked first")
+    else if begins_with bytes (239 ∷ 187 ∷ 191 ∷ []) then Some (codes "the file begins with a byte order mark")
+    else if begins_with bytes (255 ∷ 254 ∷ []) || begins_with bytes (254 ∷ 255 ∷ []) then Some (codes "the file is UTF-16, and has to be UTF-8")
+    else None
 front_text None = None
 
 abbrev pub or_else : Option (List ℕ) → List ℕ → List ℕ

@@ -1,6 +1,6 @@
 // What is said of a dump that is refused.
 ghost use Rattle.std.specs.Prelude.{◌≡◌, IfOk, option_copied, option_map, string_bytes};
-ghost use Rattle.program_runs.specs.Faults.{fault_text, front_text, is_byte, is_gzip, is_marked, field_text, field_words, json_text, json_text_at, json_words, kind_text, known_place, part, words_at};
+ghost use Rattle.program_runs.specs.Faults.{fault_text, begins_with, front_text, field_text, field_words, json_text, json_text_at, json_words, kind_text, known_place, part, words_at};
 
 use crate::place::{Place, place_in};
 use craft_reader::{DumpCode, DumpFault};
@@ -73,25 +73,10 @@ fn placed_text(alloc: Global, fault: JsonFault, place: Option<Place>) -> Result<
     }
 }
 
-fn is_byte(byte: Option<&u8>, wanted: u8) -> bool
-    ensures { result ≡ is_byte (option_copied byte.entry) wanted }
+fn begins_with(bytes: &[u8], front: &[u8]) -> bool
+    ensures { result ≡ begins_with bytes.now front.now }
 {
-    match byte {
-        Some(byte) => *byte == wanted,
-        None => false,
-    }
-}
-
-fn is_gzip(bytes: &[u8]) -> bool
-    ensures { result ≡ is_gzip bytes.now }
-{
-    is_byte(bytes.first(), 0x1f) && is_byte(bytes.get(1), 0x8b)
-}
-
-fn is_marked(bytes: &[u8]) -> bool
-    ensures { result ≡ is_marked bytes.now }
-{
-    is_byte(bytes.first(), 0xef) && is_byte(bytes.get(1), 0xbb) && is_byte(bytes.get(2), 0xbf)
+    bytes.starts_with(front)
 }
 
 // What the first bytes of a dump tell, that are no JSON.
@@ -99,10 +84,18 @@ fn front_text(dump: Option<&[u8]>) -> Option<&'static str>
     ensures { option_map (λ text. text.now) result ≡ front_text (option_copied dump.entry) }
 {
     let bytes = dump?;
-    if is_gzip(bytes) {
+    if begins_with(bytes, &[0x1f, 0x8b]) {
         Some("the file is packed by gzip, and has to be unpacked first")
-    } else if is_marked(bytes) {
+    } else if begins_with(bytes, b"PK\x03\x04") {
+        Some("the file is packed by zip, and has to be unpacked first")
+    } else if begins_with(bytes, b"\xfd7zXZ") {
+        Some("the file is packed by xz, and has to be unpacked first")
+    } else if begins_with(bytes, &[0x28, 0xb5, 0x2f, 0xfd]) {
+        Some("the file is packed by zstd, and has to be unpacked first")
+    } else if begins_with(bytes, &[0xef, 0xbb, 0xbf]) {
         Some("the file begins with a byte order mark")
+    } else if begins_with(bytes, &[0xff, 0xfe]) || begins_with(bytes, &[0xfe, 0xff]) {
+        Some("the file is UTF-16, and has to be UTF-8")
     } else {
         None
     }
